@@ -26,3 +26,11 @@ cell_set cells wide row column v x new in_x in_column within =
     let place = same_from_place v x row column wide in_x in_column in
     let same = get_or-set_same cells (row * wide + column) new 0 within in
     grind (arith, nat_tests, place, same, get_or-set_other cells (row * wide + column) (v * wide + x) new 0)
+
+-- the cells after one is added to one of them
+pub cell_add : (cells : List ℕ) (wide row column v x : ℕ) → x < wide → column < wide → row * wide + column < length cells
+    → get_or (set cells (row * wide + column) (get_or cells (row * wide + column) 0 + 1)) (v * wide + x) 0
+    ≡ get_or cells (v * wide + x) 0 + cond (eqb v row && eqb x column) 1 0
+cell_add cells wide row column v x in_x in_column within =
+    let set_is = cell_set cells wide row column v x (get_or cells (row * wide + column) 0 + 1) in_x in_column within in
+    grind (arith, nat_tests, set_is)

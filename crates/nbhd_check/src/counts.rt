@@ -47,16 +47,20 @@ pub(crate) fn channel_limit(table: &Table) -> u32
     limit
 }
 
-// Adds one to the cell in this row and column. `wide` is the length of a row.
-fn count_in(cells: &mut [u32], wide: usize, row: usize, column: usize)
-    requires column { column < wide }
+// Counts a window with these last two identifiers in a row: in their cells and in the last one.
+// `wide` is the length of a row.
+fn count_window(cells: &mut [u32], wide: usize, row: usize, last: (usize, usize))
+    requires columns { (last.0 + 1 < wide) × (last.1 + 1 < wide) }
     requires within { (row + 1) * wide ≤ length cells.old }
-    requires few { slice_index cells.old (row * wide + column) < 2 ^ 32 - 1 }
-    ensures counted { (v x : ℕ) → x < wide → slice_index cells.new (v * wide + x)
-        ≡ slice_index cells.old (v * wide + x) + (if (v == row) && (x == column) then 1 else 0) }
-    ensures few { (i : ℕ) → slice_index cells.new i ≤ slice_index cells.old i + 1 }
+    requires few { (i : ℕ) → slice_index cells.old i + 3 < 2 ^ 32 }
+    ensures counted { (v x : ℕ) → x < wide → slice_index cells.new (v * wide + x) ≡ slice_index cells.old (v * wide + x)
+        + (if (v == row) && (x == last.0) then 1 else 0) + (if (v == row) && (x == last.1) then 1 else 0) + (if (v == row) && (x == wide - 1) then 1 else 0) }
+    ensures few { (i : ℕ) → slice_index cells.new i ≤ slice_index cells.old i + 3 }
 {
-    cells[row * wide + column] += 1;
+    let start = row * wide;
+    cells[start + last.0] += 1;
+    cells[start + last.1] += 1;
+    cells[start + wide - 1] += 1;
 }
 
 // Adds the row before `row` to it.
@@ -86,9 +90,8 @@ fn count_windows(table: &Table, first: u32, count: u32, window: &mut [u32], cell
     let shared = 2 * (shape.rounds() as usize - 1) + 1;
     for number in first..first + count {
         let row = table.entry(number) as usize + 1;
-        count_in(cells, wide, row, window[shared] as usize);
-        count_in(cells, wide, row, window[shared + 1] as usize);
-        count_in(cells, wide, row, wide - 1);
+        let last = (window[shared] as usize, window[shared + 1] as usize);
+        count_window(cells, wide, row, last);
         shape.next_window(shape.rounds(), window);
     }
 }

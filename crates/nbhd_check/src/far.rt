@@ -1,5 +1,5 @@
 //! Windows that begin a bad tuple, if the channels of places at distance two are judged too.
-ghost use Rattle.std.specs.Prelude.{◌≡◌, IfSome, ◌+◌, ◌*◌, ◌^◌, ◌<◌, ◌≤◌, All, length};
+ghost use Rattle.std.specs.Prelude.{◌≡◌, IfSome, ◌+◌, ◌*◌, ◌^◌, ◌<◌, ◌≤◌, length};
 ghost use Rattle.channel_tables.specs.Tables.{windows_of};
 ghost use Rattle.nbhd_check.specs.Runs.{AreFree, BeginsBadTuple};
 ghost use Rattle.nbhd_check.specs.FarSearch.{IsFarSearch};
@@ -8,7 +8,6 @@ use crate::counts::channel_limit;
 use crate::far_counts::FarCounts;
 use crate::far_masks::FarMasks;
 use crate::masks::{group_masks, windows_per_family};
-use crate::scan::TupleScan;
 use crate::search::{free_windows, window_count, windows_per_run};
 use crate::tuples::{Tuples, judge_part};
 use channel_tables::Table;
@@ -35,10 +34,9 @@ pub(crate) fn far_free_windows<R: Threads + Sync>(
     requires { IsFarSearch tuples.table.now tuples.separation most }
     ensures { AreFree tuples.entry.table.now (BeginsBadTuple tuples.entry.table.now tuples.entry.separation) 0 result }
 {
-    let scan = TupleScan { tuples };
     if is_long_search(tuples.table, most) {
         let few = windows_before_masks(tuples.table).min(most);
-        let first = free_windows(rt, &scan, few, 1);
+        let first = free_windows(rt, &tuples, few, 1);
         if first < few {
             return first;
         }
@@ -52,7 +50,7 @@ pub(crate) fn far_free_windows<R: Threads + Sync>(
             }
         }
     }
-    free_windows(rt, &scan, most, threads)
+    free_windows(rt, &tuples, most, threads)
 }
 
 // Returns the number of windows that are searched before masks are made: those of as many runs as
@@ -103,7 +101,7 @@ fn counts_if_worth(tuples: Tuples) -> Option<FarCounts>
 {
     let Tuples { table, separation } = tuples;
     let distance = separation.far;
-    let limit = limit_of_rows(table);
+    let limit = channel_limit(table);
     let family = windows_per_family(table) as u64;
     if 8 * family * family <= 4 * family + cells_of_rows(table, limit) {
         return None;
@@ -131,20 +129,6 @@ fn is_long_search(table: &Table, most: u32) -> bool
 {
     let family = windows_per_family(table) as u64;
     4 * u64::from(most) * family > u64::from(window_count(table))
-}
-
-// Returns a number above all channels. That of the declared channels serves if so many rows of counts
-// take less time than a look at all entries.
-fn limit_of_rows(table: &Table) -> u32
-    requires some { 1 ≤ table.now.rounds }
-    ensures limit { All (λ channel. channel < result) table.now.entries }
-    ensures few { result < 2 ^ 17 }
-{
-    let channels = table.channels();
-    if cells_of_rows(table, channels) > 2 * windows_per_family(table) as u64 {
-        return channel_limit(table);
-    }
-    channels
 }
 
 // Returns the number of cells of this many rows of counts.

@@ -11,19 +11,9 @@ pub(crate) fn has_close_outside(list: &[u16], gap: usize, distance: u32, channel
     has_close(&list[..gap], distance, channel) || has_close(&list[gap + 1..], distance, channel)
 }
 
-// Returns whether the list has a channel that differs from `channel` by less than `distance`. At
-// distance 1 that is `channel` itself.
+// Returns whether the list has a channel that differs from `channel` by less than `distance`.
+// Compares with all channels of the list, many at a time.
 fn has_close(list: &[u16], distance: u32, channel: u16) -> bool
-    ensures { IsTrue result ↔ HasClose list.now distance channel }
-{
-    if distance == 1 {
-        return list.contains(&channel);
-    }
-    has_closer(list, distance, channel)
-}
-
-// Does the same as `has_close`. Compares with all channels of the list, many at a time.
-fn has_closer(list: &[u16], distance: u32, channel: u16) -> bool
     ensures { IsTrue result ↔ HasClose list.now distance channel }
 {
     let mut found = false;

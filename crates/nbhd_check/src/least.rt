@@ -6,7 +6,6 @@ ghost use Rattle.nbhd_check.specs.Searches.{IsLeastOfAll};
 
 use crate::far::far_free_windows;
 use crate::near::near_free_windows;
-use crate::scan::TupleScan;
 use crate::search::{free_windows, window_count};
 use crate::tuples::{Tuples, judge_part, tuple_count};
 use channel_tables::Separation;
@@ -55,5 +54,5 @@ fn single_windows<R: Threads + Sync>(rt: &R, tuples: Tuples, threads: u32) -> u3
     let near = separation.near.max(separation.far);
     let separation = Separation { near, far: 0 };
     let tuples = Tuples { table, separation };
-    free_windows(rt, &TupleScan { tuples }, window_count(table), threads)
+    free_windows(rt, &tuples, window_count(table), threads)
 }

@@ -7,24 +7,18 @@ use crate::search::{Search, windows_per_run};
 use crate::tuples::{Tuples, judge_part};
 use channel_tables::Table;
 
-/// The search for windows that begin a bad tuple.
-#[derive(Clone, Copy)]
-pub(crate) struct TupleScan<'a> {
-    pub(crate) tuples: Tuples<'a>,
-}
+impl<'a> Search for Tuples<'a> {
+    ghost searched = { λ s. s.table.now };
 
-impl<'a> Search for TupleScan<'a> {
-    ghost searched = { λ s. s.tuples.table.now };
-
-    ghost Bad = { λ s. BeginsBadTuple s.tuples.table.now s.tuples.separation };
+    ghost Bad = { λ s. BeginsBadTuple s.table.now s.separation };
 
     fn table(&self) -> &Table {
-        self.tuples.table
+        self.table
     }
 
     fn first_in_run(&self, window: &[u32], run: u32) -> Option<u32> {
-        let Tuples { table, separation } = self.tuples;
-        let each = self.tuples.per_window();
+        let Tuples { table, separation } = *self;
+        let each = self.per_window();
         let windows = windows_per_run(table) as u64;
         let low = u64::from(run) * windows * each;
         let number = judge_part(table, separation, low, low + windows * each)?;

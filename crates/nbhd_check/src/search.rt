@@ -95,8 +95,9 @@ fn scan_runs<S: Search>(
     let shape = table.shape();
     let each = windows_per_run(table) as u32;
     for run in low..high {
-        if best.load(Ordering::SeqCst) <= run * each {
-            return run * each;
+        let first = run * each;
+        if best.load(Ordering::SeqCst) <= first {
+            return first;
         }
         if let Some(number) = search.first_in_run(window, run) {
             best.fetch_min(number, Ordering::SeqCst);

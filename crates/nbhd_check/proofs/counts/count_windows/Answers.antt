@@ -22,59 +22,36 @@ loop-number-preserved c =
           let in_wide : x < c.ids.result + 1 = omega arith in
           let last : t.ids + 1 - 1 ≡ t.ids = omega arith in
           let old = c.loop-number.invariant.2 v x lt (omega (arith, within)) in
-          let first = rw (ids_is, place_is) at (c.count_in.ensures.counted v x in_wide) in
-          let second = rw (ids_is, place_is) at (c.count_in-in-loop-number.ensures.counted v x in_wide) in
-          let third = rw (ids_is, last) at (c.count_in-in-loop-number-2.ensures.counted v x in_wide) in
+          let three = rw (ids_is, place_is, last) at (c.count_window.ensures.counted v x in_wide) in
           let counted = rw (here, ← c.entry.ensures.value) at (window_counted t c.args.first n x v c.loop-number.window c.requires.within.0 (ap (slice_get (windows_of t)) here ∙ item)) in
-          rw more (omega (arith, old, first, second, third, counted)),
-      λ i. omega (arith, c.loop-number.invariant.3 i, c.count_in.ensures.few i, c.count_in-in-loop-number.ensures.few i, c.count_in-in-loop-number-2.ensures.few i),
+          rw more (omega (arith, old, three, counted)),
+      λ i. omega (arith, c.loop-number.invariant.3 i, c.count_window.ensures.few i),
     )
 
-pub count_in-requires-clause-column : goal.count_in-requires-clause-column
-count_in-requires-clause-column c =
+pub count_window-requires-clause-columns : goal.count_window-requires-clause-columns
+count_window-requires-clause-columns c =
     let own = c.loop-number.invariant.1 in
     let size = own.size in
-    omega (
-      arith,
-      own.below (2 * (c.rounds.result - 1) + 1) 0
-          (omega (arith, size, c.rounds.ensures, c.shape-shape.ensures.rounds, c.requires.within.0)),
-      c.ids.ensures,
-      c.shape-shape.ensures.ids,
+    let ids_is = c.ids.ensures ∙ c.shape-shape.ensures.ids in
+    let rounds_is = c.rounds.ensures ∙ c.shape-shape.ensures.rounds in
+    let some = c.requires.within.0 in
+    let first : ℕ = 2 * (c.rounds.result - 1) + 1 in (
+      omega (arith, own.below first 0 (omega (arith, size, rounds_is, some)), ids_is),
+      omega (arith, own.below (first + 1) 0 (omega (arith, size, rounds_is, some)), ids_is),
     )
 
-pub count_in-requires-clause-few : goal.count_in-requires-clause-few
-count_in-requires-clause-few c =
+pub count_window-requires-clause-few : goal.count_window-requires-clause-few
+count_window-requires-clause-few c = λ i.
     let few = c.shape-shape.ensures.table.begun.shape.few_windows in
-    omega (
-      arith,
-      few,
-      c.requires.within.1,
-      c.loop-number-test.true,
-      c.loop-number.invariant.3 ((c.entry.result + 1) * (c.ids.result + 1) + get_or c.loop-number.window
-          (2 * (c.rounds.result - 1) + 1) 0),
-    )
+    omega (arith, few, c.requires.within.1, c.loop-number-test.true, c.loop-number.invariant.3 i)
 
-pub count_in-requires-clause-within : goal.count_in-requires-clause-within
-count_in-requires-clause-within c =
+pub count_window-requires-clause-within : goal.count_window-requires-clause-within
+count_window-requires-clause-within c =
     let table = c.shape-shape.ensures.table in
     let row = c.requires.rows c.loop-number.number 0
     (omega (arith, table.size, c.requires.within.1, c.loop-number-test.true)) in
     let two : c.entry.result + 1 + 1 ≡ c.entry.result + 2 = omega arith in
     rw (two, c.entry.ensures.value, c.ids.ensures, c.shape-shape.ensures.ids, c.loop-number.auto.cells) row
-
-pub count_in-requires-in-loop-number-clause-few : goal.count_in-requires-in-loop-number-clause-few
-count_in-requires-in-loop-number-clause-few c =
-    let few = c.shape-shape.ensures.table.begun.shape.few_windows in
-    let cell : ℕ = (c.entry.result + 1) * (c.ids.result + 1) + get_or c.loop-number.window
-    (2 * (c.rounds.result - 1) + 1 + 1) 0 in
-    omega (
-      arith,
-      few,
-      c.requires.within.1,
-      c.loop-number-test.true,
-      c.count_in.ensures.few cell,
-      c.loop-number.invariant.3 cell,
-    )
 
 pub loop-number-init : goal.loop-number-init
 loop-number-init c =

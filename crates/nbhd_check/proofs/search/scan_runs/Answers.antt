@@ -38,8 +38,8 @@ loop-run-preserved g c =
           (cases_lt number (run * wide t)),
     )
 
-pub overflow_mul-run : goal.overflow_mul-run
-overflow_mul-run g c =
+pub overflow_mul-first : goal.overflow_mul-first
+overflow_mul-first g c =
     let table_is = c.table-table.ensures in
     let within = subst (λ t. c.args.high * wide t ≤ length (windows_of t)) (sym table_is) c.requires.within in
     omega (
@@ -48,18 +48,8 @@ overflow_mul-run g c =
           c.windows_per_run-each.ensures.table c.windows_per_run-each.ensures.value c.loop-run-test.true within,
     )
 
-pub overflow_mul-result : goal.overflow_mul-result
-overflow_mul-result g c =
-    let table_is = c.table-table.ensures in
-    let within = subst (λ t. c.args.high * wide t ≤ length (windows_of t)) (sym table_is) c.requires.within in
-    omega (
-      arith,
-      run_few c.table-table.result.now c.loop-run.run c.args.high c.windows_per_run-each.result
-          c.windows_per_run-each.ensures.table c.windows_per_run-each.ensures.value c.loop-run-test.true within,
-    )
-
-pub returns-then-load-run : goal.returns-then-load-run
-returns-then-load-run g c = λ number window low below item.
+pub returns-then-load-first : goal.returns-then-load-first
+returns-then-load-first g c = λ number window low below item.
     let each_is = c.windows_per_run-each.ensures.value ∙ ap wide c.table-table.ensures in
     let same = ap (λ n. c.loop-run.run * n) each_is in
     c.loop-run.invariant.1 number window low (omega (arith, below, same)) item

@@ -6,15 +6,15 @@ use Rattle.nbhd_check.proofs.Parts.{quotient_below}
 use Rattle.nbhd_check.proofs.RunLengths.{all_runs}
 use Rattle.nbhd_check.proofs.Runs.{free_of_none}
 use Rattle.nbhd_check.proofs.RunSteps.{run_end}
-use Rattle.nbhd_check.proofs.scan.TupleScanSearch.first_in_run.Goals.{After-from}
-use Rattle.nbhd_check.proofs.scan.TupleScanSearch.first_in_run.Goals as goal
+use Rattle.nbhd_check.proofs.scan.TuplesSearch.first_in_run.Goals.{After-from}
+use Rattle.nbhd_check.proofs.scan.TuplesSearch.first_in_run.Goals as goal
 
 -- the tuples of the run have small numbers
 tuples_few : (c : After-from)
     → c.from.result * c.windows_per_run-windows.result * c.per_window-each.result + c.windows_per_run-windows.result
     * c.per_window-each.result ≤ 2 ^ 42
 tuples_few c =
-    let t = c.args.self.now.tuples.table.now in
+    let t = c.args.self.now.table.now in
     let each : ℕ = c.per_window-each.result in
     let within = run_end t c.args.run c.args.window.now c.requires in
     let few : (c.args.run * wide t + wide t) * each ≤ 2 ^ 42 =
@@ -26,8 +26,8 @@ tuples_few c =
 
 pub judge_part-requires-clause-within : goal.judge_part-requires-clause-within
 judge_part-requires-clause-within c =
-    let t = c.args.self.now.tuples.table.now in
-    let s = c.args.self.now.tuples.separation in
+    let t = c.args.self.now.table.now in
+    let s = c.args.self.now.separation in
     let within = run_end t c.args.run c.args.window.now c.requires in
     rw (c.from.ensures, c.windows_per_run-windows.ensures.value, c.per_window-each.ensures.value)
     (omega (
@@ -40,15 +40,15 @@ judge_part-requires-clause-within c =
 
 pub returns-in_err-number : goal.returns-in_err-number
 returns-in_err-number c =
-    let t = c.args.self.now.tuples.table.now in
-    let s = c.args.self.now.tuples.separation in
+    let t = c.args.self.now.table.now in
+    let s = c.args.self.now.separation in
     let first : ℕ = c.args.run * wide t in
     let none = rw (c.from.ensures, c.windows_per_run-windows.ensures.value, c.per_window-each.ensures.value) at c.in_err-number.ensures in
     rw c.from_residual.ensures (free_of_none t s first (first + wide t) _ none (omega (arith, add-mul first (wide t) (run_len t s))))
 
 pub overflow_cast-result : goal.overflow_cast-result
 overflow_cast-result c =
-    let t = c.args.self.now.tuples.table.now in
+    let t = c.args.self.now.table.now in
     let first : ℕ = c.args.run * wide t in
     let each : ℕ = c.per_window-each.result in
     let within = run_end t c.args.run c.args.window.now c.requires in
@@ -58,8 +58,8 @@ overflow_cast-result c =
 
 pub returns : goal.returns
 returns c =
-    let t = c.args.self.now.tuples.table.now in
-    let s = c.args.self.now.tuples.separation in
+    let t = c.args.self.now.table.now in
+    let s = c.args.self.now.separation in
     let n : ℕ = c.in_ok-number.number in
     let none = rw (c.from.ensures, c.windows_per_run-windows.ensures.value, c.per_window-each.ensures.value) at c.in_ok-number.ensures.1.1.least in
     free_of_none t s (c.args.run * wide t) (n / c.per_window-each.result) n none

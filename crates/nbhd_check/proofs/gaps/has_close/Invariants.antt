@@ -1,6 +1,6 @@
 use Rattle.std.proofs.Common.{◌<◌, ◌↔◌, ℕ, IsTrue, get_or}
 use Rattle.std.specs.Int.{abs_diff}
-use Rattle.nbhd_check.proofs.gaps.has_closer.Given as goal
+use Rattle.nbhd_check.proofs.gaps.has_close.Given as goal
 
 -- whether one of the channels so far is close
 abbrev pub invariant-loop-other : goal.invariant-loop-other

@@ -1,5 +1,5 @@
 use Rattle.std.proofs.Common.{arith}
-use Rattle.nbhd_check.proofs.gaps.has_closer.Goals as goal
+use Rattle.nbhd_check.proofs.gaps.has_close.Goals as goal
 
 pub returns : goal.returns
 returns c = (
