@@ -76,30 +76,38 @@ impl<'a> FarCounts<'a> {
         let Ok(mut counts) = Counts::new(alloc, self.table, self.limit) else {
             return 0;
         };
+        let mut least = best.load(Ordering::SeqCst);
+        for number in low..high {
+            least = self.free_in_family(number, &mut counts, least.min(best.load(Ordering::SeqCst)));
+            best.fetch_min(least, Ordering::SeqCst);
+        }
+        least
+    }
+
+    // Returns a number of windows, at most `least`, such that none of the windows below it with this
+    // family begins such a tuple.
+    fn free_in_family(self, number: u32, counts: &mut Counts, least: u32) -> u32
+        requires fit { CountsFit self.table.now counts.old }
+        requires number { number < length (shared_lists self.table.now) }
+        ensures fit { CountsFit self.entry.table.now counts.new }
+        ensures less { result ≤ least }
+        ensures free { AreFarFreeIn self.entry.table.now self.entry.distance result (HasFamilyIn self.entry.table.now number (number + 1)) }
+    {
         let shape = self.table.shape();
         let below = shape.rounds() - 1;
         let mut cells = [0; MAX_WINDOW_LEN];
         let shared = &mut cells[..2 * below as usize + 1];
-        let each = windows_per_pair(self.table);
-        let mut least = best.load(Ordering::SeqCst);
-        for number in low..high {
-            if least == 0 {
-                return 0;
-            }
-            shape.window(below, number, shared);
-            count_family(self.table, shared, &mut counts);
-            let family = Family {
-                table: self.table,
-                distance: self.distance,
-                shared,
-                number,
-                counts: &counts,
-                each,
-            };
-            least = family.free(least.min(best.load(Ordering::SeqCst)));
-            best.fetch_min(least, Ordering::SeqCst);
-        }
-        least
+        shape.window(below, number, shared);
+        count_family(self.table, shared, counts);
+        let family = Family {
+            table: self.table,
+            distance: self.distance,
+            shared,
+            number,
+            counts,
+            each: windows_per_pair(self.table),
+        };
+        family.free(least)
     }
 }
 
