@@ -63,19 +63,6 @@ fn count_window(cells: &mut [u32], wide: usize, row: usize, last: (usize, usize)
     cells[start + wide - 1] += 1;
 }
 
-// Adds the row before `row` to it.
-fn add_row_before(cells: &mut [u32], wide: usize, row: usize)
-    requires row { 1 ≤ row }
-    requires within { (row + 1) * wide ≤ length cells.old }
-    requires few { (x : ℕ) → x < wide → slice_index cells.old (row * wide + x) + slice_index cells.old ((row - 1) * wide + x) < 2 ^ 32 }
-    ensures { (v x : ℕ) → x < wide → slice_index cells.new (v * wide + x)
-        ≡ slice_index cells.old (v * wide + x) + (if v == row then slice_index cells.old ((row - 1) * wide + x) else 0) }
-{
-    for x in 0..wide {
-        cells[row * wide + x] += cells[(row - 1) * wide + x];
-    }
-}
-
 // Counts each window of the family in the row after that of its channel. `window` is the family's
 // first window, and is advanced in place.
 fn count_windows(table: &Table, first: u32, count: u32, window: &mut [u32], cells: &mut [u32])
@@ -96,16 +83,16 @@ fn count_windows(table: &Table, first: u32, count: u32, window: &mut [u32], cell
     }
 }
 
-// Turns the rows up to row `limit` into sums with all rows before them.
-fn add_rows(table: &Table, first: u32, count: u32, limit: u32, cells: &mut [u32])
-    requires room { length cells.old ≡ (limit + 1) * (table.now.ids + 1) }
+// Turns each row into its sum with all rows before it.
+fn add_rows(table: &Table, first: u32, count: u32, cells: &mut [u32])
+    requires rows { (last : ℕ) × (length cells.old ≡ (last + 1) * (table.now.ids + 1)) }
     requires few { count < 2 ^ 31 }
     requires counted { AreCells (λ v x. held_count table.now first count x (λ channel. v == channel + 1)) (table.now.ids + 1) cells.old }
     ensures { AreSums table.now first count cells.new }
 {
     let wide = table.shape().ids() as usize + 1;
-    for row in 1..limit as usize + 1 {
-        add_row_before(cells, wide, row);
+    for at in wide..cells.len() {
+        cells[at] += cells[at - wide];
     }
 }
 
@@ -127,7 +114,7 @@ pub(crate) fn count_family(table: &Table, shared: &[u32], counts: &mut Counts)
     let cells: &mut [u32] = &mut counts.cells;
     cells.fill(0);
     count_windows(table, first, count, window, cells);
-    add_rows(table, first, count, counts.limit, cells);
+    add_rows(table, first, count, cells);
 }
 
 /// Returns the number of windows of the family that hold `x` and have a channel that differs from

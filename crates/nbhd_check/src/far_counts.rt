@@ -78,7 +78,11 @@ impl<'a> FarCounts<'a> {
         };
         let mut least = best.load(Ordering::SeqCst);
         for number in low..high {
-            least = self.free_in_family(number, &mut counts, least.min(best.load(Ordering::SeqCst)));
+            least = self.free_in_family(
+                number,
+                &mut counts,
+                least.min(best.load(Ordering::SeqCst)),
+            );
             best.fetch_min(least, Ordering::SeqCst);
         }
         least

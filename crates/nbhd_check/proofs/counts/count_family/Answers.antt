@@ -64,6 +64,10 @@ returns-clause-fit c =
       limit = c.requires.fit.limit;
     }
 
+pub add_rows-requires-clause-rows : goal.add_rows-requires-clause-rows
+add_rows-requires-clause-rows c =
+    (c.args.counts.now.limit, c.count_windows.auto.cells ∙ c.fill.ensures.len ∙ ap length c.deref_mut-cells.ensures.value ∙ c.requires.fit.room)
+
 pub add_rows-requires-clause-few : goal.add_rows-requires-clause-few
 add_rows-requires-clause-few c =
     omega (
