@@ -3,7 +3,7 @@ use Rattle.std.specs.Prelude.{ℕ, min, length}
 use Rattle.lang_check.specs.Plans.{ProgramForIds}
 use Rattle.channel_tables.specs.Tables.{ChannelTable}
 use Rattle.channel_tables.specs.declared.separation.Separation.{Separation}
-use Rattle.nbhd_check.specs.Apart.{tuples}
+use Rattle.bad_tuples.specs.Apart.{tuples}
 use Rattle.table_entries.specs.ProgramTables.{table_of}
 use Rattle.first_tuples.specs.declared.first_tuples.TheConstants.{FIRST_TUPLES}
 

@@ -1,7 +1,7 @@
 //! The tuples of a program's table, whose channels are computed window by window.
+use bad_tuples::{least_bad_is_witness, one_witness};
 use channel_tables::Separation;
 use lang_check::Plan;
-use nbhd_check::{least_bad_is_witness, one_witness};
 use node_program::{MAX_REGISTERS, OutOfMemory};
 use round_eval::{channel, width_of};
 use std::alloc::Global;
@@ -27,8 +27,8 @@ ghost use Rattle.std.specs.Prelude.{◌≡◌, ℕ, ◌+◌, ◌*◌, ◌<◌, �
 ghost use Rattle.win_index.specs.Arcs.{part_at};
 ghost use Rattle.win_index.specs.Windows.{IsWindow};
 ghost use Rattle.channel_tables.specs.Tables.{channel_of};
-ghost use Rattle.nbhd_check.specs.Apart.{extra, tuples, AreClose, IsBad, IsApartEverywhere, NoneIsBad, IsLeastBad};
-ghost use Rattle.nbhd_check.specs.Verdicts.{IsWitness};
+ghost use Rattle.bad_tuples.specs.Apart.{extra, tuples, AreClose, IsBad, IsApartEverywhere, NoneIsBad, IsLeastBad};
+ghost use Rattle.bad_tuples.specs.Witnesses.{IsWitness};
 ghost use Rattle.first_tuples.specs.FirstTuples.{plan_table, first_count};
 
 /// Judges the first `FIRST_TUPLES` tuples of the table of a plan's program, in order, by rounds on
@@ -107,7 +107,7 @@ impl<'a> Tuples<'a> {
 
     // Returns the distance of the two places at which a tuple breaks the separation: 1 if neighbours
     // are too close, else 2; or `None` if it keeps the separation.
-    #[tactic(auto, unfolding(table_entries::specs::ProgramTables::table_of, nbhd_check::specs::Apart::IsBad))]
+    #[tactic(auto, unfolding(table_entries::specs::ProgramTables::table_of, bad_tuples::specs::Apart::IsBad))]
     fn broken_step(self, tuple: &[u32]) -> Option<u32>
         requires { IsWindow (2 * length self.plan.now.program.steps + 1 + extra self.separation) self.plan.now.ids tuple.now }
         ensures none { IfNone result (¬ IsBad (plan_table self.entry.plan.now) self.entry.separation tuple.now) }

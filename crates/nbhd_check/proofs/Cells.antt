@@ -8,10 +8,6 @@ use Rattle.std.proofs.lemmas.Nat.{same_from_place}
 pub row_more : (row wide : ℕ) → (row + 1) * wide ≡ row * wide + wide
 row_more row wide = add-mul row 1 wide ∙ ap (λ n. row * wide + n) (one-mul wide)
 
--- a product of small numbers is small
-pub product_few : (a b x y most : ℕ) → a ≤ x → b ≤ y → x * y ≤ most → a * b ≤ most
-product_few a b x y most le_a le_b le = omega (arith, mul-le-mul {n₁ = a} {m₁ = b} {n₂ = x} {m₂ = y} le_a le_b)
-
 -- a row is within the cells
 pub rows_within : (row most w ids len : ℕ) → row ≤ most → w ≡ ids → len ≡ (most + 1) * (ids + 1) → (row + 1) * (w + 1) ≤ len
 rows_within row most w ids len le w_is len_is =

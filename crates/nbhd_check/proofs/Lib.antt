@@ -1,12 +1,9 @@
 pub mod Cells
-pub mod Close
 pub mod Ends
-pub mod Prefixes
 pub mod HeldCounts
 pub mod Included
 pub mod LeastOfParts
 pub mod Suffixes
-pub mod RunLengths
 pub mod FarCounts
 pub mod FarFree
 pub mod Parts
@@ -15,4 +12,3 @@ pub mod Runs
 pub mod RunSteps
 pub mod SecondRuns
 pub mod ThirdFamilies
-pub mod Witnesses

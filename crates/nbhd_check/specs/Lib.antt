@@ -1,12 +1,8 @@
--- The definitions that the contracts cite: separations, proper tables, runs of tuples, masks of channels, searches for
--- bad tuples, the judge's verdict, and the laws.
-pub mod Apart
-pub mod Proper
+-- The definitions that the contracts cite: runs of windows, masks of channels, pairs and counts, the search at distance
+-- two, and the judge's verdict.
 pub mod Runs
 pub mod Masks
 pub mod Pairs
 pub mod Counts
 pub mod FarSearch
-pub mod Searches
 pub mod Verdicts
-pub mod Laws

@@ -6,12 +6,8 @@ use Rattle.win_index.specs.Falling.{falling}
 use Rattle.win_index.specs.Windows.{unused, windows, IsWindow}
 use Rattle.channel_tables.specs.Tables.{ChannelTable, channel_of, windows_of}
 use Rattle.channel_tables.specs.declared.separation.Separation.{Separation}
-use Rattle.nbhd_check.specs.Apart.{extra, AreClose, IsBad}
+use Rattle.bad_tuples.specs.Apart.{extra, AreClose, IsBad}
 use Rattle.nbhd_check.specs.declared.near.SecondRuns.{SecondRuns}
-
--- the number of tuples that begin with one window
-abbrev pub run_len : ChannelTable → Separation → ℕ
-run_len t s = falling (t.ids - (2 * t.rounds + 1)) (extra s)
 
 -- a tuple that begins with the window is bad
 abbrev pub BeginsBadTuple : ChannelTable → Separation → List ℕ → Type 0

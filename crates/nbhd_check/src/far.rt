@@ -9,7 +9,7 @@ use crate::far_counts::FarCounts;
 use crate::far_masks::FarMasks;
 use crate::masks::{group_masks, windows_per_family};
 use crate::search::{free_windows, window_count, windows_per_run};
-use crate::tuples::{Tuples, judge_part};
+use bad_tuples::{Tuples, judge_part};
 use channel_tables::Table;
 use std::alloc::Global;
 use std::thread::Threads;

@@ -2,7 +2,7 @@
 //! a list `z` of `2t-1` identifiers, the third windows of the tuples that begin with `(a, b, z)` are
 //! the windows that begin with `z` and hold neither `a` nor `b`. From one `b` to the next one the
 //! numbers of `(a, b, z)`, `(z, a, b)` and `(z, b, a)` rise by constants, if both are free.
-ghost use Rattle.std.specs.Prelude.{◌≡◌, ◌≢◌, ℕ, ◌+◌, ◌-◌, ◌*◌, ◌^◌, ◌<◌, ◌≤◌, [], ◌∷◌, ◌++◌, All, Contains, IfSome, List, MatchOption, Some, length, drop, slice_get, slice_index};
+ghost use Rattle.std.specs.Prelude.{◌≡◌, ◌≢◌, ℕ, ◌+◌, ◌-◌, ◌*◌, ◌^◌, ◌<◌, ◌≤◌, ◌↔◌, [], ◌∷◌, ◌++◌, All, Contains, IfSome, IsTrue, List, MatchOption, Some, length, drop, slice_get, slice_index};
 ghost use Rattle.std.specs.Bool.{OnFalse};
 ghost use Rattle.std.specs.Int.{abs_diff};
 ghost use Rattle.win_index.specs.Falling.{falling};
@@ -15,7 +15,6 @@ ghost use Rattle.nbhd_check.specs.Runs.{AreFree, BeginsFarTuple};
 use crate::counts::{Counts, close_count, count_family};
 use crate::parallel::{least_of_parts, part_count};
 use crate::search::window_count;
-use crate::tuples::contains;
 use channel_tables::Table;
 use std::alloc::Global;
 use std::sync::atomic::{AtomicU32, Ordering};
@@ -335,4 +334,11 @@ fn write_before(out: &mut [u32], first: u32, second: u32, others: &[u32])
     out[0] = first;
     out[1] = second;
     out[2..].copy_from_slice(others);
+}
+
+// Returns whether the list contains the identifier.
+fn contains(list: &[u32], id: u32) -> bool
+    ensures { IsTrue result ↔ Contains list.now id }
+{
+    list.contains(&id)
 }

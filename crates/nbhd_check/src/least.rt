@@ -2,12 +2,12 @@
 ghost use Rattle.std.specs.Prelude.{◌≡◌, ℕ, ◌+◌, ◌*◌, ◌≤◌, length};
 ghost use Rattle.channel_tables.specs.Tables.{windows_of, IsTable};
 ghost use Rattle.nbhd_check.specs.Runs.{AreFree, BeginsBadTuple};
-ghost use Rattle.nbhd_check.specs.Searches.{IsLeastOfAll};
+ghost use Rattle.bad_tuples.specs.Searches.{IsLeastOfAll};
 
 use crate::far::far_free_windows;
 use crate::near::near_free_windows;
 use crate::search::{free_windows, window_count};
-use crate::tuples::{Tuples, judge_part, tuple_count};
+use bad_tuples::{Tuples, judge_part, tuple_count};
 use channel_tables::Separation;
 use std::alloc::Global;
 use std::thread::Threads;

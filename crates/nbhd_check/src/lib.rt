@@ -13,13 +13,9 @@ mod near;
 mod parallel;
 mod scan;
 mod search;
-mod tuples;
 mod verdict;
 
+pub use bad_tuples::{judge_part, tuple_count, tuple_len, write_tuple};
 pub use channel_tables::Separation;
-pub use laws::{
-    least_bad_is_witness, less_is_apart, one_apart_differs, one_witness, pairs_that_avoid_two,
-    tuples_suffice,
-};
-pub use tuples::{judge_part, tuple_count, tuple_len, write_tuple};
+pub use laws::pairs_that_avoid_two;
 pub use verdict::{Verdict, judge, judge_with_workers};

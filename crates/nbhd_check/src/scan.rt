@@ -4,7 +4,7 @@ ghost use Rattle.channel_tables.specs.Tables.{windows_of};
 ghost use Rattle.nbhd_check.specs.Runs.{AreFreeUntil, BeginsBadTuple, wide};
 
 use crate::search::{Search, windows_per_run};
-use crate::tuples::{Tuples, judge_part};
+use bad_tuples::{Tuples, judge_part};
 use channel_tables::Table;
 
 impl<'a> Search for Tuples<'a> {

@@ -1,6 +1,6 @@
 //! The judge's calls, and its verdict.
 use crate::least::least_of_all;
-use crate::tuples::{Tuples, tuple_len, write_tuple};
+use bad_tuples::{Tuples, tuple_len, write_tuple};
 use channel_tables::{Separation, Table};
 use node_program::OutOfMemory;
 use rayon::current_num_threads;
@@ -24,11 +24,8 @@ pub enum Verdict {
     },
 }
 
-ghost use Rattle.std.specs.Prelude.{◌≡◌, ℕ, List, ◌+◌, ◌*◌, ◌≤◌, ◌↔◌, ◌⊎◌, Option, IfOk, OnErr};
-ghost use Rattle.win_index.specs.Arcs.{part_at};
-ghost use Rattle.win_index.specs.Windows.{IsWindow};
-ghost use Rattle.channel_tables.specs.Tables.{channel_of};
-ghost use Rattle.nbhd_check.specs.Apart.{extra, AreClose, IsBad, IsApartEverywhere, IsLeastBad};
+ghost use Rattle.std.specs.Prelude.{◌≡◌, ℕ, List, ◌↔◌, IfOk, OnErr};
+ghost use Rattle.bad_tuples.specs.Apart.{IsApartEverywhere, IsLeastBad};
 ghost use Rattle.nbhd_check.specs.Verdicts.{IsVerdict};
 
 /// Judges whether channels are as far apart as the separation requires on every ring of the table's
@@ -76,7 +73,7 @@ pub fn judge_with_workers<R: Threads + Sync>(
 }
 
 // Returns the verdict on a table whose least bad tuple has this number.
-#[tactic(auto, using(crate::proofs::Witnesses::bad_is_not_apart))]
+#[tactic(auto, using(bad_tuples::proofs::Witnesses::bad_is_not_apart))]
 fn no(alloc: Global, tuples: Tuples, number: u64) -> Result<Verdict, OutOfMemory>
     requires { (tuple : List ℕ) × IsLeastBad tuples.table.now tuples.separation 0 number tuple }
     ensures verdict { IfOk result (IsVerdict tuples.entry.table.now tuples.entry.separation) }
@@ -86,7 +83,7 @@ fn no(alloc: Global, tuples: Tuples, number: u64) -> Result<Verdict, OutOfMemory
     let mut cells = [0; MAX_TUPLE_LEN];
     let tuple = &mut cells[..tuple_len(tuples.table, tuples.separation)];
     write_tuple(tuples.table, tuples.separation, number, tuple);
-    let step = broken_step(tuples, tuple);
+    let step = tuples.broken_step(tuple);
     let first = tuples.channel_from(tuple, 0);
     let second = tuples.channel_from(tuple, step as usize);
     let ring = tuple.to_vec(alloc)?;
@@ -96,18 +93,4 @@ fn no(alloc: Global, tuples: Tuples, number: u64) -> Result<Verdict, OutOfMemory
         places: (place, place + step),
         channels: (first, second),
     })
-}
-
-// Returns the distance of the two places at which a bad tuple is too close: 1 if neighbours are,
-// else 2.
-#[tactic(auto, using(crate::proofs::Close::two_of_far), unfolding(crate::specs::Apart::IsBad))]
-fn broken_step(tuples: Tuples, tuple: &[u32]) -> u32
-    requires tuple { IsWindow (2 * tuples.table.now.rounds + 1 + extra tuples.separation) tuples.table.now.ids tuple.now }
-    requires bad { IsBad tuples.table.now tuples.separation tuple.now }
-    ensures step { let channel_at : ℕ → Option ℕ = λ step. channel_of tuples.entry.table.now (part_at tuples.entry.table.now.rounds step tuple.now) in
-        let close = AreClose tuples.entry.separation.near (channel_at 0) (channel_at 1) in
-        (close × (result ≡ 1)) ⊎ ((¬ close) × (result ≡ 2)) }
-    ensures few { result ≤ extra tuples.entry.separation }
-{
-    if tuples.is_close_next(tuple) { 1 } else { 2 }
 }

@@ -34,8 +34,9 @@ pub use Rattle.win_index.specs.ShapeRange
 pub use Rattle.win_index.specs.ShapeFaults
 pub use Rattle.channel_tables.specs.Tables
 pub use Rattle.table_entries.specs.ProgramTables
-pub use Rattle.nbhd_check.specs.Apart
-pub use Rattle.nbhd_check.specs.Proper
+pub use Rattle.bad_tuples.specs.Apart
+pub use Rattle.bad_tuples.specs.Proper
+pub use Rattle.bad_tuples.specs.Witnesses
 pub use Rattle.nbhd_check.specs.Verdicts
 pub use Rattle.ring_segments.specs.SegmentCounts
 pub use Rattle.reports.specs.Causes

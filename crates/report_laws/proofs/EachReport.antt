@@ -9,7 +9,7 @@ use Rattle.node_lang.specs.Laws.{ReadTextsAreReadable, ReadingStopsAtFirstFault,
 use Rattle.ring_segments.specs.SegmentCounts.{IsSegmentCount}
 use Rattle.channel_tables.specs.Tables.{ChannelTable}
 use Rattle.channel_tables.specs.declared.separation.Separation.{Separation}
-use Rattle.nbhd_check.specs.Apart.{tuples}
+use Rattle.bad_tuples.specs.Apart.{tuples}
 use Rattle.table_entries.specs.ProgramTables.{table_of}
 use Rattle.table_text.specs.TableText.{table_text}
 use Rattle.task_words.specs.declared.task.Task.{Task}

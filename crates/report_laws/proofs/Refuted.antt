@@ -6,8 +6,8 @@ use Rattle.win_index.specs.ShapeRange.{IsShape}
 use Rattle.channel_tables.specs.Tables.{ChannelTable, IsTable}
 use Rattle.channel_tables.specs.declared.separation.Separation.{Separation}
 use Rattle.lang_check.specs.Laws.{AcceptedProgramsHaveNoRefusal}
-use Rattle.nbhd_check.specs.Apart.{extra, IsApartEverywhere}
-use Rattle.nbhd_check.specs.Laws.{ApartTablesHaveNoWitness, LessIsApart}
+use Rattle.bad_tuples.specs.Apart.{extra, IsApartEverywhere}
+use Rattle.bad_tuples.specs.Laws.{ApartTablesHaveNoWitness, LessIsApart}
 use Rattle.node_lang.specs.Laws.{OneReading}
 use Rattle.table_entries.specs.Laws.{ProgramTablesAreTables}
 use Rattle.table_entries.specs.ProgramTables.{table_of}

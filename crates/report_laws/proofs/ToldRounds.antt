@@ -15,7 +15,7 @@ use Rattle.lang_check.specs.Laws.{AcceptedProgramsHaveNoRefusal}
 use Rattle.table_entries.specs.Laws.{TableHasTheChannelsOfRounds}
 use Rattle.table_entries.specs.ProgramTables.{table_of}
 use Rattle.channel_tables.specs.declared.separation.Separation.{Separation}
-use Rattle.nbhd_check.specs.Laws.{ApartTablesHaveNoWitness}
+use Rattle.bad_tuples.specs.Laws.{ApartTablesHaveNoWitness}
 use Rattle.headline.specs.Headline.{ChannelsAreApart}
 use Rattle.headline.specs.Laws.{ProgramTablesAreApart}
 use Rattle.ring_segments.specs.SegmentCounts.{IsSegmentCount}

@@ -12,8 +12,8 @@ use Rattle.table_text.specs.LineForms.{IsSeparation}
 use Rattle.task_words.specs.Counts.{IsNear, IsFar}
 use Rattle.channel_tables.specs.Tables.{IsTable, ChannelTable, channel_of}
 use Rattle.channel_tables.specs.declared.separation.Separation.{Separation}
-use Rattle.nbhd_check.specs.Apart.{extra, IsApartEverywhere}
-use Rattle.nbhd_check.specs.Verdicts.{IsWitness}
+use Rattle.bad_tuples.specs.Apart.{extra, IsApartEverywhere}
+use Rattle.bad_tuples.specs.Witnesses.{IsWitness}
 use Rattle.table_entries.specs.ProgramTables.{table_of}
 use Rattle.numerals.specs.declared.base.Base.{Base}
 use Rattle.numerals.specs.declared.base.Base.TheVariants.{Ten}

@@ -3,9 +3,9 @@
 
 ghost use Rattle.report_laws.specs.Laws as law;
 
+use bad_tuples::{less_is_apart, one_witness, tuples_suffice};
 use headline::program_tables_are_apart;
 use lang_check::one_refusal;
-use nbhd_check::{less_is_apart, one_witness, tuples_suffice};
 use node_lang::{first_fault, one_reading, one_text_fault, printed_is_read_back, reading_is_exact};
 use refutation::{each_text_has_a_verdict, one_refutation_verdict, refutations_are_sound};
 use table_entries::{program_tables_are_tables, table_has_the_channels_of_rounds};

@@ -2,7 +2,7 @@
 use Rattle.std.proofs.Common.{◌≡◌, ℕ, zero, suc, ◌+◌, ◌*◌, ◌<◌, Some, None, refl, arith}
 use Rattle.channel_tables.specs.Tables.{ChannelTable}
 use Rattle.channel_tables.specs.declared.separation.Separation.{Separation}
-use Rattle.nbhd_check.specs.Apart.{extra}
+use Rattle.bad_tuples.specs.Apart.{extra}
 use Rattle.reports.specs.Causes.{of_no_tuples}
 use Rattle.reports.specs.Report.{yes_cause}
 

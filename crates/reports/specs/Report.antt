@@ -21,8 +21,8 @@ use Rattle.win_index.specs.RingFaults.{IsFirstFault}
 use Rattle.win_index.specs.Windows.{windows}
 use Rattle.channel_tables.specs.Tables.{ChannelTable}
 use Rattle.channel_tables.specs.declared.separation.Separation.{Separation}
-use Rattle.nbhd_check.specs.Apart.{extra, tuples, IsApartEverywhere}
-use Rattle.nbhd_check.specs.Verdicts.{IsWitness}
+use Rattle.bad_tuples.specs.Apart.{extra, tuples, IsApartEverywhere}
+use Rattle.bad_tuples.specs.Witnesses.{IsWitness}
 use Rattle.ring_segments.specs.SegmentCounts.{IsSegmentCount}
 use Rattle.reports.specs.declared.status.Status.{Status}
 use Rattle.reports.specs.declared.status.Status.TheVariants.{Done, No, Words, Refused, RingRefused}

@@ -1,7 +1,7 @@
 //! Judging a table while the memo that it was filled from is dropped.
 
 ghost use Rattle.std.specs.Prelude.{IfOk, OnErr};
-ghost use Rattle.nbhd_check.specs.Apart.{IsApartEverywhere};
+ghost use Rattle.bad_tuples.specs.Apart.{IsApartEverywhere};
 ghost use Rattle.nbhd_check.specs.Verdicts.{IsVerdict};
 ghost use Rattle.std.specs.Thread.{IsSync};
 

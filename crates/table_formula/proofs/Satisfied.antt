@@ -11,8 +11,8 @@ use Rattle.win_index.specs.Laws.{NumberOfWindow, WindowsHaveNumbers, RingsHaveWi
 use Rattle.win_index.specs.Windows.{number_of, IsWindow}
 use Rattle.channel_tables.specs.Tables.{ChannelTable, IsTable, channel_of}
 use Rattle.channel_tables.specs.declared.separation.Separation.{Separation}
-use Rattle.nbhd_check.specs.Apart.{extra, tuples, AreClose, IsBad, IsApart, IsApartEverywhere}
-use Rattle.nbhd_check.specs.Laws.{TuplesSuffice}
+use Rattle.bad_tuples.specs.Apart.{extra, tuples, AreClose, IsBad, IsApart, IsApartEverywhere}
+use Rattle.bad_tuples.specs.Laws.{TuplesSuffice}
 use Rattle.clause_check.specs.Clauses.{is_same_value, is_true_literal, Holds}
 use Rattle.table_formula.specs.declared.conflict.Conflict.{Conflict}
 use Rattle.table_formula.specs.Problems.{Problem}

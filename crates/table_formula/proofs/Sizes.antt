@@ -2,7 +2,7 @@
 use Rattle.std.proofs.Common.{◌≡◌, ℕ, ◌+◌, ◌*◌, ◌<◌, ◌≤◌, length, sym, ap, ◌∙◌, subst, arith}
 use Rattle.std.proofs.lemmas.Nat.{mul-le}
 use Rattle.win_index.specs.Windows.{windows}
-use Rattle.nbhd_check.specs.Apart.{extra}
+use Rattle.bad_tuples.specs.Apart.{extra}
 use Rattle.table_formula.specs.Problems.{Problem}
 use Rattle.table_formula.specs.Formula.{windows_of, tuples_of, conflicts_of, formula}
 use Rattle.table_formula.specs.Limits.{HasFewVariables, HasFewClauses}

@@ -1,6 +1,6 @@
 //! The formula of all tables of a shape that keep a separation.
 ghost use Rattle.std.specs.Prelude.{◌≡◌, ◌+◌, ◌*◌, ◌<◌, ◌≤◌, IfOk, IfErr, OnOk, MatchOption, length};
-ghost use Rattle.nbhd_check.specs.Apart.{extra};
+ghost use Rattle.bad_tuples.specs.Apart.{extra};
 ghost use Rattle.table_formula.specs.declared.limits.TheConstants.{MAX_CLAUSES};
 ghost use Rattle.table_formula.specs.Formula.{close_in, formula};
 ghost use Rattle.table_formula.specs.Problems.{problem_of};
@@ -55,7 +55,7 @@ impl Formula {
     ghost use Rattle.std.specs.Prelude.{◌≡◌, ◌+◌, ◌*◌, ◌<◌, ◌≤◌, IfOk, IfErr, OnOk, Some, length, take, All, slice_get, slice_index_or};
     ghost use Rattle.win_index.specs.declared.limits.TheConstants.{MAX_TUPLE_LEN};
     ghost use Rattle.win_index.specs.Windows.{IsWindow};
-    ghost use Rattle.nbhd_check.specs.Apart.{extra};
+    ghost use Rattle.bad_tuples.specs.Apart.{extra};
     ghost use Rattle.table_formula.specs.declared.limits.TheConstants.{MAX_CLAUSES, MAX_VARIABLES};
     ghost use Rattle.table_formula.specs.Formula.{windows_of, tuples_of, variable_of, variable_count, conflicts_of, window_in, some_channel, not_both, IsPair, formula, longest_len};
     ghost use Rattle.table_formula.specs.Problems.{problem_of};

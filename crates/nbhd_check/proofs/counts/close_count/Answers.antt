@@ -1,6 +1,7 @@
 use Rattle.std.proofs.Common.{◌≡◌, ℕ, ◌+◌, ◌*◌, ◌^◌, ◌<◌, ◌≤◌, nat_lt, min, length, get_or, ◌∙◌, arith, refl}
 use Rattle.nbhd_check.specs.Counts.{held_count}
-use Rattle.nbhd_check.proofs.Cells.{product_few, row_more, rows_within}
+use Rattle.bad_tuples.proofs.Products.{product_few}
+use Rattle.nbhd_check.proofs.Cells.{row_more, rows_within}
 use Rattle.nbhd_check.proofs.HeldCounts.{close_of_sums, entries_below}
 use Rattle.nbhd_check.proofs.counts.close_count.Goals.{After-deref-cells}
 use Rattle.nbhd_check.proofs.counts.close_count.Goals as goal

@@ -4,7 +4,7 @@ use Rattle.std.proofs.lemmas.Bool.{cases_lt}
 use Rattle.std.proofs.Math.ListN.{get_or-eq_default, length-replicate, replicate}
 use Rattle.nbhd_check.specs.Counts.{IsFamily}
 use Rattle.std.proofs.Math.Nat.{mul-le-mul_right}
-use Rattle.nbhd_check.proofs.Cells.{product_few}
+use Rattle.bad_tuples.proofs.Products.{product_few}
 use Rattle.nbhd_check.proofs.FarFree.{family_is, some_product}
 use Rattle.nbhd_check.proofs.counts.count_family.Goals.{After-window_number}
 use Rattle.nbhd_check.proofs.counts.count_family.Goals as goal

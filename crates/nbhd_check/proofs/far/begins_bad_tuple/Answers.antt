@@ -1,9 +1,9 @@
 use Rattle.std.proofs.Common.{◌≡◌, ℕ, ◌+◌, ◌*◌, ◌≤◌, length, arith}
 use Rattle.std.proofs.Math.Nat.{mul-le-mul_right}
 use Rattle.channel_tables.specs.Tables.{windows_of}
-use Rattle.nbhd_check.specs.Runs.{run_len}
+use Rattle.bad_tuples.specs.Apart.{run_len}
 use Rattle.nbhd_check.proofs.Cells.{row_more}
-use Rattle.nbhd_check.proofs.RunLengths.{all_runs}
+use Rattle.bad_tuples.proofs.RunLengths.{all_runs}
 use Rattle.nbhd_check.proofs.far.begins_bad_tuple.Goals as goal
 
 pub judge_part-requires-clause-within : goal.judge_part-requires-clause-within

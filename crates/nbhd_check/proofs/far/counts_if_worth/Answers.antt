@@ -1,5 +1,5 @@
 use Rattle.std.proofs.Common.{ℕ, ◌*◌, ◌^◌, ◌≤◌, arith}
-use Rattle.nbhd_check.proofs.Cells.{product_few}
+use Rattle.bad_tuples.proofs.Products.{product_few}
 use Rattle.nbhd_check.proofs.far.counts_if_worth.Goals as goal
 
 pub overflow_mul-family-2 : goal.overflow_mul-family-2

@@ -4,9 +4,9 @@ use Rattle.win_index.specs.Windows.{IsWindow}
 use Rattle.win_index.proofs.FrontPlaces.{slice_window}
 use Rattle.channel_tables.specs.Tables.{ChannelTable, channel_of}
 use Rattle.channel_tables.specs.declared.separation.Separation.{Separation}
-use Rattle.nbhd_check.specs.Apart.{AreClose, IsBad}
+use Rattle.bad_tuples.specs.Apart.{AreClose, IsBad}
 use Rattle.nbhd_check.specs.Runs.{BeginsBadTuple}
-use Rattle.nbhd_check.proofs.Close.{close_along, closer, two_of_far}
+use Rattle.bad_tuples.proofs.Close.{close_along, closer, two_of_far}
 use Rattle.nbhd_check.proofs.Ends.{push_two}
 use Rattle.nbhd_check.proofs.least.single_windows.Goals as goal
 

@@ -2,9 +2,9 @@ use Rattle.std.proofs.Common.{◌≡◌, ℕ, ◌+◌, ◌-◌, ◌*◌, length,
 use Rattle.std.proofs.lemmas.List.{get_or-take, length-take-le}
 use Rattle.win_index.specs.Windows.{unused, windows, IsWindow}
 use Rattle.nbhd_check.specs.Runs.{wide}
-use Rattle.nbhd_check.proofs.Prefixes.{place_of_last, run_of, one_run, window_drop, window_take}
+use Rattle.bad_tuples.proofs.Prefixes.{place_of_last, run_of, one_run, window_drop, window_take}
 use Rattle.win_index.proofs.Numbers.{windows_all}
-use Rattle.nbhd_check.proofs.Cells.{product_few}
+use Rattle.bad_tuples.proofs.Products.{product_few}
 use Rattle.nbhd_check.proofs.Suffixes.{shared_cut}
 use Rattle.nbhd_check.proofs.near.second_runs.Goals as goal
 

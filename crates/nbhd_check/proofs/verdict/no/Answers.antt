@@ -1,8 +1,8 @@
 use Rattle.std.proofs.Common.{Result, Ok, Err, ◌∙◌}
 use Rattle.std.proofs.lemmas.Option.{slice_get_within}
 use Rattle.std.specs.Result.{OnErr}
-use Rattle.nbhd_check.specs.Apart.{tuples}
-use Rattle.nbhd_check.proofs.Witnesses.{bad_is_not_apart, is_witness}
+use Rattle.bad_tuples.specs.Apart.{tuples}
+use Rattle.bad_tuples.proofs.Witnesses.{bad_is_not_apart, is_witness}
 use Rattle.nbhd_check.proofs.verdict.no.Goals as goal
 
 on_err : {T E P : Type 0} (r : Result T E) → P → OnErr r P

@@ -1,5 +1,5 @@
 use Rattle.std.proofs.Common.{◌≡◌, ◌+◌, ◌*◌, length}
-use Rattle.nbhd_check.specs.Apart.{extra, NoneIsBad}
+use Rattle.bad_tuples.specs.Apart.{extra, NoneIsBad}
 use Rattle.first_tuples.specs.FirstTuples.{plan_table}
 use Rattle.first_tuples.proofs.first_tuples.Tuples.least_bad.Given as goal
 

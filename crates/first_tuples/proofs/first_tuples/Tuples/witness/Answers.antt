@@ -2,7 +2,7 @@ use Rattle.std.proofs.Common.{◌≡◌, ℕ, List, Some, Result, Ok, Err, OnErr
 use Rattle.std.proofs.lemmas.Option.{same_Some}
 use Rattle.channel_tables.specs.Tables.{ChannelTable}
 use Rattle.channel_tables.specs.declared.separation.Separation.{Separation}
-use Rattle.nbhd_check.specs.Apart.{tuples, IsLeastBad}
+use Rattle.bad_tuples.specs.Apart.{tuples, IsLeastBad}
 use Rattle.table_entries.specs.ProgramTables.{table_of}
 use Rattle.first_tuples.specs.FirstTuples.{plan_table}
 use Rattle.first_tuples.proofs.first_tuples.Tuples.witness.Goals as goal

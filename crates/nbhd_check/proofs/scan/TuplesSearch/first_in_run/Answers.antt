@@ -1,9 +1,10 @@
 use Rattle.std.proofs.Common.{ℕ, ◌+◌, ◌*◌, ◌/◌, ◌^◌, ◌≤◌, ap, arith}
 use Rattle.std.proofs.Math.Nat.{add-mul, div-mul-le_self, mul-le-mul_right}
-use Rattle.nbhd_check.proofs.Cells.{product_few}
-use Rattle.nbhd_check.specs.Runs.{run_len, wide}
+use Rattle.bad_tuples.proofs.Products.{product_few}
+use Rattle.bad_tuples.specs.Apart.{run_len}
+use Rattle.nbhd_check.specs.Runs.{wide}
 use Rattle.nbhd_check.proofs.Parts.{quotient_below}
-use Rattle.nbhd_check.proofs.RunLengths.{all_runs}
+use Rattle.bad_tuples.proofs.RunLengths.{all_runs}
 use Rattle.nbhd_check.proofs.Runs.{free_of_none}
 use Rattle.nbhd_check.proofs.RunSteps.{run_end}
 use Rattle.nbhd_check.proofs.scan.TuplesSearch.first_in_run.Goals.{After-from}

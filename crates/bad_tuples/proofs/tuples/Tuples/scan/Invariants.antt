@@ -1,7 +1,7 @@
 use Rattle.std.proofs.Common.{◌≡◌, ◌+◌, ◌*◌, ◌<◌, Some, slice_get}
 use Rattle.win_index.specs.Windows.{IsWindow}
-use Rattle.nbhd_check.specs.Apart.{extra, tuples, NoneIsBad}
-use Rattle.nbhd_check.proofs.tuples.Tuples.scan.Given as goal
+use Rattle.bad_tuples.specs.Apart.{extra, tuples, NoneIsBad}
+use Rattle.bad_tuples.proofs.tuples.Tuples.scan.Given as goal
 
 -- the tuple is the next one, and none before it is bad
 abbrev pub invariant-loop-number : goal.invariant-loop-number

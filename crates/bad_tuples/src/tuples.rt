@@ -1,12 +1,11 @@
 //! The tuples that the judge tests, one by one.
-ghost use Rattle.std.specs.Prelude.{◌≡◌, ℕ, List, ◌+◌, ◌*◌, ◌<◌, ◌≤◌, ◌↔◌, IsTrue, Contains, MatchOption, Some, length, slice_get};
+ghost use Rattle.std.specs.Prelude.{◌≡◌, ℕ, List, ◌+◌, ◌*◌, ◌<◌, ◌≤◌, ◌↔◌, ◌⊎◌, IsTrue, MatchOption, Option, Some, length, slice_get};
 ghost use Rattle.win_index.specs.declared.limits.TheConstants.{MAX_IDS};
 ghost use Rattle.win_index.specs.Windows.{IsWindow};
 ghost use Rattle.win_index.specs.Arcs.{part_at};
 ghost use Rattle.channel_tables.specs.Tables.{channel_of};
-ghost use Rattle.nbhd_check.specs.Apart.{extra, tuples, AreClose, IsBad, NoneIsBad, IsLeastBad};
-ghost use Rattle.nbhd_check.specs.Runs.{run_len};
-ghost use Rattle.nbhd_check.specs.Searches.{IsLeastIn};
+ghost use Rattle.bad_tuples.specs.Apart.{extra, run_len, tuples, AreClose, IsBad, NoneIsBad, IsLeastBad};
+ghost use Rattle.bad_tuples.specs.Searches.{IsLeastIn};
 
 use channel_tables::{Separation, Table};
 use win_index::MAX_TUPLE_LEN;
@@ -62,9 +61,9 @@ pub fn judge_part(table: &Table, separation: Separation, low: u64, high: u64) ->
 
 /// The tuples of a table that are tested for a separation.
 #[derive(Clone, Copy)]
-pub(crate) struct Tuples<'a> {
-    pub(crate) table: &'a Table,
-    pub(crate) separation: Separation,
+pub struct Tuples<'a> {
+    pub table: &'a Table,
+    pub separation: Separation,
 }
 
 impl<'a> Tuples<'a> {
@@ -78,7 +77,7 @@ impl<'a> Tuples<'a> {
 
     /// Returns the number of tuples that begin with one window. It is 0 if a tuple has more
     /// identifiers than there are.
-    pub(crate) fn per_window(self) -> u64
+    pub fn per_window(self) -> u64
         ensures value { result ≡ run_len self.entry.table.now self.entry.separation }
         ensures few { result ≤ MAX_IDS * MAX_IDS }
     {
@@ -117,9 +116,23 @@ impl<'a> Tuples<'a> {
         self.is_close_next(tuple) || self.is_close_at_two(tuple)
     }
 
-    /// Returns whether the channels of the first and the second window of a tuple differ by less
-    /// than near.
-    pub(crate) fn is_close_next(self, tuple: &[u32]) -> bool
+    /// Returns the distance of the two places at which a bad tuple is too close: 1 if neighbours are,
+    /// else 2.
+    #[tactic(auto, using(crate::proofs::Close::two_of_far), unfolding(crate::specs::Apart::IsBad))]
+    pub fn broken_step(self, tuple: &[u32]) -> u32
+        requires tuple { IsWindow (2 * self.table.now.rounds + 1 + extra self.separation) self.table.now.ids tuple.now }
+        requires bad { IsBad self.table.now self.separation tuple.now }
+        ensures step { let channel_at : ℕ → Option ℕ = λ step. channel_of self.entry.table.now (part_at self.entry.table.now.rounds step tuple.now) in
+            let close = AreClose self.entry.separation.near (channel_at 0) (channel_at 1) in
+            (close × (result ≡ 1)) ⊎ ((¬ close) × (result ≡ 2)) }
+        ensures few { result ≤ extra self.entry.separation }
+    {
+        if self.is_close_next(tuple) { 1 } else { 2 }
+    }
+
+    // Returns whether the channels of the first and the second window of a tuple differ by less than
+    // near.
+    fn is_close_next(self, tuple: &[u32]) -> bool
         requires { IsWindow (2 * self.table.now.rounds + 1 + extra self.separation) self.table.now.ids tuple.now }
         ensures { IsTrue result ↔ AreClose self.entry.separation.near (channel_of self.entry.table.now (part_at self.entry.table.now.rounds 0 tuple.now)) (channel_of self.entry.table.now (part_at self.entry.table.now.rounds 1 tuple.now)) }
     {
@@ -141,7 +154,7 @@ impl<'a> Tuples<'a> {
     }
 
     /// Returns the channel of the window at this offset in a tuple.
-    pub(crate) fn channel_from(self, tuple: &[u32], offset: usize) -> u32
+    pub fn channel_from(self, tuple: &[u32], offset: usize) -> u32
         requires offset { offset ≤ extra self.separation }
         requires tuple { IsWindow (2 * self.table.now.rounds + 1 + extra self.separation) self.table.now.ids tuple.now }
         ensures { channel_of self.entry.table.now (part_at self.entry.table.now.rounds offset tuple.now) ≡ Some result }
@@ -152,11 +165,4 @@ impl<'a> Tuples<'a> {
         self.table
             .entry(shape.window_number(shape.rounds(), window))
     }
-}
-
-/// Returns whether the list contains the identifier.
-pub(crate) fn contains(list: &[u32], id: u32) -> bool
-    ensures { IsTrue result ↔ Contains list.now id }
-{
-    list.contains(&id)
 }

@@ -17,7 +17,7 @@ use Rattle.win_index.proofs.RunPrefixNumbers.{prefix_number}
 use Rattle.win_index.proofs.RunStarts.{longer_number}
 use Rattle.win_index.proofs.Unused.{lacks_differs, lacks_from_differs, unused_at}
 use Rattle.channel_tables.specs.Tables.{ChannelTable, windows_of}
-use Rattle.nbhd_check.proofs.RunLengths.{falling-add}
+use Rattle.bad_tuples.proofs.RunLengths.{falling-add}
 
 -- the index of identifier k of a list among the identifiers that are not among the k before it
 abbrev pub place_of_last : ℕ → List ℕ → ℕ

@@ -1,8 +1,8 @@
 use Rattle.std.proofs.Common.{◌+◌, ◌*◌, refl}
 use Rattle.win_index.proofs.Numbers.{windows_all}
-use Rattle.nbhd_check.specs.Apart.{extra}
-use Rattle.nbhd_check.proofs.Witnesses.{is_witness}
-use Rattle.nbhd_check.proofs.laws.least_bad_is_witness.Goals as goal
+use Rattle.bad_tuples.specs.Apart.{extra}
+use Rattle.bad_tuples.proofs.Witnesses.{is_witness}
+use Rattle.bad_tuples.proofs.laws.least_bad_is_witness.Goals as goal
 
 pub returns : goal.returns
 returns c t s number step first second tuple bad step_is few here there =

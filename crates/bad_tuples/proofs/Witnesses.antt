@@ -10,10 +10,10 @@ use Rattle.win_index.proofs.Positions.{number_of_is, window_place}
 use Rattle.win_index.proofs.Tuples.{tuple_ring, ring_tuple}
 use Rattle.channel_tables.specs.Tables.{ChannelTable, channel_of, windows_of}
 use Rattle.channel_tables.specs.declared.separation.Separation.{Separation}
-use Rattle.nbhd_check.specs.Apart.{extra, tuples, AreClose, IsBad, IsApart, IsApartEverywhere, NoneIsBad, IsLeastBad}
-use Rattle.nbhd_check.specs.Laws.{TuplesSuffice, BadTuplesAreRings, OneWitness, ApartTablesHaveNoWitness, WitnessesAreOnRings}
-use Rattle.nbhd_check.specs.Verdicts.{IsStep, IsWitness}
-use Rattle.nbhd_check.proofs.Close.{two_of_far, too_close_along, apart_not_too_close, apart_of_not_too_close}
+use Rattle.bad_tuples.specs.Apart.{extra, tuples, AreClose, IsBad, IsApart, IsApartEverywhere, NoneIsBad, IsLeastBad}
+use Rattle.bad_tuples.specs.Laws.{TuplesSuffice, BadTuplesAreRings, OneWitness, ApartTablesHaveNoWitness, WitnessesAreOnRings}
+use Rattle.bad_tuples.specs.Witnesses.{IsStep, IsWitness}
+use Rattle.bad_tuples.proofs.Close.{two_of_far, too_close_along, apart_not_too_close, apart_of_not_too_close}
 
 -- the channel of the window with a number
 pub channel_at :

@@ -2,9 +2,9 @@ use Rattle.std.proofs.Common.{◌≡◌, ◌+◌, ◌-◌, ◌*◌, Some, take, 
 use Rattle.std.proofs.lemmas.Option.{slice_get_within}
 use Rattle.win_index.specs.Windows.{IsWindow}
 use Rattle.channel_tables.specs.Tables.{windows_of}
-use Rattle.nbhd_check.specs.Apart.{extra}
-use Rattle.nbhd_check.proofs.Prefixes.{window_of_shape, window_take, window_drop}
-use Rattle.nbhd_check.proofs.tuples.Tuples.channel_from.Goals as goal
+use Rattle.bad_tuples.specs.Apart.{extra}
+use Rattle.bad_tuples.proofs.Prefixes.{window_of_shape, window_take, window_drop}
+use Rattle.bad_tuples.proofs.tuples.Tuples.channel_from.Goals as goal
 
 pub window_number-requires-clause-window : goal.window_number-requires-clause-window
 window_number-requires-clause-window c =

@@ -5,9 +5,9 @@ use Rattle.win_index.specs.Arcs.{window_around, part_at}
 use Rattle.win_index.specs.Windows.{IsWindow}
 use Rattle.channel_tables.specs.Tables.{ChannelTable, channel_of}
 use Rattle.channel_tables.specs.declared.separation.Separation.{Separation}
-use Rattle.nbhd_check.specs.Apart.{extra, AreClose, IsBad, IsApart, IsApartEverywhere, IsLeastBad}
-use Rattle.nbhd_check.specs.Proper.{IsProper, IsGoodEverywhere}
-use Rattle.nbhd_check.specs.Verdicts.{IsWitness}
+use Rattle.bad_tuples.specs.Apart.{extra, AreClose, IsBad, IsApart, IsApartEverywhere, IsLeastBad}
+use Rattle.bad_tuples.specs.Proper.{IsProper, IsGoodEverywhere}
+use Rattle.bad_tuples.specs.Witnesses.{IsWitness}
 
 -- the tuples of a table are apart exactly if its channels are apart on every ring
 abbrev pub TuplesSuffice : Type 0

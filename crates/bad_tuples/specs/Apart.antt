@@ -1,9 +1,10 @@
 -- Separation: the minimum differences of the channels of neighbours and of places at distance two, the labellings
 -- L(p,q) of Griggs and Yeh (1992).
-use Rattle.std.specs.Prelude.{◌≡◌, ℕ, ◌+◌, ◌*◌, ◌<◌, ◌≤◌, ◌⊎◌, min, Option, Some, List, length, All, slice_get}
+use Rattle.std.specs.Prelude.{◌≡◌, ℕ, ◌+◌, ◌-◌, ◌*◌, ◌<◌, ◌≤◌, ◌⊎◌, min, Option, Some, List, length, All, slice_get}
 use Rattle.std.specs.Int.{abs_diff}
 use Rattle.win_index.specs.Ring.{IsRing}
 use Rattle.win_index.specs.Arcs.{window_around, part_at}
+use Rattle.win_index.specs.Falling.{falling}
 use Rattle.win_index.specs.Windows.{windows}
 use Rattle.channel_tables.specs.Tables.{ChannelTable, channel_of}
 use Rattle.channel_tables.specs.declared.separation.Separation.{Separation}
@@ -25,6 +26,10 @@ AreApart distance c d = ⊥
 -- the tuples of a table in order: all lists of 2t+2 distinct identifiers if far is 0, else of 2t+3
 abbrev pub tuples : ChannelTable → Separation → List (List ℕ)
 tuples t s = windows (2 * t.rounds + 1 + extra s) t.ids
+
+-- the number of tuples that begin with one window
+abbrev pub run_len : ChannelTable → Separation → ℕ
+run_len t s = falling (t.ids - (2 * t.rounds + 1)) (extra s)
 
 -- a tuple is bad if the channels of its first and its second window are closer than near, or those of its first and its
 -- third window closer than far; if far is 0, no two channels are that close

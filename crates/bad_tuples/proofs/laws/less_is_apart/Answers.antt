@@ -9,11 +9,11 @@ use Rattle.win_index.proofs.Positions.{window_place}
 use Rattle.win_index.proofs.Unused.{lacks, length-unused}
 use Rattle.channel_tables.specs.Tables.{ChannelTable, channel_of}
 use Rattle.channel_tables.specs.declared.separation.Separation.{Separation}
-use Rattle.nbhd_check.specs.Apart.{extra, tuples, IsBad, IsApart}
-use Rattle.nbhd_check.proofs.Close.{too_close_along, too_close_for_more}
-use Rattle.nbhd_check.proofs.Prefixes.{part_of_front}
-use Rattle.nbhd_check.proofs.Witnesses.{none_bad, suffice}
-use Rattle.nbhd_check.proofs.laws.less_is_apart.Goals as goal
+use Rattle.bad_tuples.specs.Apart.{extra, tuples, IsBad, IsApart}
+use Rattle.bad_tuples.proofs.Close.{too_close_along, too_close_for_more}
+use Rattle.bad_tuples.proofs.Prefixes.{part_of_front}
+use Rattle.bad_tuples.proofs.Witnesses.{none_bad, suffice}
+use Rattle.bad_tuples.proofs.laws.less_is_apart.Goals as goal
 
 -- a window that has not all identifiers lacks one
 missing : (k m : ℕ) (window : List ℕ) → k < m → IsWindow k m window → (x : ℕ) × IsWindow (suc k) m (window ++ x ∷ [])

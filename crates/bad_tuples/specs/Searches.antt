@@ -2,7 +2,7 @@
 use Rattle.std.specs.Prelude.{ℕ, ◌<◌, List, length, Option, MatchOption}
 use Rattle.channel_tables.specs.Tables.{ChannelTable}
 use Rattle.channel_tables.specs.declared.separation.Separation.{Separation}
-use Rattle.nbhd_check.specs.Apart.{tuples, NoneIsBad, IsLeastBad}
+use Rattle.bad_tuples.specs.Apart.{tuples, NoneIsBad, IsLeastBad}
 
 -- the result is the least number of a bad tuple from low on and below high, or None if none of these is bad
 abbrev pub IsLeastIn : ChannelTable → Separation → ℕ → ℕ → Option ℕ → Type 0

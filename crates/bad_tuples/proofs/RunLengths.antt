@@ -5,8 +5,7 @@ use Rattle.win_index.specs.Falling.{falling}
 use Rattle.win_index.proofs.Numbers.{length-windows}
 use Rattle.channel_tables.specs.Tables.{ChannelTable, windows_of}
 use Rattle.channel_tables.specs.declared.separation.Separation.{Separation}
-use Rattle.nbhd_check.specs.Apart.{extra, tuples}
-use Rattle.nbhd_check.specs.Runs.{run_len}
+use Rattle.bad_tuples.specs.Apart.{extra, run_len, tuples}
 
 -- a falling product, by its first factors and the others
 pub falling-add : (m k more : ℕ) → falling m (k + more) ≡ falling m k * falling (m - k) more

@@ -1,9 +1,9 @@
 use Rattle.std.proofs.Common.{◌≡◌, ℕ, ◌+◌, ◌-◌, ◌*◌, ◌≤◌, sym, arith}
-use Rattle.nbhd_check.specs.Apart.{extra}
-use Rattle.nbhd_check.proofs.Cells.{product_few}
-use Rattle.nbhd_check.proofs.RunLengths.{falling_two}
-use Rattle.nbhd_check.proofs.tuples.Tuples.per_window.Goals.{Else-self-eq0}
-use Rattle.nbhd_check.proofs.tuples.Tuples.per_window.Goals as goal
+use Rattle.bad_tuples.specs.Apart.{extra}
+use Rattle.bad_tuples.proofs.Products.{product_few}
+use Rattle.bad_tuples.proofs.RunLengths.{falling_two}
+use Rattle.bad_tuples.proofs.tuples.Tuples.per_window.Goals.{Else-self-eq0}
+use Rattle.bad_tuples.proofs.tuples.Tuples.per_window.Goals as goal
 
 -- few identifiers are free
 free_few : (c : Else-self-eq0) → c.from.result - (2 * c.from-2.result + 1) ≤ 1024

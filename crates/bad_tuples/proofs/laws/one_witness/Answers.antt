@@ -1,5 +1,5 @@
-use Rattle.nbhd_check.proofs.Witnesses.{no_witness, witness_on_ring}
-use Rattle.nbhd_check.proofs.laws.one_witness.Goals as goal
+use Rattle.bad_tuples.proofs.Witnesses.{no_witness, witness_on_ring}
+use Rattle.bad_tuples.proofs.laws.one_witness.Goals as goal
 
 pub returns-clause-none : goal.returns-clause-none
 returns-clause-none c = no_witness

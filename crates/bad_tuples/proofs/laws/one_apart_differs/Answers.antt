@@ -6,11 +6,11 @@ use Rattle.win_index.proofs.FrontPlaces.{slice_window}
 use Rattle.win_index.proofs.Numbers.{windows_all}
 use Rattle.channel_tables.specs.Tables.{ChannelTable}
 use Rattle.channel_tables.specs.declared.separation.Separation.{Separation}
-use Rattle.nbhd_check.specs.Apart.{IsBad, IsApart, IsApartEverywhere}
-use Rattle.nbhd_check.specs.Proper.{IsProper, IsGoodEverywhere}
-use Rattle.nbhd_check.proofs.Close.{close_of_same, same_of_too_close, apart_not_too_close, apart_of_not_too_close}
-use Rattle.nbhd_check.proofs.Witnesses.{channel_some, channel_around}
-use Rattle.nbhd_check.proofs.laws.one_apart_differs.Goals as goal
+use Rattle.bad_tuples.specs.Apart.{IsBad, IsApart, IsApartEverywhere}
+use Rattle.bad_tuples.specs.Proper.{IsProper, IsGoodEverywhere}
+use Rattle.bad_tuples.proofs.Close.{close_of_same, same_of_too_close, apart_not_too_close, apart_of_not_too_close}
+use Rattle.bad_tuples.proofs.Witnesses.{channel_some, channel_around}
+use Rattle.bad_tuples.proofs.laws.one_apart_differs.Goals as goal
 
 abbrev one_apart : Separation
 one_apart = record { near = 1; far = 0 }

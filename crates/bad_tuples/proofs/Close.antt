@@ -3,7 +3,7 @@ use Rattle.std.proofs.Common.{◌≤◌, ◌≡◌, ℕ, ◌<◌, ◌⊎◌, Opt
 use Rattle.std.proofs.lemmas.Bool.{false≢true}
 use Rattle.std.specs.Int.{abs_diff}
 use Rattle.channel_tables.specs.declared.separation.Separation.{Separation}
-use Rattle.nbhd_check.specs.Apart.{extra, AreClose, AreApart}
+use Rattle.bad_tuples.specs.Apart.{extra, AreClose, AreApart}
 
 apart_not_close : (distance : ℕ) (a b : Option ℕ) → AreApart distance a b → ¬ AreClose distance a b
 apart_not_close distance (Some c) (Some d) apart close = omega arith

@@ -1,0 +1,5 @@
+pub mod Close
+pub mod Prefixes
+pub mod Products
+pub mod RunLengths
+pub mod Witnesses
