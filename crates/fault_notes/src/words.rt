@@ -1,11 +1,12 @@
 //! The texts of notes for the word at a place, and for what can follow there.
 
-ghost use Rattle.std.specs.Prelude.{◌≡◌, ◌≢◌, ◌==◌, not, ℕ, ◌≤◌, ◌++◌, length, take, OnOk, string_bytes};
+ghost use Rattle.std.specs.Prelude.{◌≡◌, ◌≢◌, ◌==◌, not, ℕ, ◌≤◌, ◌++◌, length, OnOk, string_bytes};
 ghost use Rattle.std.specs.List.{prefix_len};
 ghost use Rattle.node_lang.specs.Words.{is_word_byte as word_byte};
 ghost use Rattle.fault_notes.specs.Words.{wanted_text, wanted_part, first_word as first};
 
 use crate::wanted::Wanted;
+use source_places::first_of;
 use std::alloc::AllocError;
 use std::fmt::Write;
 
@@ -32,26 +33,15 @@ pub(crate) fn word_len(text: &[u8]) -> usize
     text.iter().take_while(|byte| is_word_byte(**byte)).count()
 }
 
-// Returns the first `count` bytes, or all if there are fewer.
-#[tactic(auto, using(std::proofs::lemmas::List::take_all))]
-fn prefix_of(text: &[u8], count: usize) -> &[u8]
-    ensures { result.now ≡ take count text.entry.now }
-{
-    if text.len() <= count {
-        return text;
-    }
-    &text[..count]
-}
-
 // Returns the word at the start of a text, or its first byte if it does not begin with a word.
 pub(crate) fn first_word(text: &[u8]) -> &[u8]
     ensures { result.now ≡ first text.entry.now }
 {
     let len = word_len(text);
     if len == 0 {
-        return prefix_of(text, 1);
+        return first_of(text, 1);
     }
-    prefix_of(text, len)
+    first_of(text, len)
 }
 
 // Returns whether this is one of some words, which are parted by blanks.

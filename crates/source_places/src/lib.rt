@@ -5,4 +5,4 @@ mod places;
 mod shown;
 
 pub use places::{column_of, line_of};
-pub use shown::{SHOWN_BYTES, write_marked_line, write_shown};
+pub use shown::{SHOWN_BYTES, first_of, write_marked_line, write_shown};

@@ -38,9 +38,9 @@ fn last_of(bytes: &[u8], count: usize) -> &[u8]
     &bytes[bytes.len().saturating_sub(count)..]
 }
 
-// Returns the first `count` bytes, or all if there are fewer.
+/// Returns the first `count` bytes, or all if there are fewer.
 #[tactic(auto, using(std::proofs::lemmas::List::take_all))]
-fn first_of(bytes: &[u8], count: usize) -> &[u8]
+pub fn first_of(bytes: &[u8], count: usize) -> &[u8]
     ensures { result.now ≡ take count bytes.entry.now }
 {
     if bytes.len() <= count {
