@@ -25,8 +25,8 @@ use Rattle.node_lang.proofs.Judging.{stops_at_first_fault, readable_is_read}
 use Rattle.fault_notes.specs.declared.wanted.TheConstants.{WORDS}
 use Rattle.fault_notes.specs.declared.wanted.Wanted.{Wanted}
 use Rattle.fault_notes.specs.declared.wanted.Wanted.TheVariants as wanted
-use Rattle.fault_notes.specs.Wanted.{token_of, IsNumber, BeginsExpression, MeansAny, IsWanted}
-use Rattle.fault_notes.specs.Probes.{IsOpen, probe_of, IsProbe, IsWordOf, WordsPassed, RegistersPassed}
+use Rattle.fault_notes.specs.Wanted.{probe_of, token_of, IsNumber, BeginsExpression, MeansAny, IsWanted}
+use Rattle.fault_notes.specs.Probes.{IsOpen, IsProbe, IsWordOf, WordsPassed, RegistersPassed}
 use Rattle.fault_notes.proofs.Appended.{tokens_of-append}
 use Rattle.fault_notes.proofs.Reached.{Came, Halted, At, come, come_on, come-append, went_on, Matches, program_matches_come, IsFixed, AllFixed, Reaches, program_reaches}
 

@@ -11,33 +11,13 @@ use Rattle.node_lang.specs.Viable.{IsViable}
 use Rattle.fault_notes.specs.declared.wanted.TheConstants.{WORDS}
 use Rattle.fault_notes.specs.declared.wanted.Wanted.{Wanted}
 use Rattle.fault_notes.specs.declared.wanted.Wanted.TheVariants as wanted
-use Rattle.fault_notes.specs.Wanted.{longest_word}
+use Rattle.fault_notes.specs.Wanted.{probe_of, longest_word}
 
 -- a text that has no other fault than that it ends too soon, and after which one more word fits
 pub record IsOpen (text : List ℕ) : Type 0 where
   pub offset : ℕ
   pub fault : FaultsAt text kind.EndOfText offset
   pub room : length text + longest_word ≤ LONGEST_TEXT
-
--- the token that is appended to a text to probe whether this can follow; the end has none
-abbrev pub probe_of : Wanted → Token
-probe_of wanted.Rounds = token.Rounds
-probe_of wanted.Channels = token.Channels
-probe_of wanted.Registers = token.Registers
-probe_of wanted.Start = token.Start
-probe_of wanted.Round = token.Round
-probe_of wanted.Send = token.Send
-probe_of wanted.Left = token.Left
-probe_of wanted.Right = token.Right
-probe_of wanted.Finish = token.Finish
-probe_of wanted.Open = token.Open
-probe_of wanted.Close = token.Close
-probe_of wanted.Comma = token.Comma
-probe_of wanted.Equals = token.Equals
-probe_of (wanted.Register j) = token.Register j
-probe_of wanted.Number = token.Number 0
-probe_of wanted.Expression = token.Id
-probe_of wanted.End = token.Unknown
 
 -- everything except the end, with registers that a program can have
 abbrev pub IsProbe : Wanted → Type 0

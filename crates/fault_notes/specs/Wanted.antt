@@ -10,23 +10,32 @@ use Rattle.node_lang.specs.Viable.{IsViable, IsWhole}
 use Rattle.fault_notes.specs.declared.wanted.Wanted.{Wanted}
 use Rattle.fault_notes.specs.declared.wanted.Wanted.TheVariants as wanted
 
+-- the token that is meant, or one of those that are meant, with which a text is probed; the end has none
+abbrev pub probe_of : Wanted → Token
+probe_of wanted.Rounds = token.Rounds
+probe_of wanted.Channels = token.Channels
+probe_of wanted.Registers = token.Registers
+probe_of wanted.Start = token.Start
+probe_of wanted.Round = token.Round
+probe_of wanted.Send = token.Send
+probe_of wanted.Left = token.Left
+probe_of wanted.Right = token.Right
+probe_of wanted.Finish = token.Finish
+probe_of wanted.Open = token.Open
+probe_of wanted.Close = token.Close
+probe_of wanted.Comma = token.Comma
+probe_of wanted.Equals = token.Equals
+probe_of (wanted.Register j) = token.Register j
+probe_of wanted.Number = token.Number 0
+probe_of wanted.Expression = token.Id
+probe_of wanted.End = token.Unknown
+
 -- the one token that is meant, if it is one
 abbrev pub token_of : Wanted → Option Token
-token_of wanted.Rounds = Some token.Rounds
-token_of wanted.Channels = Some token.Channels
-token_of wanted.Registers = Some token.Registers
-token_of wanted.Start = Some token.Start
-token_of wanted.Round = Some token.Round
-token_of wanted.Send = Some token.Send
-token_of wanted.Left = Some token.Left
-token_of wanted.Right = Some token.Right
-token_of wanted.Finish = Some token.Finish
-token_of wanted.Open = Some token.Open
-token_of wanted.Close = Some token.Close
-token_of wanted.Comma = Some token.Comma
-token_of wanted.Equals = Some token.Equals
-token_of (wanted.Register j) = Some (token.Register j)
-token_of _ = None
+token_of wanted.Number = None
+token_of wanted.Expression = None
+token_of wanted.End = None
+token_of w = Some (probe_of w)
 
 -- a number
 abbrev pub IsNumber : Token → Type 0

@@ -2,21 +2,13 @@
 use Rattle.std.specs.Prelude.{ℕ, ◌==◌, ◌++◌, List, [], take, codes, Option, Some, None, if◌then◌else◌}
 use Rattle.std.specs.List.{prefix_len}
 use Rattle.std.specs.Fmt.{decimal}
-use Rattle.node_lang.specs.Words.{is_word_byte}
+use Rattle.node_lang.specs.Words.{is_word_byte, word_of}
 use Rattle.fault_notes.specs.declared.wanted.Wanted.{Wanted}
 use Rattle.fault_notes.specs.declared.wanted.Wanted.TheVariants as wanted
+use Rattle.fault_notes.specs.Wanted.{probe_of}
 
--- the text for what can follow
+-- the text for what can follow; for a word it is its spelling
 abbrev pub wanted_text : Wanted → List ℕ
-wanted_text wanted.Rounds = codes "`rounds`"
-wanted_text wanted.Channels = codes "`channels`"
-wanted_text wanted.Registers = codes "`registers`"
-wanted_text wanted.Start = codes "`start`"
-wanted_text wanted.Round = codes "`round`"
-wanted_text wanted.Send = codes "`send`"
-wanted_text wanted.Left = codes "`left`"
-wanted_text wanted.Right = codes "`right`"
-wanted_text wanted.Finish = codes "`finish`"
 wanted_text wanted.Open = codes "`(`"
 wanted_text wanted.Close = codes "`)`"
 wanted_text wanted.Comma = codes "`,`"
@@ -25,6 +17,7 @@ wanted_text (wanted.Register j) = codes "the assignment of r" ++ decimal j
 wanted_text wanted.Number = codes "a number"
 wanted_text wanted.Expression = codes "an expression"
 wanted_text wanted.End = codes "the end of the text"
+wanted_text w = codes "`" ++ word_of (probe_of w) ++ codes "`"
 
 -- the part of a note for what can follow, if it is known
 abbrev pub wanted_part : Option Wanted → List ℕ

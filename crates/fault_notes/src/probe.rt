@@ -4,8 +4,8 @@
 ghost use Rattle.std.specs.Prelude.{◌≡◌, ◌↔◌, [], ◌∷◌, ◌++◌, IsTrue, IfOk, IfSome, IfNone};
 ghost use Rattle.node_lang.specs.Lexemes.{tokens_of};
 ghost use Rattle.node_lang.specs.Viable.{IsViable};
-ghost use Rattle.fault_notes.specs.Wanted.{IsWanted, SaysNothing};
-ghost use Rattle.fault_notes.specs.Probes.{IsOpen, IsProbe, probe_of, WordsPassed, RegistersPassed};
+ghost use Rattle.fault_notes.specs.Wanted.{IsWanted, SaysNothing, probe_of};
+ghost use Rattle.fault_notes.specs.Probes.{IsOpen, IsProbe, WordsPassed, RegistersPassed};
 ghost use Rattle.node_lang.specs.declared.token.Token.TheVariants as token;
 
 use crate::wanted::{WORDS, Wanted, probe_word};

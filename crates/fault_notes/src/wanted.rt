@@ -3,7 +3,8 @@
 ghost use Rattle.node_program.specs.declared.limits.TheConstants.{MAX_REGISTERS};
 ghost use Rattle.node_lang.specs.declared.token.Token.TheVariants as token;
 ghost use Rattle.std.specs.Prelude.{◌<◌};
-ghost use Rattle.fault_notes.specs.Probes.{probe_of, IsProbe, IsWordOf};
+ghost use Rattle.fault_notes.specs.Wanted.{probe_of};
+ghost use Rattle.fault_notes.specs.Probes.{IsProbe, IsWordOf};
 
 /// What can follow at a place of a program text: one word or mark, the register of the next
 /// assignment, a number, an expression, or the end.
