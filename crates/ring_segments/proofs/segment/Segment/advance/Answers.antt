@@ -4,6 +4,7 @@ use Rattle.border_exchange.specs.declared.Side.TheVariants.{Rightward, Leftward}
 use Rattle.node_program.specs.GlobalRounds.{left_of, right_of}
 use Rattle.ring_segments.specs.Messages.{sent_under}
 use Rattle.ring_segments.specs.Segments.{RingSegment}
+use Rattle.ring_segments.specs.Needs.{in_its_round}
 use Rattle.ring_segments.proofs.Stretches.{advance_keeps}
 use Rattle.ring_segments.proofs.segment.Segment.advance.Goals as goal
 
@@ -16,36 +17,24 @@ invariant_of-self c =
     let some = c.self.invariant.some in
     let last : was.end ≡ was.end - 1 + 1 = omega arith in
     let behind : was.end % c.len-places.result ≡ right_of x (was.end - 1) = rw places (ap (λ i. i % length x) last) in
-    let from_left =
-    c.value-from_left.ensures ∙ ap sent_under (c.is_from.ensures.0 c.if-not-is_from.false)
-    ∙ ap (λ i. sent_under (record {
-      plan = was.plan.now;
-      ring = was.ring.now;
-      place = i;
-      side = Rightward;
-      round = was.round;
-    })) before in
-    let from_right =
-    c.value-from_right.ensures ∙ ap sent_under (c.is_from-else-not-is_from.ensures.0 c.if-not-is_from-2.false)
-    ∙ ap (λ i. sent_under (record {
-      plan = was.plan.now;
-      ring = was.ring.now;
-      place = i;
-      side = Leftward;
-      round = was.round;
-    })) behind in
-    let made = rw c.deref.ensures.value at c.round_of_row.ensures in
-    let size = c.round_of_row.auto.out ∙ c.deref_mut.ensures.len in
-    let written = with_items_is was.spare c.round_of_row.new.out size in
-    let more = subst (λ (s : RingSegment). s.round < length s.plan.program.steps) (sym c.self.view_is) c.requires in
-    rw (c.swap.ensures.x_after, c.swap.ensures.y_after, written)
-    (advance_keeps c.stretches_are_rows.ensures record {
+    let now : RingSegment = record {
       plan = was.plan.now;
       ring = was.ring.now;
       segments = was.segments;
       index = was.index;
       round = was.round;
-    }
-    was.first was.end (vec_len was.spare) (vec_len was.states) c.value-from_left.result c.value-from_right.result
+    } in
+    let from_left =
+    c.value-from_left.ensures ∙ ap sent_under (c.is_from.ensures.0 c.if-not-is_from.false)
+    ∙ ap (λ i. sent_under (in_its_round now i Rightward)) before in
+    let from_right =
+    c.value-from_right.ensures ∙ ap sent_under (c.is_from-else-not-is_from.ensures.0 c.if-not-is_from-2.false)
+    ∙ ap (λ i. sent_under (in_its_round now i Leftward)) behind in
+    let made = rw c.deref.ensures.value at c.round_of_row.ensures in
+    let size = c.round_of_row.auto.out ∙ c.deref_mut.ensures.len in
+    let written = with_items_is was.spare c.round_of_row.new.out size in
+    let more = subst (λ (s : RingSegment). s.round < length s.plan.program.steps) (sym c.self.view_is) c.requires in
+    rw (c.swap.ensures.x_after, c.swap.ensures.y_after, written)
+    (advance_keeps c.stretches_are_rows.ensures now was.first was.end (vec_len was.spare) (vec_len was.states) c.value-from_left.result c.value-from_right.result
     was.states.items c.round_of_row.new.out
     c.self.invariant more (search rules) (size ∙ (search rules)) from_left from_right made)
