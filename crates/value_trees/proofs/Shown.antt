@@ -132,32 +132,32 @@ module _ (b : Base) (p : ProgramTree) (x : List ℕ) (i : ℕ) where
       shown b (knowing_id (slice_index x i)) _ e _ _ (starts p x i j e is)
       (on_left _ begin (middle ++ end) (register_has 0 b (knowing_id (slice_index x i)) p.start j e is))
 
+  -- what stands in the trees of a round
+  in_round : (r : ℕ) (s : Round) (env : Env) (heading : List ℕ) (e : Term) (n : ℕ) → slice_get p.steps r ≡ Some s → value e env ≡ n
+      → Has (headed heading b env e) (round_trees b p x i r s) → Shows b heading e n (explanation b p x i)
+  in_round r s env heading e n round is has =
+      shown b env heading e n _ is
+      (inside _ (round_trees b p x i r s) (explanation b p x i) has (round_has r s round))
+
   register_shown : (r j : ℕ) (s : Round) (e : Term) → slice_get p.steps r ≡ Some s → slice_get s.next j ≡ Some e
       → Shows b (phase (r + 1) ++ (codes " r" ++ decimal j)) e (slice_index (state p x (r + 1) i) j) (explanation b p x i)
   register_shown r j s e round is =
-      let env = with_messages p x i r in
-      shown b env _ e _ _ (assigned p x i r j s e round is)
-      (inside _ (round_trees b p x i r s) (explanation b p x i)
+      in_round r s (with_messages p x i r) _ e _ round (assigned p x i r j s e round is)
       (on_right _ (left_tree r s) (right_tree r s ++ next_trees r s)
-      (on_right _ (right_tree r s) (next_trees r s) (register_has (r + 1) b env s.next j e is)))
-      (round_has r s round))
+      (on_right _ (right_tree r s) (next_trees r s) (register_has (r + 1) b (with_messages p x i r) s.next j e is)))
 
   left_shown : (r : ℕ) (s : Round) → slice_get p.steps r ≡ Some s
       → Shows b (phase (r + 1) ++ codes " left") s.left (to_left p r (state p x r i)) (explanation b p x i)
   left_shown r s round =
-      let tree = left_tree r s in
-      shown b (before_messages p x i r) _ s.left _ _ (left_is_sent p x i r s round)
-      (inside tree (round_trees b p x i r s) (explanation b p x i)
-      (on_left tree tree (right_tree r s ++ next_trees r s) (itself tree)) (round_has r s round))
+      in_round r s (before_messages p x i r) _ s.left _ round (left_is_sent p x i r s round)
+      (on_left (left_tree r s) (left_tree r s) (right_tree r s ++ next_trees r s) (itself (left_tree r s)))
 
   right_shown : (r : ℕ) (s : Round) → slice_get p.steps r ≡ Some s
       → Shows b (phase (r + 1) ++ codes " right") s.right (to_right p r (state p x r i)) (explanation b p x i)
   right_shown r s round =
-      let tree = right_tree r s in
-      shown b (before_messages p x i r) _ s.right _ _ (right_is_sent p x i r s round)
-      (inside tree (round_trees b p x i r s) (explanation b p x i)
-      (on_right tree (left_tree r s) (tree ++ next_trees r s) (on_left tree tree (next_trees r s) (itself tree)))
-      (round_has r s round))
+      in_round r s (before_messages p x i r) _ s.right _ round (right_is_sent p x i r s round)
+      (on_right (right_tree r s) (left_tree r s) (right_tree r s ++ next_trees r s)
+      (on_left (right_tree r s) (right_tree r s) (next_trees r s) (itself (right_tree r s))))
 
   channel_shown : i < length x → Shows b (codes "finish") p.finish (slice_index (channels_of p x) i) (explanation b p x i)
   channel_shown within =

@@ -114,28 +114,22 @@ fn write_assigned(
     Ok(())
 }
 
-// Returns the message to a place from its left neighbour in the next round.
-fn from_left(places: &Configuration<'_>, place: u32) -> u32
+// Returns the messages to a place in the next round, from its left and from its right neighbour.
+fn received(places: &Configuration<'_>, place: u32) -> (u32, u32)
     requires place { place < length places.now.places }
     requires more { places.now.round < length places.now.program.steps }
-    ensures { result ≡ node.to_right places.now.program places.now.round
+    ensures left { result.0 ≡ node.to_right places.now.program places.now.round
         (state places.now.program places.now.places places.now.round (left_of places.now.places place)) }
-{
-    let count = u64::from(places.places());
-    let left = (u64::from(place) + count - 1) % count;
-    places.reading(Reading::Right, left as u32)
-}
-
-// Returns the message to a place from its right neighbour in the next round.
-fn from_right(places: &Configuration<'_>, place: u32) -> u32
-    requires place { place < length places.now.places }
-    requires more { places.now.round < length places.now.program.steps }
-    ensures { result ≡ node.to_left places.now.program places.now.round
+    ensures right { result.1 ≡ node.to_left places.now.program places.now.round
         (state places.now.program places.now.places places.now.round (right_of places.now.places place)) }
 {
     let count = u64::from(places.places());
+    let left = (u64::from(place) + count - 1) % count;
     let right = (u64::from(place) + 1) % count;
-    places.reading(Reading::Left, right as u32)
+    (
+        places.reading(Reading::Right, left as u32),
+        places.reading(Reading::Left, right as u32),
+    )
 }
 
 // Appends the next round of a place, whose number is `number`.
@@ -161,8 +155,7 @@ fn write_round(
     write_phase(text, number)?;
     text.push_str(" right")?;
     write_tree(alloc, text, base, reading(own, 0, 0), &round.right)?;
-    let left = from_left(places, place);
-    let right = from_right(places, place);
+    let (left, right) = received(places, place);
     let read = reading(own, left, right);
     write_assigned(text, explained, read, number, &round.next)
 }
