@@ -3,7 +3,6 @@ pub mod Borders
 pub mod Courses
 pub mod Faults
 pub mod Outcomes
-pub mod Received
 pub mod Runs
 pub mod Seats
 pub mod Sides

@@ -1,11 +1,9 @@
 //! A segment that runs between its two borders.
 ghost use Rattle.std.specs.Prelude.{◌≡◌, ◌≢◌, ◌+◌, ◌<◌, ◌↔◌, IfErr, IfOk, IsOk, MatchResult, OnOk, length};
 ghost use Rattle.border_exchange.specs.declared.Side.TheVariants.{Rightward, Leftward};
-ghost use Rattle.node_program.specs.declared.limits.TheConstants.{MAX_ROUNDS};
 ghost use Rattle.ring_segments.specs.Headings.{heading_of};
 ghost use Rattle.ring_segments.specs.Needs as needs;
-ghost use Rattle.ring_exec.specs.Received.{AreOfRound};
-ghost use Rattle.ring_exec.specs.Seats.{AreSeatsOf};
+ghost use Rattle.ring_exec.specs.Seats.{AreOfRound, AreSeatsOf, HasRoundToDo};
 ghost use Rattle.ring_exec.specs.declared.end.Stop.TheVariants.{BorderClosed, Fault};
 ghost use Rattle.round_eval.specs.declared.fault.WorkFault.TheVariants.{Stranger};
 
@@ -112,9 +110,7 @@ fn next_round<'a, R: Wait, A: BorderName, B: BorderName>(
     left: &mut End<Msg<'a>, A>,
     right: &mut End<Msg<'a>, B>,
 ) -> Result<(), Stop>
-    requires more { segment.old.round < length segment.old.plan.program.steps }
-    requires few { segment.old.round < MAX_ROUNDS }
-    requires seats { AreSeatsOf segment.old left.old.seat right.old.seat }
+    requires { HasRoundToDo segment.old left.old.seat right.old.seat }
     ensures advanced { MatchResult result (λ _. segment.new ≡ record segment.old { round = segment.old.round + 1 })
         (λ _. segment.new ≡ segment.old) }
     ensures seats { OnOk result (AreSeatsOf segment.new left.new.seat right.new.seat) }
@@ -131,9 +127,7 @@ fn send<'a, R: Wait, A: BorderName, B: BorderName>(
     left: &mut End<Msg<'a>, A>,
     right: &mut End<Msg<'a>, B>,
 ) -> Result<(), Stop>
-    requires more { segment.now.round < length segment.now.plan.program.steps }
-    requires few { segment.now.round < MAX_ROUNDS }
-    requires seats { AreSeatsOf segment.now left.old.seat right.old.seat }
+    requires { HasRoundToDo segment.now left.old.seat right.old.seat }
     ensures seats { OnOk result (AreSeatsOf (record segment.now { round = segment.now.round + 1 }) left.new.seat right.new.seat) }
     ensures expected { IfErr result (λ stop. stop ≢ Fault Stranger) }
 {
