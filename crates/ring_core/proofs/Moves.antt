@@ -13,17 +13,26 @@ use Rattle.ring_segments.specs.Messages.{Heading, sent_under}
 use Rattle.ring_segments.specs.Segments.{RingSegment, first_of, places_of, states_of}
 use Rattle.ring_segments.specs.Needs.{from_left, from_right}
 use Rattle.ring_core.specs.Machine.{SegmentState, BorderState, no_messages, segment_at, left_border, right_border, border_before, segment_after, sent_right, sent_left, advanced}
-use Rattle.ring_core.specs.Parts.{Progress, Parts, FitTogether, no_part, part_at, round_at, at_round, rightward_headings, leftward_headings, headings_of, sent_by, segment_state, values_under, rightward_values, leftward_values, machine_of}
+use Rattle.ring_core.specs.Parts.{Progress, Parts, FitTogether, no_part, part_at, round_at, at_round, rightward_headings, leftward_headings, headings_of, sent_by, after_sending, segment_state, values_under, rightward_values, leftward_values, machine_of}
 use Rattle.ring_core.proofs.Fits.{MayAdvance}
 use Rattle.ring_core.proofs.Neighbours.{before_inside, after_before, before_after}
 use Rattle.ring_core.proofs.Updates.{set_unseen, set_made}
-use Rattle.ring_core.proofs.Views.{value_at, message_of, message_is, plain, some_places, inside_ring, left_needed, right_needed, count_is, plain_is, own_leftward, own_rightward, came_rightward, came_leftward}
+use Rattle.ring_core.proofs.Views.{value_at, message_of, message_is, plain, some_places, inside_ring, part_needed, count_is, plain_is, own_leftward, own_rightward, came_rightward, came_leftward}
 
 -- one value more
 more_values :
     (heading : ℕ → Heading) (count : ℕ) →
     values_under heading (count + 1) ≡ values_under heading count ++ sent_under (heading count) ∷ []
 more_values heading count = map-range_with_len_more (λ k. sent_under (heading k)) 0 count count (omega arith)
+
+-- the values of a part's messages to a side, and those after one more
+abbrev values_to : Side → Progress → List ℕ
+values_to side p = values_under (headings_of p.segment side) (sent_by p side)
+
+values_after : (side : Side) (p : Progress) → values_to side (after_sending p side)
+    ≡ values_to side p ++ sent_under (headings_of p.segment side (sent_by p side)) ∷ []
+values_after Rightward p = more_values (rightward_headings p.segment) p.rightward
+values_after Leftward p = more_values (leftward_headings p.segment) p.leftward
 
 -- border b between g parts
 abbrev border_of : List Progress → ℕ → ℕ → BorderState
@@ -64,19 +73,23 @@ module _ (v : Parts) (kept : FitTogether v) (s : ℕ) (lt : s < length v.items) 
       ∙ ap (λ (b : RingSegment). sent_under (headings_of b side (round_at v s))) (sym (kept.segments_are s lt))
       ∙ ap (λ k. sent_under (headings_of (part_at v s).segment side k)) (sym now)
 
+  one_more : (side : Side) (here : List ℕ) → sent_by (part_at v s) side ≡ round_at v s
+      → new ≡ after_sending (part_at v s) side → here ≡ values_to side (part_at v s)
+      → here ++ message side ∷ [] ≡ values_to side (part_at replaced s)
+  one_more side here now is own =
+      ap (λ values. values ++ message side ∷ []) own
+      ∙ ap (λ k. values_to side (part_at v s) ++ k ∷ []) (sends side now)
+      ∙ sym (values_after side (part_at v s))
+      ∙ ap (values_to side) (sym is ∙ sym (get_or-set_same v.items s new no_part lt))
+
   pub right_moves : (part_at v s).rightward ≡ round_at v s
       → new ≡ record (part_at v s) { rightward = (part_at v s).rightward + 1 }
       → machine_of replaced ≡ sent_right (machine_of v) s
   right_moves now is =
       let g = length v.items in
-      let p = part_at v s in
-      let m = machine_of v in
-      let here : BorderState = right_border m s in
+      let here : BorderState = right_border (machine_of v) s in
       let rightward : here.rightward ++ message Rightward ∷ [] ≡ rightward_values (part_at replaced s) =
-      ap (λ values. values ++ message Rightward ∷ []) (own_rightward v kept s lt)
-      ∙ ap (λ k. rightward_values p ++ k ∷ []) (sends Rightward now)
-      ∙ sym (more_values (rightward_headings p.segment) p.rightward)
-      ∙ ap rightward_values (sym is ∙ sym (get_or-set_same v.items s new no_part lt)) in
+      one_more Rightward here.rightward now is (own_rightward v kept s lt) in
       let leftward : here.leftward ≡ leftward_values (part_at replaced (segment_after g s)) =
       came_leftward v kept s lt ∙ same_left (ap leftward_values is) (segment_after g s) in
       let borders = set_made (border_of v.items g) (border_of (set v.items s new) g) g s
@@ -96,14 +109,10 @@ module _ (v : Parts) (kept : FitTogether v) (s : ℕ) (lt : s < length v.items) 
   left_moves now is =
       let g = length v.items in
       let b = border_before g s in
-      let p = part_at v s in
       let m = machine_of v in
       let here : BorderState = left_border m s in
       let leftward : here.leftward ++ message Leftward ∷ [] ≡ leftward_values (part_at replaced (segment_after g b)) =
-      ap (λ values. values ++ message Leftward ∷ []) (own_leftward v kept s lt)
-      ∙ ap (λ k. leftward_values p ++ k ∷ []) (sends Leftward now)
-      ∙ sym (more_values (leftward_headings p.segment) p.leftward)
-      ∙ ap leftward_values (sym is ∙ sym (get_or-set_same v.items s new no_part lt))
+      one_more Leftward here.leftward now is (own_leftward v kept s lt)
       ∙ ap (λ k. leftward_values (part_at replaced k)) (sym (after_before g s lt)) in
       let rightward : here.rightward ≡ rightward_values (part_at replaced b) =
       came_rightward v kept s lt ∙ same_right (ap rightward_values is) b in
@@ -139,12 +148,12 @@ module _ (v : Parts) (kept : FitTogether v) (s : ℕ) (lt : s < length v.items) 
       ap (λ (b : SegmentState). get_or (left_border m s).rightward b.round 0) at
       ∙ ap (λ values. get_or values r 0) (came_rightward v kept s lt)
       ∙ value_at (rightward_headings before.segment) before.rightward r may.left_came
-      ∙ ap sent_under (left_needed v kept s r lt) in
+      ∙ ap sent_under (part_needed v kept Rightward s r lt) in
       let right : get_or (right_border m s).leftward here.round 0 ≡ sent_under (from_right a) =
       ap (λ (b : SegmentState). get_or (right_border m s).leftward b.round 0) at
       ∙ ap (λ values. get_or values r 0) (came_leftward v kept s lt)
       ∙ value_at (leftward_headings after.segment) after.leftward r may.right_came
-      ∙ ap sent_under (right_needed v kept s r lt) in
+      ∙ ap sent_under (part_needed v kept Leftward s r lt) in
       let next = law v.plan.program x r (first_of a) (places_of a) (inside_ring v kept s r lt) in
       let row : row_after v.plan.program here.round (get_or (left_border m s).rightward here.round 0) here.states
       (get_or (right_border m s).leftward here.round 0)

@@ -4,7 +4,10 @@ use Rattle.std.proofs.Math.Nat.{add-mod_left, mod-eq_of_lt, mod-lt}
 use Rattle.std.proofs.lemmas.Bool.{cases_lt}
 use Rattle.node_program.specs.GlobalRounds.{left_of, right_of}
 use Rattle.ring_segments.specs.SegmentPlaces.{first_place}
+use Rattle.border_exchange.specs.declared.Side.{Side}
+use Rattle.border_exchange.specs.declared.Side.TheVariants.{Rightward, Leftward}
 use Rattle.ring_core.specs.Machine.{border_before, segment_after}
+use Rattle.ring_core.specs.Parts.{sender_of}
 use Rattle.ring_segments.proofs.Places.{first_place-grows, first_place-inside, first_place-all, first_place-none}
 
 self_mod : (g : ℕ) → 0 < g → g % g ≡ 0
@@ -36,6 +39,10 @@ before_inside g s some = mod-lt (s + g - 1) some
 
 pub after_inside : (g b : ℕ) → 0 < g → segment_after g b < g
 after_inside g b some = mod-lt (b + 1) some
+
+pub sender_inside : (g s : ℕ) (side : Side) → 0 < g → sender_of g s side < g
+sender_inside g s Rightward some = before_inside g s some
+sender_inside g s Leftward some = after_inside g s some
 
 -- each is the inverse of the other
 pub after_before : (g s : ℕ) → s < g → segment_after g (border_before g s) ≡ s

@@ -10,12 +10,12 @@ use Rattle.ring_segments.specs.declared.message.Msg.{Msg}
 use Rattle.ring_segments.specs.Messages.{Heading, sent_under}
 use Rattle.ring_segments.specs.Headings.{heading_of}
 use Rattle.ring_segments.specs.Segments.{RingSegment, first_of, places_of, states_of}
-use Rattle.ring_segments.specs.Needs.{from_left, from_right, to_the_left, to_the_right}
-use Rattle.ring_core.specs.Machine.{SegmentState, Machine, segment_at, border_at, left_border, right_border, border_before, segment_after}
+use Rattle.ring_segments.specs.Needs.{to_the_left, to_the_right}
+use Rattle.ring_core.specs.Machine.{SegmentState, BorderState, Machine, segment_at, border_at, left_border, right_border, segment_after}
 use Rattle.ring_core.specs.MachinePromises.{HasGlobalStates, HasGlobalMessages, AreNear, segment_after_rounds, sent_at, heading_at}
-use Rattle.ring_core.specs.Parts.{Parts, FitTogether, AreInOrder, part_at, round_at, at_round, rightward_headings, leftward_headings, values_under, machine_of}
-use Rattle.ring_core.proofs.Neighbours.{before_inside, after_inside, before_after}
-use Rattle.ring_core.proofs.Views.{value_at, plain, count_is, plain_is, round_is, left_needed, right_needed, own_rightward, own_right_size, came_leftward, came_left_size}
+use Rattle.ring_core.specs.Parts.{Parts, Progress, FitTogether, AreInOrder, part_at, round_at, sent_by, sent_to, needed_to, sender_of, came_to, rightward_headings, leftward_headings, values_under, machine_of}
+use Rattle.ring_core.proofs.Neighbours.{after_inside, before_after}
+use Rattle.ring_core.proofs.Views.{value_at, plain, count_is, plain_is, round_is, is_needed, own_rightward, own_right_size, came_leftward, came_left_size}
 
 -- the case without a message
 pub if_none : {T : Type 0} (o : Option T) (P Q : Type 0) → (P → Q) → IfNone o P → IfNone o Q
@@ -133,36 +133,31 @@ module _ (v : Parts) (kept : FitTogether v) where
             );
       }
 
-  -- the messages of a segment's neighbours in a round are those that it needs
-  beside : (place : ℕ → ℕ → ℕ) (message : RingSegment → Heading) (s r : ℕ) (needed : Heading)
-      → place (length v.items) s < length v.items
-      → message (at_round (part_at v (place (length v.items) s)).segment r) ≡ needed
-      → message (segment_after_rounds (machine_of v) (place (length (machine_of v).segments) s) r) ≡ needed
-  beside place message s r needed lt is =
-      let b = place (length v.items) s in
-      ap (λ g. message (segment_after_rounds (machine_of v) (place g s) r)) (count_is v kept)
-      ∙ ap message (named_is b r r refl)
-      ∙ sym (ap (λ (a : RingSegment). message (at_round a r)) (kept.segments_are b lt))
-      ∙ is
-
-  pub left_beside : (s r : ℕ) → s < length v.items
-      → to_the_right (segment_after_rounds (machine_of v) (border_before (length (machine_of v).segments) s) r)
-      ≡ from_left (segment_after_rounds (machine_of v) s r)
-  left_beside s r lt =
-      beside border_before to_the_right s r _ (before_inside (length v.items) s kept.some)
-      (left_needed v kept s r lt ∙ ap from_left (sym (named_is s r r refl)))
-
-  pub right_beside : (s r : ℕ) → s < length v.items
-      → to_the_left (segment_after_rounds (machine_of v) (segment_after (length (machine_of v).segments) s) r)
-      ≡ from_right (segment_after_rounds (machine_of v) s r)
-  right_beside s r lt =
-      beside segment_after to_the_left s r _ (after_inside (length v.items) s kept.some)
-      (right_needed v kept s r lt ∙ ap from_right (sym (named_is s r r refl)))
+  -- what the neighbours of a segment send in a round is what it needs
+  pub neighbours_send : (side : Side) (s r : ℕ) → s < length v.items
+      → sent_to side (segment_after_rounds (machine_of v) (sender_of (length (machine_of v).segments) s side) r)
+      ≡ needed_to side (segment_after_rounds (machine_of v) s r)
+  neighbours_send side s r lt =
+      ap (λ g. sent_to side (segment_after_rounds (machine_of v) (sender_of g s side) r)) (count_is v kept)
+      ∙ ap (sent_to side) (named_is (sender_of (length v.items) s side) r r refl)
+      ∙ is_needed v kept side s r lt
+      ∙ ap (needed_to side) (sym (named_is s r r refl))
 
 -- the left border of the next segment is the right border of a segment
 pub same_border : (m : Machine) (s : ℕ) → s < length m.segments →
     left_border m (segment_after (length m.segments) s) ≡ right_border m s
 same_border m s lt = ap (border_at m) (before_after (length m.segments) s lt)
+
+-- what came to segment s is what its neighbour, part b, has sent
+pub came_is :
+    (side : Side) (m : Machine) (s b : ℕ) (p : Progress) → s < length m.segments
+    → b ≡ sender_of (length m.segments) s side
+    → p.rightward ≡ length (right_border m b).rightward → p.leftward ≡ length (left_border m b).leftward
+    → sent_by p side ≡ came_to m s side
+came_is Rightward m s b p lt is rightward leftward = rightward ∙ ap (λ k. length (right_border m k).rightward) is
+came_is Leftward m s b p lt is rightward leftward =
+    leftward ∙ ap (λ k. length (left_border m k).leftward) is
+    ∙ ap (λ (border : BorderState). length border.leftward) (same_border m s lt)
 
 -- the registers that a segment lends are those of the machine
 pub rows_are :

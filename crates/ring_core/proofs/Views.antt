@@ -6,15 +6,15 @@ use Rattle.border_exchange.specs.declared.Side.{Side}
 use Rattle.border_exchange.specs.declared.Side.TheVariants.{Rightward, Leftward}
 use Rattle.node_program.specs.Node.{to_left, to_right}
 use Rattle.node_program.specs.Term.{ProgramTree}
-use Rattle.node_program.specs.GlobalRounds.{left_of, right_of, state}
+use Rattle.node_program.specs.GlobalRounds.{right_of, state}
 use Rattle.ring_segments.specs.Messages.{Heading, sent_under}
 use Rattle.ring_segments.specs.SegmentPlaces.{first_place}
 use Rattle.ring_segments.specs.Segments.{RingSegment, first_of, places_of, states_of}
-use Rattle.ring_segments.specs.Needs.{from_left, from_right}
+use Rattle.ring_segments.specs.Needs.{in_its_round}
 use Rattle.ring_core.specs.Machine.{SegmentState, BorderState, no_places, no_messages, segment_at, border_at, left_border, right_border, border_before, segment_after, first_state, last_state}
-use Rattle.ring_core.specs.Parts.{Progress, Parts, FitTogether, no_part, part_at, round_at, rightward_headings, leftward_headings, headings_of, segment_state, values_under, rightward_values, leftward_values, border_state, machine_of}
+use Rattle.ring_core.specs.Parts.{Progress, Parts, FitTogether, no_part, part_at, round_at, sent_to, needed_to, sender_of, rightward_headings, leftward_headings, headings_of, segment_state, values_under, rightward_values, leftward_values, border_state, machine_of}
 use Rattle.ring_segments.proofs.Places.{first_place-grows, first_place-inside}
-use Rattle.ring_core.proofs.Neighbours.{before_inside, after_inside, after_before, left_end, right_end}
+use Rattle.ring_core.proofs.Neighbours.{before_inside, sender_inside, after_before, left_end, right_end}
 
 -- the values of these headings
 pub values_size : (heading : ℕ → Heading) (count : ℕ) → length (values_under heading count) ≡ count
@@ -59,33 +59,31 @@ module _ (v : Parts) (kept : FitTogether v) where
       let end = first_place-inside (length v.ring.places) (length v.items) (s + 1) (omega arith) in
       omega arith
 
-  -- the messages of a part's neighbours are those that it needs
-  pub left_needed : (s r : ℕ) → s < length v.items
-      → rightward_headings (part_at v (border_before (length v.items) s)).segment r ≡ from_left (plain s r)
-  left_needed s r lt =
+  -- what a segment's neighbours send in a round is what it needs
+  pub is_needed : (side : Side) (s r : ℕ) → s < length v.items
+      → sent_to side (plain (sender_of (length v.items) s side) r) ≡ needed_to side (plain s r)
+  is_needed Rightward s r lt =
       let g = length v.items in
       let b = border_before g s in
       let up = first_place-grows (length v.ring.places) g b kept.some kept.few in
-      let place : first_of (plain b r) + places_of (plain b r) - 1 ≡ left_of v.ring.places (first_of (plain s r)) =
-      (let e : first_of (plain b r) + places_of (plain b r) - 1 ≡ first_place (length v.ring.places) g (b + 1) - 1 =
-      omega arith in e)
-      ∙ left_end v.ring.places g s lt kept.few in
-      ap (λ (a : RingSegment). rightward_headings a r) (kept.segments_are b (before_inside g s kept.some))
-      ∙ ap (λ i. record { plan = v.plan; ring = v.ring; place = i; side = Rightward; round = r }) place
-
-  pub right_needed : (s r : ℕ) → s < length v.items
-      → leftward_headings (part_at v (segment_after (length v.items) s)).segment r ≡ from_right (plain s r)
-  right_needed s r lt =
+      let end : first_of (plain b r) + places_of (plain b r) - 1 ≡ first_place (length v.ring.places) g (b + 1) - 1 =
+      omega arith in
+      ap (λ i. in_its_round (plain s r) i Rightward) (end ∙ left_end v.ring.places g s lt kept.few)
+  is_needed Leftward s r lt =
       let g = length v.items in
-      let b = segment_after g s in
       let up = first_place-grows (length v.ring.places) g s kept.some kept.few in
-      let place : first_of (plain b r) ≡ right_of v.ring.places (first_of (plain s r) + places_of (plain s r) - 1) =
-      right_end v.ring.places g s lt kept.few
-      ∙ ap (right_of v.ring.places)
-      (let e : first_place (length v.ring.places) g (s + 1) - 1 ≡ first_of (plain s r) + places_of (plain s r)
-      - 1 = omega arith in e) in
-      ap (λ (a : RingSegment). leftward_headings a r) (kept.segments_are b (after_inside g s kept.some))
-      ∙ ap (λ i. record { plan = v.plan; ring = v.ring; place = i; side = Leftward; round = r }) place
+      let end : first_place (length v.ring.places) g (s + 1) - 1 ≡ first_of (plain s r) + places_of (plain s r) - 1 =
+      omega arith in
+      ap (λ i. in_its_round (plain s r) i Leftward)
+      (right_end v.ring.places g s lt kept.few ∙ ap (right_of v.ring.places) end)
+
+  -- so are the messages of its neighbours' parts
+  pub part_needed : (side : Side) (s r : ℕ) → s < length v.items
+      → headings_of (part_at v (sender_of (length v.items) s side)).segment side r ≡ needed_to side (plain s r)
+  part_needed side s r lt =
+      let b = sender_of (length v.items) s side in
+      ap (λ (a : RingSegment). headings_of a side r) (kept.segments_are b (sender_inside (length v.items) s side kept.some))
+      ∙ is_needed side s r lt
 
   -- segments and borders of the machine
   pub count_is : length (machine_of v).segments ≡ length v.items

@@ -11,10 +11,10 @@ use Rattle.ring_segments.specs.declared.message.Msg.{Msg}
 use Rattle.ring_segments.specs.Messages.{Heading, sent_under}
 use Rattle.ring_segments.specs.Headings.{heading_of}
 use Rattle.ring_segments.specs.Segments.{RingSegment, states_of}
-use Rattle.ring_segments.specs.Needs.{to_the_right, to_the_left}
+use Rattle.ring_segments.specs.Needs.{from_left, from_right, to_the_right, to_the_left}
 use Rattle.ring_core.specs.declared.event.RingEvent.{RingEvent}
 use Rattle.ring_core.specs.declared.event.RingEvent.TheVariants.{SendRight, SendLeft}
-use Rattle.ring_core.specs.Machine.{SegmentState, BorderState, Machine, border_before, segment_after}
+use Rattle.ring_core.specs.Machine.{SegmentState, BorderState, Machine, left_border, right_border, border_before, segment_after}
 
 -- a segment, and the numbers of its messages to the right and to the left
 pub record Progress : Type 0 where
@@ -30,6 +30,25 @@ at_round a r = record a { round = r }
 abbrev pub AreInOrder : (ℕ → Heading) → List Msg → Type 0
 AreInOrder heading messages = (k : ℕ) (m : Msg) → slice_get messages k ≡ Some m → heading_of m ≡ heading k
 
+-- the message to a side that a segment sends, and that it needs
+abbrev pub sent_to : Side → RingSegment → Heading
+sent_to Rightward = to_the_right
+sent_to Leftward = to_the_left
+
+abbrev pub needed_to : Side → RingSegment → Heading
+needed_to Rightward = from_left
+needed_to Leftward = from_right
+
+-- the segment, of g, whose messages to a side come to segment s
+abbrev pub sender_of : ℕ → ℕ → Side → ℕ
+sender_of g s Rightward = border_before g s
+sender_of g s Leftward = segment_after g s
+
+-- the number of messages to a side that came to segment s
+abbrev pub came_to : Machine → ℕ → Side → ℕ
+came_to m s Rightward = length (left_border m s).rightward
+came_to m s Leftward = length (right_border m s).leftward
+
 -- the messages of a segment to the right in each round, and to the left
 abbrev pub rightward_headings : RingSegment → ℕ → Heading
 rightward_headings a r = to_the_right (at_round a r)
@@ -39,8 +58,7 @@ leftward_headings a r = to_the_left (at_round a r)
 
 -- its messages to a side
 abbrev pub headings_of : RingSegment → Side → ℕ → Heading
-headings_of a Rightward = rightward_headings a
-headings_of a Leftward = leftward_headings a
+headings_of a side r = sent_to side (at_round a r)
 
 -- the number of a part's messages to a side, and the part after one more
 abbrev pub sent_by : Progress → Side → ℕ

@@ -3,9 +3,9 @@ ghost use Rattle.std.specs.Prelude.{◌≡◌, ◌*◌, ◌^◌, ◌<◌, ◌≤
 ghost use Rattle.std.specs.List.{range_with_len};
 ghost use Rattle.round_eval.specs.Rows.{rows};
 ghost use Rattle.ring_segments.specs.Segments.{states_of};
-ghost use Rattle.ring_core.specs.Machine.{Steps, CanAdvance, segment_at, left_border, right_border, border_before, segment_after, opening as opening_of};
+ghost use Rattle.ring_core.specs.Machine.{Steps, CanAdvance, segment_at, left_border, right_border, opening as opening_of};
 ghost use Rattle.ring_core.specs.MachinePromises.{HasGlobalStates, HasGlobalMessages, AreNear, segment_after_rounds, sent_at, heading_at};
-ghost use Rattle.ring_core.specs.Parts.{CanBeCut, opening_part, sending};
+ghost use Rattle.ring_core.specs.Parts.{CanBeCut, opening_part, sending, came_to, needed_to, sender_of, sent_to};
 
 use crate::event::RingEvent;
 use crate::part::Part;
@@ -44,7 +44,7 @@ impl<'a> Model for World<'a> {
 
 impl<'a> World<'a> {
     ghost use Rattle.ring_segments.specs.Headings.{heading_of};
-    ghost use Rattle.ring_segments.specs.Needs.{from_left, from_right, to_the_left, to_the_right};
+    ghost use Rattle.ring_segments.specs.Needs.{from_left, from_right};
     ghost use Rattle.ring_segments.specs.Messages.{sent_under};
 
     // Returns the state before the first event.
@@ -95,47 +95,44 @@ impl<'a> World<'a> {
             return None;
         }
         let round = self.part(index).round();
-        let Some(left) = self.from_left(index, round) else {
+        let Some(left) = self.came(Side::Rightward, index, round) else {
             return None;
         };
-        let Some(right) = self.from_right(index, round) else {
+        let Some(right) = self.came(Side::Leftward, index, round) else {
             return None;
         };
         Some((left, right))
     }
 
-    // Returns the message that came to a segment from its left in a round, if any.
-    fn from_left(&self, index: usize, round: u32) -> Option<Msg<'a>>
+    // Returns the message to a side that came to a segment in a round, if any.
+    fn came(&self, side: Side, index: usize, round: u32) -> Option<Msg<'a>>
         requires { index < length self.now.segments }
-        ensures none { IfNone result (length (left_border self.now index).rightward ≤ round) }
-        ensures some { IfSome result (λ _. round < length (left_border self.now index).rightward) }
-        ensures needed { IfSome result (λ m. heading_of m ≡ from_left (segment_after_rounds self.now index round)) }
+        ensures none { IfNone result (came_to self.now index side ≤ round) }
+        ensures some { IfSome result (λ _. round < came_to self.now index side) }
+        ensures needed { IfSome result (λ m. heading_of m ≡ needed_to side (segment_after_rounds self.now index round)) }
     {
         self.neighbours();
-        let count = self.count();
-        self.part((index + count - 1) % count)
-            .sent_in(Side::Rightward, round)
+        let sender = self.sender(side, index);
+        self.part(sender).sent_in(side, round)
     }
 
-    // Returns the message that came to a segment from its right in a round, if any.
-    fn from_right(&self, index: usize, round: u32) -> Option<Msg<'a>>
+    // Returns the segment whose messages to a side come to a segment.
+    fn sender(&self, side: Side, index: usize) -> usize
         requires { index < length self.now.segments }
-        ensures none { IfNone result (length (right_border self.now index).leftward ≤ round) }
-        ensures some { IfSome result (λ _. round < length (right_border self.now index).leftward) }
-        ensures needed { IfSome result (λ m. heading_of m ≡ from_right (segment_after_rounds self.now index round)) }
+        ensures value { result ≡ sender_of (length self.now.segments) index side }
+        ensures within { result < length self.now.segments }
     {
-        self.neighbours();
         let count = self.count();
-        self.part((index + 1) % count)
-            .sent_in(Side::Leftward, round)
+        match side {
+            Side::Rightward => (index + count - 1) % count,
+            Side::Leftward => (index + 1) % count,
+        }
     }
 
     // Proves that what the neighbours of a segment send in a round is what it needs in that round.
     fn neighbours(&self)
-        ensures left { (s r : ℕ) → s < length self.now.segments
-            → to_the_right (segment_after_rounds self.now (border_before (length self.now.segments) s) r) ≡ from_left (segment_after_rounds self.now s r) }
-        ensures right { (s r : ℕ) → s < length self.now.segments
-            → to_the_left (segment_after_rounds self.now (segment_after (length self.now.segments) s) r) ≡ from_right (segment_after_rounds self.now s r) }
+        ensures { (side : Side) (s r : ℕ) → s < length self.now.segments
+            → sent_to side (segment_after_rounds self.now (sender_of (length self.now.segments) s side) r) ≡ needed_to side (segment_after_rounds self.now s r) }
     {
         // The proof takes the invariant of the parts from this loan.
         let _parts = &self.parts;
