@@ -1,14 +1,13 @@
 //! The lines of a table text.
 
 ghost use Rattle.std.specs.Prelude.{◌≡◌, ◌≢◌, ◌-◌, ◌<◌, ◌≤◌, ◌^◌, ℕ, List, [], ◌∷◌, ◌++◌, All, length, take, MatchOption, IfSome, IfNone};
-ghost use Rattle.node_program.specs.declared.limits.TheConstants.{MAX_CHANNELS};
 ghost use Rattle.win_index.specs.declared.limits.TheConstants.{MAX_IDS};
 ghost use Rattle.channel_tables.specs.declared.separation.Separation.{Separation};
 ghost use Rattle.table_text.specs.TableText.{title_then, counts_then, counts_end, distances_then, sizes_then, ids_then, end_then};
-ghost use Rattle.table_text.specs.Pieces.{piece_text, prefix_text, id_text, channel_text, AreTexts};
+ghost use Rattle.table_text.specs.Pieces.{piece_text, prefix_text, channel_text, AreTexts};
 ghost use Rattle.table_text.specs.LineForms.{HasTitle, AreSizes, IsSeparationOf, HasSizes, IsEntry, HasEntry, HasEnd};
 ghost use Rattle.table_text.specs.LinePrefixes.{IsLine};
-ghost use Rattle.table_text.specs.Odometers.{IsOdometer, window_of};
+ghost use Rattle.table_text.specs.Odometers.{HasPieces, window_of};
 
 use crate::line_prefix::LinePrefix;
 use crate::numbers::numbers_in;
@@ -257,9 +256,7 @@ fn known_channel<'a>(ends: &[Piece], text: &'a [u8]) -> Option<(u32, &'a [u8])>
 // Returns the channel of the first line and the text after the line, if the line is that of the
 // odometer's window, and that is seen at once from the pieces that are written for it.
 fn known_line<'a>(odometer: &Odometer, pieces: &Pieces, text: &'a [u8]) -> Option<(u32, &'a [u8])>
-    requires odometer { IsOdometer odometer.now × (odometer.now.ids ≡ length pieces.now.ids.items) }
-    requires texts { AreTexts id_text pieces.now.ids.items × AreTexts channel_text pieces.now.channels.items }
-    requires few { length pieces.now.channels.items ≤ MAX_CHANNELS }
+    requires { HasPieces odometer.now pieces.now }
     ensures { IfSome result (λ read. IsEntry (length (window_of odometer.now)) text.entry.now (window_of odometer.now) read.0 read.1.now) }
 {
     let ids: &[Piece] = &pieces.ids;
@@ -271,9 +268,7 @@ fn known_line<'a>(odometer: &Odometer, pieces: &Pieces, text: &'a [u8]) -> Optio
 // Classifies the first line of the text, where the line of the odometer's window is expected. The
 // line is compared with the pieces that are written for it, and read only if it differs.
 pub(crate) fn line_at<'a>(odometer: &Odometer, pieces: &Pieces, text: &'a [u8]) -> Line<'a>
-    requires odometer { IsOdometer odometer.now × (odometer.now.ids ≡ length pieces.now.ids.items) }
-    requires texts { AreTexts id_text pieces.now.ids.items × AreTexts channel_text pieces.now.channels.items }
-    requires few { length pieces.now.channels.items ≤ MAX_CHANNELS }
+    requires { HasPieces odometer.now pieces.now }
     ensures { IsLine (window_of odometer.now) text.entry.now result }
 {
     if let Some((channel, rest)) = known_line(odometer, pieces, text) {
