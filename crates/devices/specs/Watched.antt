@@ -1,5 +1,7 @@
 -- A reader or a writer with the count of its calls, and a note of a failed one.
-use Rattle.std.specs.Prelude.{◌≡◌, ℕ, Bool, true, Result, MatchResult}
+use Rattle.std.specs.Prelude.{◌≡◌, ℕ, ◌+◌, ◌-◌, ◌^◌, min, ◌↔◌, Bool, true, Result, IfErr, IsErrOf, IsTrue, MatchResult}
+use Rattle.devices.specs.declared.fault.EngineFault.{EngineFault}
+use Rattle.devices.specs.declared.fault.EngineFault.TheVariants.{Write}
 use Rattle.devices.specs.declared.watched.Watched.{Watched}
 
 -- the reader or the writer itself
@@ -17,3 +19,14 @@ calls_of watched = watched.calls
 -- a failed call is noted, and any other leaves the note as it was
 abbrev pub Notes : {T E : Type 0} → Result T E → Bool → Bool → Type 0
 Notes result old new = MatchResult result (λ _. new ≡ old) (λ _. new ≡ true)
+
+-- a call of the device: it is counted, and if it fails, its fault is this one, and it is noted
+pub record IsCall {D T : Type 0} (fault : EngineFault) (old new : Watched D) (result : Result T EngineFault) : Type 0 where
+  pub fault_is : IfErr result (λ f. f ≡ fault)
+  pub noted : Notes result (has_failed old) (has_failed new)
+  pub counted : calls_of new ≡ min (calls_of old + 1) (2 ^ 64 - 1)
+
+-- the only fault is a failed write, and a write failed exactly if there is a fault
+pub record FailsByWrites {T : Type 0} (result : Result T EngineFault) (failed : Bool) : Type 0 where
+  pub fault_is : IfErr result (λ fault. fault ≡ Write)
+  pub failed_is : IsErrOf result Write ↔ IsTrue failed

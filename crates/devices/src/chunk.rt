@@ -1,9 +1,9 @@
 //! A buffer that collects bytes, so that they are written in large pieces.
 
-ghost use Rattle.std.specs.Prelude.{◌≡◌, ◌+◌, ◌≤◌, ◌++◌, ◌↔◌, ℕ, [], false, IsTrue, length, take, IfOk, IfErr, OnOk, OnErr, IsErrOf};
+ghost use Rattle.std.specs.Prelude.{◌≡◌, ◌+◌, ◌≤◌, ◌++◌, ℕ, [], false, length, take, IfOk, OnOk, OnErr};
 ghost use Rattle.std.specs.Io.KnownBytes.{Appends};
 ghost use Rattle.devices.specs.Output.{AppendsFront, IsWrittenSoFar};
-ghost use Rattle.devices.specs.Watched.{device_of, has_failed};
+ghost use Rattle.devices.specs.Watched.{device_of, has_failed, FailsByWrites};
 
 use crate::fault::EngineFault;
 use crate::output::send;
@@ -74,8 +74,7 @@ impl Chunk {
         ensures err { OnErr result (AppendsFront (W.contents (device_of writer.old))
             (W.contents (device_of writer.new)) self.old) }
         ensures kept { OnErr result (self.new ≡ self.old) }
-        ensures fault { IfErr result (λ fault. fault ≡ EngineFault.Write) }
-        ensures failed { IsErrOf result EngineFault.Write ↔ IsTrue (has_failed writer.new) }
+        ensures fault { FailsByWrites result (has_failed writer.new) }
     {
         let filled = self.filled;
         send(writer, &self.bytes[..filled])?;
@@ -98,8 +97,7 @@ impl Chunk {
         ensures err { OnErr result (AppendsFront (W.contents (device_of writer.old))
             (W.contents (device_of writer.new)) self.old) }
         ensures kept { OnErr result (self.new ≡ self.old) }
-        ensures fault { IfErr result (λ fault. fault ≡ EngineFault.Write) }
-        ensures failed { IsErrOf result EngineFault.Write ↔ IsTrue (has_failed writer.new) }
+        ensures fault { FailsByWrites result (has_failed writer.new) }
     {
         if CHUNK_LEN - self.filled < room {
             self.send(writer)?;

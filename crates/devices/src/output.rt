@@ -1,9 +1,9 @@
 //! Writing the report.
 
-ghost use Rattle.std.specs.Prelude.{◌≡◌, ◌↔◌, false, IsTrue, IfErr, OnOk, OnErr, IsErrOf};
+ghost use Rattle.std.specs.Prelude.{◌≡◌, false, OnOk, OnErr};
 ghost use Rattle.std.specs.Io.KnownBytes.{Appends};
 ghost use Rattle.devices.specs.Output.{AppendsFront};
-ghost use Rattle.devices.specs.Watched.{device_of, has_failed};
+ghost use Rattle.devices.specs.Watched.{device_of, has_failed, FailsByWrites};
 
 use crate::fault::EngineFault;
 use crate::watched::Watched;
@@ -19,8 +19,7 @@ pub fn send<W: Write>(writer: &mut Watched<W>, bytes: &[u8]) -> Result<(), Engin
         (W.contents (device_of writer.new)) bytes.now) }
     ensures err { OnErr result (AppendsFront (W.contents (device_of writer.old))
         (W.contents (device_of writer.new)) bytes.now) }
-    ensures fault { IfErr result (λ fault. fault ≡ EngineFault.Write) }
-    ensures failed { IsErrOf result EngineFault.Write ↔ IsTrue (has_failed writer.new) }
+    ensures fault { FailsByWrites result (has_failed writer.new) }
 {
     let mut sent = 0;
     while sent < bytes.len() {

@@ -1,9 +1,9 @@
 //! Readers and writers that count their calls and note a failed one.
 
-ghost use Rattle.std.specs.Prelude.{◌≡◌, ◌+◌, ◌<◌, false, length, min, IfOk, IfErr};
+ghost use Rattle.std.specs.Prelude.{◌≡◌, ◌<◌, false, length, IfOk};
 ghost use Rattle.std.specs.Io.{ReadsAtMost, WritesAtMost};
 ghost use Rattle.std.specs.Io.KnownBytes.{ReadConsumes, WriteAppends};
-ghost use Rattle.devices.specs.Watched.{device_of, has_failed, calls_of, Notes};
+ghost use Rattle.devices.specs.Watched.{device_of, has_failed, calls_of, IsCall};
 
 use crate::fault::EngineFault;
 use std::io::{Read, Write};
@@ -67,9 +67,7 @@ impl<R: Read> Watched<R> {
         ensures bound { ReadsAtMost result buffer.new }
         ensures bytes { ReadConsumes (R.remaining (device_of self.old))
             (R.remaining (device_of self.new)) result buffer.new }
-        ensures fault { IfErr result (λ fault. fault ≡ EngineFault.Read) }
-        ensures noted { Notes result (has_failed self.old) (has_failed self.new) }
-        ensures counted { calls_of self.new ≡ min (calls_of self.old + 1) usize.MAX }
+        ensures call { IsCall EngineFault.Read self.old self.new result }
     {
         self.calls = self.calls.saturating_add(1);
         match self.device.read(buffer) {
@@ -94,9 +92,7 @@ impl<W: Write> Watched<W> {
         ensures some { IfOk result (λ taken. 0 < length bytes.now → 0 < taken) }
         ensures bytes { WriteAppends (W.contents (device_of self.old))
             (W.contents (device_of self.new)) result bytes.now }
-        ensures fault { IfErr result (λ fault. fault ≡ EngineFault.Write) }
-        ensures noted { Notes result (has_failed self.old) (has_failed self.new) }
-        ensures counted { calls_of self.new ≡ min (calls_of self.old + 1) usize.MAX }
+        ensures call { IsCall EngineFault.Write self.old self.new result }
     {
         self.calls = self.calls.saturating_add(1);
         match self.device.write(bytes) {

@@ -1,11 +1,11 @@
 //! Writing the text of a formula.
 
-ghost use Rattle.std.specs.Prelude.{◌≡◌, ◌↔◌, ◌+◌, ◌<◌, ◌≤◌, ◌++◌, ◌∷◌, [], drop, false, IsTrue, length, IfErr, OnOk, OnErr, IsErrOf};
+ghost use Rattle.std.specs.Prelude.{◌≡◌, ◌+◌, ◌<◌, ◌≤◌, ◌++◌, ◌∷◌, [], drop, false, length, OnOk, OnErr};
 ghost use Rattle.std.specs.Fmt.{decimal};
-ghost use Rattle.std.specs.Io.KnownBytes.{Appends, Keeps};
+ghost use Rattle.std.specs.Io.KnownBytes.{Appends};
 ghost use Rattle.devices.specs.declared.chunk.TheConstants.{CHUNK_LEN};
-ghost use Rattle.devices.specs.Output.{AppendsFront, IsWrittenSoFar};
-ghost use Rattle.devices.specs.Watched.{device_of, has_failed};
+ghost use Rattle.devices.specs.Output.{AppendsFront, IsWrittenSoFar, WritesText};
+ghost use Rattle.devices.specs.Watched.{device_of, has_failed, FailsByWrites};
 ghost use Rattle.table_formula.specs.Formula.{formula as clauses_of, longest_len};
 ghost use Rattle.table_formula.specs.Texts.{literal_text, clause_text, head_text, formula_text};
 
@@ -33,12 +33,7 @@ pub fn write_formula<W: Write>(
     writer: &mut Watched<W>,
 ) -> Result<(), OutFault>
     requires { has_failed writer.old ≡ false }
-    ensures ok { OnOk result (Appends (W.contents (device_of writer.old))
-        (W.contents (device_of writer.new)) (formula_text formula.now)) }
-    ensures front { IsErrOf result OutFault.Write → AppendsFront (W.contents (device_of writer.old))
-        (W.contents (device_of writer.new)) (formula_text formula.now) }
-    ensures no_memory { IsErrOf result OutFault.Memory → Keeps (W.contents (device_of writer.old)) (W.contents (device_of writer.new)) }
-    ensures failed { IsErrOf result OutFault.Write ↔ IsTrue (has_failed writer.new) }
+    ensures { WritesText (formula_text formula.now) (W.contents (device_of writer.old)) (W.contents (device_of writer.new)) (has_failed writer.new) result }
 {
     let mut clause = vec![in alloc; Literal::new(0, true); formula.longest_clause()]?;
     let mut chunk = Chunk::new(alloc)?;
@@ -85,8 +80,7 @@ fn write_clauses<W: Write>(
         (W.contents (device_of writer.new)) (formula_text formula.now)) }
     ensures err { OnErr result (AppendsFront (W.contents (device_of writer.old))
         (W.contents (device_of writer.new)) (formula_text formula.now)) }
-    ensures fault { IfErr result (λ fault. fault ≡ EngineFault.Write) }
-    ensures failed { IsErrOf result EngineFault.Write ↔ IsTrue (has_failed writer.new) }
+    ensures fault { FailsByWrites result (has_failed writer.new) }
 {
     for index in 0..formula.count() {
         let len = formula.write_clause(index, clause);
@@ -106,8 +100,7 @@ fn write_clause<W: Write>(
         chunk.new (chunk.old ++ clause_text clause.now)) }
     ensures err { OnErr result (AppendsFront (W.contents (device_of writer.old))
         (W.contents (device_of writer.new)) (chunk.old ++ clause_text clause.now)) }
-    ensures fault { IfErr result (λ fault. fault ≡ EngineFault.Write) }
-    ensures failed { IsErrOf result EngineFault.Write ↔ IsTrue (has_failed writer.new) }
+    ensures fault { FailsByWrites result (has_failed writer.new) }
 {
     for l in clause {
         chunk.make_room(LITERAL_LEN, writer)?;

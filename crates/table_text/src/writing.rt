@@ -1,10 +1,10 @@
 //! Writing the text of a table.
 
-ghost use Rattle.std.specs.Prelude.{◌≡◌, ◌↔◌, ℕ, ◌+◌, ◌*◌, ◌<◌, ◌≤◌, ◌++◌, [], false, IsTrue, length, take, slice_get, Some, IfOk, IfErr, OnOk, OnErr, IsErrOf, string_bytes};
-ghost use Rattle.std.specs.Io.KnownBytes.{Appends, Keeps};
+ghost use Rattle.std.specs.Prelude.{◌≡◌, ℕ, ◌+◌, ◌*◌, ◌<◌, ◌≤◌, ◌++◌, [], false, length, take, slice_get, Some, IfOk, OnOk, OnErr, string_bytes};
+ghost use Rattle.std.specs.Io.KnownBytes.{Appends};
 ghost use Rattle.devices.specs.declared.chunk.TheConstants.{CHUNK_LEN};
-ghost use Rattle.devices.specs.Output.{AppendsFront};
-ghost use Rattle.devices.specs.Watched.{device_of, has_failed};
+ghost use Rattle.devices.specs.Output.{AppendsFront, WritesText};
+ghost use Rattle.devices.specs.Watched.{device_of, has_failed, FailsByWrites};
 ghost use Rattle.win_index.specs.Windows.{windows, IsWindow};
 ghost use Rattle.channel_tables.specs.declared.separation.Separation.{Separation};
 ghost use Rattle.table_text.specs.declared.version.Version.TheVariants.{Two};
@@ -42,12 +42,7 @@ pub fn write_table<W: Write>(
 ) -> Result<(), OutFault>
     requires separation { IsSeparation separation }
     requires writes { has_failed writer.old ≡ false }
-    ensures ok { OnOk result (Appends (W.contents (device_of writer.old))
-        (W.contents (device_of writer.new)) (table_text table.now separation)) }
-    ensures front { IsErrOf result OutFault.Write → AppendsFront (W.contents (device_of writer.old))
-        (W.contents (device_of writer.new)) (table_text table.now separation) }
-    ensures no_memory { IsErrOf result OutFault.Memory → Keeps (W.contents (device_of writer.old)) (W.contents (device_of writer.new)) }
-    ensures failed { IsErrOf result OutFault.Write ↔ IsTrue (has_failed writer.new) }
+    ensures { WritesText (table_text table.now separation) (W.contents (device_of writer.old)) (W.contents (device_of writer.new)) (has_failed writer.new) result }
 {
     let text = first_lines(alloc, table, separation)?;
     let pieces = pieces_of(alloc, table.shape().ids(), table.channels())?;
@@ -91,8 +86,7 @@ fn write_lines<W: Write>(
         (W.contents (device_of writer.new)) (table_text table.now separation)) }
     ensures err { OnErr result (AppendsFront (W.contents (device_of writer.old))
         (W.contents (device_of writer.new)) (table_text table.now separation)) }
-    ensures fault { IfErr result (λ fault. fault ≡ EngineFault.Write) }
-    ensures failed { IsErrOf result EngineFault.Write ↔ IsTrue (has_failed writer.new) }
+    ensures fault { FailsByWrites result (has_failed writer.new) }
 {
     let shape = table.shape();
     let level = shape.rounds();
