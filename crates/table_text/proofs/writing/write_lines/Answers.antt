@@ -25,6 +25,11 @@ use Rattle.table_text.proofs.writing.write_lines.Goals as goal
 le_same : {a b : ℕ} → a ≡ b → a ≤ b
 le_same same = omega arith
 
+-- as many windows are counted as the table has
+counted : (t : ChannelTable) (level ids count : ℕ) → level ≡ t.rounds → ids ≡ t.ids
+    → count ≡ length (windows (2 * level + 1) ids) → count ≡ length (windows_of t)
+counted t level ids count level_is ids_is is = is ∙ (λ i. length (windows (2 * level_is i + 1) (ids_is i)))
+
 below_count : (n count windows entries : ℕ) → n < count → count ≡ windows → entries ≡ windows → n < entries
 below_count n count windows entries lt count_is full = omega arith
 
@@ -53,19 +58,16 @@ pub entry-requires : goal.entry-requires
 entry-requires g c =
     let t = c.args.table.now in
     let shape = c.shape-shape.ensures in
-    let level_is : c.rounds-level.result ≡ t.rounds = c.rounds-level.ensures ∙ shape.rounds in
-    below_count c.loop-number.number c.count-count.result (length (windows_of t)) (length t.entries)
-    c.loop-number-test.true
-    (c.count-count.ensures.value ∙ (λ i. length (windows (2 * level_is i + 1) (shape.ids i)))) shape.table.size
+    let count_is = counted t _ _ _ (c.rounds-level.ensures ∙ shape.rounds) shape.ids c.count-count.ensures.value in
+    below_count c.loop-number.number _ _ (length t.entries) c.loop-number-test.true count_is shape.table.size
 
 pub store_entry-requires-clause-channel : goal.store_entry-requires-clause-channel
 store_entry-requires-clause-channel g c =
     let t = c.args.table.now in
     let shape = c.shape-shape.ensures in
-    let level_is : c.rounds-level.result ≡ t.rounds = c.rounds-level.ensures ∙ shape.rounds in
-    let within = below_count c.loop-number.number c.count-count.result (length (windows_of t)) (length t.entries)
-    c.loop-number-test.true
-    (c.count-count.ensures.value ∙ (λ i. length (windows (2 * level_is i + 1) (shape.ids i)))) shape.table.size in
+    let count_is = counted t _ _ _ (c.rounds-level.ensures ∙ shape.rounds) shape.ids c.count-count.ensures.value in
+    let within = below_count c.loop-number.number _ _ (length t.entries) c.loop-number-test.true count_is
+    shape.table.size in
     rw (c.requires.pieces.all_channels, c.entry.ensures.value) (shape.table.begun.below c.loop-number.number 0 within)
 
 -- One more line is in the chunk.
@@ -75,9 +77,8 @@ loop-number-preserved g c =
     let n = c.loop-number.number in
     let shape = c.shape-shape.ensures in
     let inv = c.loop-number.invariant in
-    let level : c.rounds-level.result ≡ t.rounds = c.rounds-level.ensures ∙ shape.rounds in
-    let count : c.count-count.result ≡ length (windows_of t) = c.count-count.ensures.value
-    ∙ (λ i. length (windows (2 * level i + 1) (shape.ids i))) in
+    let count : c.count-count.result ≡ length (windows_of t) =
+    counted t _ _ _ (c.rounds-level.ensures ∙ shape.rounds) shape.ids c.count-count.ensures.value in
     let within : n < length (windows_of t) = rw (← count) c.loop-number-test.true in
     let odometer = c.loop-number.odometer in
     let window = window_of odometer in
@@ -129,10 +130,9 @@ module _ (g : Over) (c : After-send g) where
   told =
       let t = c.args.table.now in
       let shape = c.shape-shape.ensures in
-      let level_is : c.rounds-level.result ≡ t.rounds = c.rounds-level.ensures ∙ shape.rounds in
-      let all = all_lines c.loop-number.number c.count-count.result (length (windows_of t)) (length t.entries)
-      c.loop-number-test.false
-      (c.count-count.ensures.value ∙ (λ i. length (windows (2 * level_is i + 1) (shape.ids i)))) shape.table.size in
+      let count_is = counted t _ _ _ (c.rounds-level.ensures ∙ shape.rounds) shape.ids c.count-count.ensures.value in
+      let all = all_lines c.loop-number.number _ _ (length t.entries) c.loop-number-test.false count_is
+      shape.table.size in
       let lines = all_told t c.args.separation _ _ c.loop-number.chunk c.loop-number.number all
       c.loop-number.invariant.told in
       let moved = tells_moved _ _ _ c.loop-number.chunk _ _ lines c.in_ok-make_room-2.ensures.ok in
