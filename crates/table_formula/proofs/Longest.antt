@@ -1,5 +1,5 @@
 -- The number of literals of the longest clause.
-use Rattle.std.proofs.Common.{◌≡◌, ℕ, zero, suc, ◌<◌, ◌≤◌, List, [], ◌∷◌, ◌++◌, map, All, length, get_or, slice_get, Some, max, refl, ap, ◌∙◌, arith, length-append}
+use Rattle.std.proofs.Common.{◌≡◌, ℕ, zero, suc, ◌+◌, ◌<◌, ◌≤◌, List, [], ◌∷◌, ◌++◌, map, All, length, get_or, slice_get, Some, max, refl, ap, ◌∙◌, arith, length-append}
 use Rattle.std.specs.List.{range_with_len, flat_map}
 use Rattle.std.proofs.lemmas.List.FromFn.{length-map-range_with_len}
 use Rattle.std.proofs.lemmas.List.Elements.{All-head, All-tail, All-map}
@@ -78,25 +78,27 @@ windows_longest p some =
     longest_any p.channels (map (some_channel p) windows) (windows_same p windows)
     (omega (arith, length-map-range_with_len (some_channel p) 0 (length (windows_of p))))
 
+-- the formula's clauses are those of windows and those of tuples
+longest_parts : (p : Problem) → longest_len (formula p) ≡ max (longest_len (of_windows p)) (longest_len (of_tuples p))
+unfolding formula
+longest_parts p = longest_append (of_windows p) (of_tuples p)
+
+length_parts : (p : Problem) → length (formula p) ≡ length (windows_of p) + length (of_tuples p)
+unfolding formula
+length_parts p =
+    length-append (of_windows p) (of_tuples p) ∙ ap (λ n. n + length (of_tuples p)) (as_many_as_windows p)
+
 -- a formula with clauses of windows only
 pub longest_without : (p : Problem) → 0 < length (windows_of p) → length (formula p) ≤ length (windows_of p) →
     longest_len (formula p) ≡ max 1 p.channels
-unfolding formula
 longest_without p some few =
-    let front = of_windows p in
-    let back = of_tuples p in
-    let size = as_many_as_windows p in
-    let none : length back ≡ 0 = omega (arith, few, length-append front back) in
-    longest_append front back ∙ omega (arith, windows_longest p some, longest_none back none)
+    let none : length (of_tuples p) ≡ 0 = omega (arith, few, length_parts p) in
+    longest_parts p ∙ omega (arith, windows_longest p some, longest_none (of_tuples p) none)
 
 -- a formula with a clause of a tuple
 pub longest_with : (p : Problem) → 0 < length (windows_of p) → length (windows_of p) < length (formula p) →
     longest_len (formula p) ≡ max 2 p.channels
-unfolding formula
 longest_with p some more =
-    let front = of_windows p in
-    let back = of_tuples p in
-    let size = as_many_as_windows p in
-    let within : 0 < length back = omega (arith, more, length-append front back) in
-    longest_append front back
-    ∙ omega (arith, windows_longest p some, longest_same 2 back (omega arith) (tuples_same p) within)
+    let within : 0 < length (of_tuples p) = omega (arith, more, length_parts p) in
+    longest_parts p
+    ∙ omega (arith, windows_longest p some, longest_same 2 (of_tuples p) (omega arith) (tuples_same p) within)
