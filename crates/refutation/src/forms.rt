@@ -8,7 +8,7 @@ ghost use Rattle.refutation.specs.Forms.{line_of};
 ghost use Rattle.clause_check.specs.declared.literal.Literal.{Literal as Lit};
 
 use crate::parts::Parts;
-use crate::words::{is_end, literal_in, number_in};
+use crate::words::{Spelled, is_end, number_in};
 use clause_check::Literal;
 use std::alloc::AllocError;
 
@@ -41,38 +41,20 @@ fn is_d(word: &[u8]) -> bool
     }
 }
 
-// Reads the numbers of a list. Returns whether they are followed by a word that ends the list.
-fn read_numbers(words: &mut Parts, numbers: &mut Vec<u64>) -> Result<bool, AllocError>
-    ensures { IfOk result (λ is_list. said.list_in spelled.number_in (remaining_parts words.old)
-        ≡ (if is_list then Some (numbers.new.items, remaining_parts words.new) else None)) }
+// Reads the items of a list. Returns whether they are followed by a word that ends the list.
+fn read_list<T: Spelled>(words: &mut Parts, items: &mut Vec<T>) -> Result<bool, AllocError>
+    ensures { IfOk result (λ is_list. said.list_in T.item_in (remaining_parts words.old)
+        ≡ (if is_list then Some (items.new.items, remaining_parts words.new) else None)) }
 {
-    numbers.clear();
+    items.clear();
     while let Some(word) = words.next() {
         if is_end(word) {
             return Ok(true);
         }
-        let Some(number) = number_in(word) else {
+        let Some(item) = T::of_word(word) else {
             return Ok(false);
         };
-        numbers.push(number)?;
-    }
-    Ok(false)
-}
-
-// Reads the literals of a list. Returns whether they are followed by a word that ends the list.
-fn read_literals(words: &mut Parts, clause: &mut Vec<Literal>) -> Result<bool, AllocError>
-    ensures { IfOk result (λ is_list. said.list_in spelled.literal_in (remaining_parts words.old)
-        ≡ (if is_list then Some (clause.new.items, remaining_parts words.new) else None)) }
-{
-    clause.clear();
-    while let Some(word) = words.next() {
-        if is_end(word) {
-            return Ok(true);
-        }
-        let Some(l) = literal_in(word) else {
-            return Ok(false);
-        };
-        clause.push(l)?;
+        items.push(item)?;
     }
     Ok(false)
 }
@@ -82,7 +64,7 @@ fn read_all_numbers(words: Parts, numbers: &mut Vec<u64>) -> Result<bool, AllocE
     ensures { IfOk result (λ is_list. said.numbers_in (remaining_parts words.entry) ≡ (if is_list then Some numbers.new.items else None)) }
 {
     let mut rest = words;
-    let is_list = read_numbers(&mut rest, numbers)?;
+    let is_list = read_list(&mut rest, numbers)?;
     Ok(is_list && rest.next().is_none())
 }
 
@@ -145,7 +127,7 @@ fn read_addition(
     ensures { IfOk result (λ form. said.addition_of number (said.list_in spelled.literal_in (remaining_parts words.entry)) ≡ line_of form clause.new.items numbers.new.items) }
 {
     let mut rest = words;
-    if read_literals(&mut rest, clause)? && read_all_numbers(rest, numbers)? {
+    if read_list(&mut rest, clause)? && read_all_numbers(rest, numbers)? {
         Ok(Form::Addition(number))
     } else {
         Ok(Form::Malformed)

@@ -1,11 +1,37 @@
 //! Numbers and literals in words.
-ghost use Rattle.std.specs.Prelude.{◌≡◌, ◌+◌, ◌*◌, ◌^◌, ◌<◌, ◌==◌, true};
+ghost use Rattle.std.specs.Prelude.{◌≡◌, ◌+◌, ◌*◌, ◌^◌, ◌<◌, ◌==◌, ℕ, List, Option, true};
 ghost use Rattle.std.specs.Char.{digit_value, is_ascii_digit};
 ghost use Rattle.std.specs.List.{list_all};
 ghost use Rattle.std.specs.Option.{SomeIff};
 ghost use Rattle.refutation.specs.Words as spelled;
 
 use clause_check::Literal;
+
+/// An item of a list, which a word spells.
+pub(crate) trait Spelled: Copy {
+    /// The item that a word spells, if it spells one.
+    ghost item_in: { List ℕ → Option Self };
+
+    /// Returns the item that a word spells.
+    fn of_word(word: &[u8]) -> Option<Self>
+        ensures { result ≡ item_in word.now };
+}
+
+impl Spelled for u64 {
+    ghost item_in = { spelled.number_in };
+
+    fn of_word(word: &[u8]) -> Option<u64> {
+        number_in(word)
+    }
+}
+
+impl Spelled for Literal {
+    ghost item_in = { spelled.literal_in };
+
+    fn of_word(word: &[u8]) -> Option<Literal> {
+        literal_in(word)
+    }
+}
 
 /// Returns the number that a word spells in decimal digits.
 pub(crate) fn number_in(word: &[u8]) -> Option<u64>
@@ -31,8 +57,8 @@ fn push_digit(value: u64, byte: u8) -> Option<u64>
     value.checked_mul(10)?.checked_add(u64::from(byte - b'0'))
 }
 
-/// Returns the literal that a word spells: a number, with a minus in front for a negation.
-pub(crate) fn literal_in(word: &[u8]) -> Option<Literal>
+// Returns the literal that a word spells: a number, with a minus in front for a negation.
+fn literal_in(word: &[u8]) -> Option<Literal>
     ensures { result ≡ spelled.literal_in word.now }
 {
     match word {
