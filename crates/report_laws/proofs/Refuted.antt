@@ -41,37 +41,35 @@ enough_for_fewer : (few t ids a b : ℕ) → few ≤ t → (a ≡ b) ⊎ (2 * t 
 enough_for_fewer few t ids a b fewer (inl same) = inl same
 enough_for_fewer few t ids a b fewer (inr enough) = inr (omega (arith, enough))
 
-module _ (sound : RefutationsAreSound) (less : LessIsApart) (number : NumberOfWindow) (item : WindowOfNumber)
-    (have : WindowsHaveNumbers)
-    (rings : RingsHaveWindows) (count : CountOfWindows) (arcs : LengthOfArcs) (items : ItemsOfArcs) where
-  pub no_table : NoTableIfRefuted
-  no_table m t channels s own table is keeps more rounds few asks are =
-      let known = impossible sound (problem m t channels s.near s.far) is.input is.report is.is_report is.done in
-      let enough = enough_for_fewer table.rounds t table.ids (extra s) (extra own) rounds asks.rings in
-      known.0 (seen_table table m t) (record {
-        table = seen_is_table count table m t keeps known.1;
-        ids = refl;
-        rounds = refl;
-        channels = few;
-        apart =
-            seen_is_apart arcs items number item have rings table m t s more rounds
-            (less table own s asks.near_more asks.far_more enough are);
-      })
+pub no_table : RefutationsAreSound → LessIsApart → NumberOfWindow → WindowOfNumber → WindowsHaveNumbers
+    → RingsHaveWindows → CountOfWindows → LengthOfArcs → ItemsOfArcs → NoTableIfRefuted
+no_table sound less number item have rings count arcs items m t channels s own table is keeps more rounds few asks are =
+    let known = impossible sound (problem m t channels s.near s.far) is.input is.report is.is_report is.done in
+    let enough = enough_for_fewer table.rounds t table.ids (extra s) (extra own) rounds asks.rings in
+    known.0 (seen_table table m t) (record {
+      table = seen_is_table count table m t keeps known.1;
+      ids = refl;
+      rounds = refl;
+      channels = few;
+      apart =
+          seen_is_apart arcs items number item have rings table m t s more rounds
+          (less table own s asks.near_more asks.far_more enough are);
+    })
 
-  pub no_program : OneReading → AcceptedProgramsHaveNoRefusal → ApartTablesHaveNoWitness
-      → ProgramTablesAreTables → ProgramTablesAreApart
-      → ((t : ChannelTable) (s : Separation) → JudgeAnswer t s) → NoProgramIfRefuted
-  unfolding table_of
-  no_program one_reading no_refusal no_witness tables apart_tables judged m t channels ids s own text p is accepted
-      more rounds few asks =
-      let none : ¬ IsApartEverywhere (table_of p ids) own =
-      no_table m t channels s own (table_of p ids) is (tables p ids accepted.0.limits accepted.1) more
-      rounds few asks in
-      record {
-        rounds = λ are. none ((apart_tables p ids own).1 are);
-        ring = fails (table_of p ids) own none (judged (table_of p ids) own);
-        judged =
-            λ workers r report. (judge_tells one_reading no_refusal no_witness apart_tables ids workers own.near own.far
-            text p r accepted report).1.1
-            (λ are. none ((apart_tables p ids own).1 are));
-      }
+pub no_program : NoTableIfRefuted → OneReading → AcceptedProgramsHaveNoRefusal → ApartTablesHaveNoWitness
+    → ProgramTablesAreTables → ProgramTablesAreApart
+    → ((t : ChannelTable) (s : Separation) → JudgeAnswer t s) → NoProgramIfRefuted
+unfolding table_of
+no_program refuted_has_none one_reading no_refusal no_witness tables apart_tables judged m t channels ids s own text p is accepted
+    more rounds few asks =
+    let none : ¬ IsApartEverywhere (table_of p ids) own =
+    refuted_has_none m t channels s own (table_of p ids) is (tables p ids accepted.0.limits accepted.1) more
+    rounds few asks in
+    record {
+      rounds = λ are. none ((apart_tables p ids own).1 are);
+      ring = fails (table_of p ids) own none (judged (table_of p ids) own);
+      judged =
+          λ workers r report. (judge_tells one_reading no_refusal no_witness apart_tables ids workers own.near own.far
+          text p r accepted report).1.1
+          (λ are. none ((apart_tables p ids own).1 are));
+    }
