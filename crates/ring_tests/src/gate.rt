@@ -86,6 +86,18 @@ struct Seen {
     rounds: [u64; 2],
 }
 
+impl Seen {
+    // Returns what is seen if both segments enter so often each, with rounds of this sum.
+    fn of_both(times: u64, rounds: u64) -> Seen {
+        Seen {
+            late: false,
+            entered: 2,
+            times: [times; 2],
+            rounds: [rounds; 2],
+        }
+    }
+}
+
 // Runs a ring in two segments that meet. Returns its channels, and what the gate saw.
 fn seen_by_two<R: Threads + Wait + Sync>(
     rt: &R,
@@ -104,13 +116,7 @@ fn two_segments_run_at_once(rt: HostRuntime) -> Result<(), Fail> {
     let plan = plan_of(rt.alloc(), CV1, 8)?;
     let ids = vec![in rt.alloc(); 5, 1, 3, 7]?;
     let (channels, seen) = seen_by_two(&rt, rt.alloc(), &plan, ids).ok_or("channels")?;
-    let both = Seen {
-        late: false,
-        entered: 2,
-        times: [1, 1],
-        rounds: [0, 0],
-    };
-    assert!(rt; seen == both);
+    assert!(rt; seen == Seen::of_both(1, 0));
     assert!(rt; channels.as_slice() == [2, 4, 3, 5].as_slice());
     Ok(())
 }
@@ -120,13 +126,7 @@ fn the_gate_is_told_of_each_of_three_rounds(rt: HostRuntime) -> Result<(), Fail>
     let plan = plan_of(rt.alloc(), RED, 8)?;
     let ids = vec![in rt.alloc(); 5, 1, 3, 7, 0, 2, 4, 6]?;
     let (channels, seen) = seen_by_two(&rt, rt.alloc(), &plan, ids).ok_or("channels")?;
-    let both = Seen {
-        late: false,
-        entered: 2,
-        times: [3, 3],
-        rounds: [3, 3],
-    };
-    assert!(rt; seen == both);
+    assert!(rt; seen == Seen::of_both(3, 3));
     assert!(rt; channels.as_slice() == [1, 0, 3, 1, 0, 3, 2, 3].as_slice());
     Ok(())
 }
