@@ -4,6 +4,8 @@ use headline::FindingsFault;
 use node_lang::{FaultKind, OutOfMemory, TextFault};
 use ring_exec::RunFault;
 use table_fill::FillFault;
+use table_text::TableFault;
+use task_words::words::WordsFault;
 use unroll::MakeFault;
 
 /// A fault of a call, which can be a refusal of memory or of a thread.
@@ -52,6 +54,24 @@ impl Refusal for RunFault {
             RunFault::OutOfMemory => Some("OutOfMemory"),
             RunFault::NoThread => Some("NoThread"),
             RunFault::SegmentsOutOfRange | RunFault::Stranger => None,
+        }
+    }
+}
+
+impl Refusal for TableFault {
+    fn name(&self) -> Option<&'static str> {
+        match self {
+            TableFault::OutOfMemory => Some("OutOfMemory"),
+            _ => None,
+        }
+    }
+}
+
+impl Refusal for WordsFault {
+    fn name(&self) -> Option<&'static str> {
+        match self {
+            WordsFault::OutOfMemory => Some("OutOfMemory"),
+            _ => None,
         }
     }
 }

@@ -40,6 +40,21 @@ pub(crate) fn value_or_refusal<R: Print, T: Drop, F: Refusal + Drop>(
     }
 }
 
+/// Returns whether a call was refused memory or a thread, and prints the refusal's name if it was.
+pub(crate) fn was_refused<R: Print, T, F: Refusal>(
+    rt: &R,
+    answer: &Result<T, F>,
+) -> Result<bool, Miss> {
+    let Err(fault) = answer else {
+        return Ok(false);
+    };
+    let Some(name) = fault.name() else {
+        return Ok(false);
+    };
+    tell(rt, name)?;
+    Ok(true)
+}
+
 /// Returns the value of a call that is made a second time. Fails with `Wrong` if it has none.
 pub(crate) fn retried<T: Drop, F: Drop>(answer: Result<T, F>) -> Result<T, Miss>
     ensures { IfOk result (λ value. answer ≡ Ok value) }

@@ -3,7 +3,7 @@ ghost use Rattle.std.specs.Prelude.{◌≡◌, [], length, IfOk};
 ghost use Rattle.channel_tables.specs.Tables.{windows_of};
 
 use crate::miss::Miss;
-use crate::tell::{retried, tell, tell_numbers, value_or_refusal};
+use crate::tell::{retried, tell_numbers, value_or_refusal, was_refused};
 use channel_tables::{Table, TableMaker};
 use devices::fault::OutFault;
 use devices::watched::Watched;
@@ -74,13 +74,11 @@ pub(crate) fn do_read_table<R: AllocGlobal + Print>(rt: &R) -> Result<(), Miss> 
 // Prints the table and the separation of a text, or its fault. Reads the text a second time if
 // memory was refused.
 fn tell_read<R: AllocGlobal + Print>(rt: &R, text: &[u8]) -> Result<(), Miss> {
-    match read_table(rt.alloc(), text) {
-        Err(TableFault::OutOfMemory) => {
-            tell(rt, "OutOfMemory")?;
-            tell_answer(rt, &read_table(rt.alloc(), text))
-        }
-        answer => tell_answer(rt, &answer),
+    let answer = read_table(rt.alloc(), text);
+    if was_refused(rt, &answer)? {
+        return tell_answer(rt, &read_table(rt.alloc(), text));
     }
+    tell_answer(rt, &answer)
 }
 
 // Prints the table and the separation of a text, or its fault.

@@ -1,6 +1,6 @@
 //! Rows of ring texts and tasks.
 use crate::miss::Miss;
-use crate::tell::{other_call, retried, tell, tell_numbers, value_or_refusal};
+use crate::tell::{other_call, retried, tell, tell_numbers, value_or_refusal, was_refused};
 use node_lang::OutOfMemory;
 use std::alloc::Global;
 use std::io;
@@ -19,13 +19,11 @@ pub(crate) fn do_ring_of<R: AllocGlobal + Print>(rt: &R) -> Result<(), Miss> {
 
 // Prints the identifiers of a ring text, or its fault.
 fn tell_ring<R: AllocGlobal + Print>(rt: &R, text: &str) -> Result<(), Miss> {
-    match ring_of(rt.alloc(), text) {
-        Err(WordsFault::OutOfMemory) => {
-            tell(rt, "OutOfMemory")?;
-            tell_ring_answer(rt, &ring_of(rt.alloc(), text))
-        }
-        answer => tell_ring_answer(rt, &answer),
+    let answer = ring_of(rt.alloc(), text);
+    if was_refused(rt, &answer)? {
+        return tell_ring_answer(rt, &ring_of(rt.alloc(), text));
     }
+    tell_ring_answer(rt, &answer)
 }
 
 // Prints the identifiers of a ring, or a fault.
@@ -53,13 +51,11 @@ fn tell_task_of<R: AllocGlobal + Print>(rt: &R, line: &str) -> Result<(), Miss> 
 
 // Prints the ring and the numbers of identifiers and segments of a run in words, or their fault.
 fn tell_task<R: AllocGlobal + Print>(rt: &R, words: &[String]) -> Result<(), Miss> {
-    match task_of(rt.alloc(), words) {
-        Err(WordsFault::OutOfMemory) => {
-            tell(rt, "OutOfMemory")?;
-            tell_task_answer(rt, &task_of(rt.alloc(), words))
-        }
-        answer => tell_task_answer(rt, &answer),
+    let answer = task_of(rt.alloc(), words);
+    if was_refused(rt, &answer)? {
+        return tell_task_answer(rt, &task_of(rt.alloc(), words));
     }
+    tell_task_answer(rt, &answer)
 }
 
 // Prints the ring and the numbers of identifiers and segments of a run, or a fault.
