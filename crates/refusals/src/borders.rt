@@ -75,7 +75,7 @@ fn use_border<L: Ledger, M: Ledger, R: Print + Wait>(
     settle(rt, border, right, left)
 }
 
-// Uses the seats of a border.
+// Uses the seats of a border. Puts and takes are before it is closed and after that.
 fn use_seats<L: Ledger, M: Ledger, R: Print + Wait>(
     rt: &R,
     border: &Border<Note, L, M>,
@@ -84,21 +84,13 @@ fn use_seats<L: Ledger, M: Ledger, R: Print + Wait>(
     how: Use,
 ) -> Result<(), Miss> {
     match how {
-        Use::PutsAndTakes => exchange_and_close(rt, border, right, left),
+        Use::PutsAndTakes => {
+            exchange(rt, border, right, left)?;
+            border.close(rt);
+            use_closed_border(rt, border, right)
+        }
         Use::EightPuts => put_eight(rt, border, right),
     }
-}
-
-// Puts and takes on a border before it is closed and after that.
-fn exchange_and_close<L: Ledger, M: Ledger, R: Print + Wait>(
-    rt: &R,
-    border: &Border<Note, L, M>,
-    right: &mut Seat<L, M>,
-    left: &mut Seat<L, M>,
-) -> Result<(), Miss> {
-    exchange(rt, border, right, left)?;
-    border.close(rt);
-    use_closed_border(rt, border, right)
 }
 
 // Puts messages from both sides, two of them out of turn, and takes those of the first round.

@@ -24,31 +24,8 @@ pub(crate) fn do_findings<R: AllocGlobal + Print + Threads + Wait + Sync>(
     segments: u32,
 ) -> Result<(), Miss> {
     let plan = plan_of(rt.alloc(), CV1, 8)?;
-    tell_run(rt, &plan, workers, segments)
-}
-
-// Prints the findings of a plan and a ring of four places.
-fn tell_run<R: AllocGlobal + Print + Threads + Wait + Sync>(
-    rt: &R,
-    plan: &Plan,
-    workers: u32,
-    segments: u32,
-) -> Result<(), Miss> {
-    let ring = ring_for(rt.alloc(), plan, &[5, 1, 3, 7])?;
-    tell_findings_of(rt, plan, &ring, workers, segments)
-}
-
-// Prints the findings of a plan and a ring.
-fn tell_findings_of<R: AllocGlobal + Print + Threads + Wait + Sync>(
-    rt: &R,
-    plan: &Plan,
-    ring: &Ring,
-    workers: u32,
-    segments: u32,
-) -> Result<(), Miss>
-    requires ring { IsOfShape ring.now plan.now }
-{
-    let findings = findings_of(rt, plan, ring, workers, segments)?;
+    let ring = ring_for(rt.alloc(), &plan, &[5, 1, 3, 7])?;
+    let findings = findings_of(rt, &plan, &ring, workers, segments)?;
     tell_findings(rt, &findings)
 }
 

@@ -20,30 +20,8 @@ pub(crate) fn do_run<R: AllocGlobal + Print + Threads + Wait + Sync>(
     segments: u32,
 ) -> Result<(), Miss> {
     let plan = plan_of(rt.alloc(), text, 8)?;
-    tell_run(rt, &plan, ids, segments)
-}
-
-// Prints the channels of a ring of these identifiers for a plan.
-fn tell_run<R: AllocGlobal + Print + Threads + Wait + Sync>(
-    rt: &R,
-    plan: &Plan,
-    ids: &[u32],
-    segments: u32,
-) -> Result<(), Miss> {
-    let ring = ring_for(rt.alloc(), plan, ids)?;
-    tell_channels(rt, plan, &ring, segments)
-}
-
-// Prints the channels of a ring in `segments` segments.
-fn tell_channels<R: AllocGlobal + Print + Threads + Wait + Sync>(
-    rt: &R,
-    plan: &Plan,
-    ring: &Ring,
-    segments: u32,
-) -> Result<(), Miss>
-    requires ring { IsOfShape ring.now plan.now }
-{
-    let channels = channels_of(rt, plan, ring, segments)?;
+    let ring = ring_for(rt.alloc(), &plan, ids)?;
+    let channels = channels_of(rt, &plan, &ring, segments)?;
     tell_numbers(rt, &channels)
 }
 

@@ -12,20 +12,8 @@ use win_index::Ring;
 /// `plain_run`: prints the channels of four places.
 pub(crate) fn do_plain_run<R: AllocGlobal + Print>(rt: &R) -> Result<(), Miss> {
     let plan = plan_of(rt.alloc(), CV1, 8)?;
-    tell_run(rt, &plan)
-}
-
-// Prints the channels of four places for a plan.
-fn tell_run<R: AllocGlobal + Print>(rt: &R, plan: &Plan) -> Result<(), Miss> {
-    let ring = ring_for(rt.alloc(), plan, &[5, 1, 3, 7])?;
-    tell_channels(rt, plan, &ring)
-}
-
-// Prints the channels of a ring.
-fn tell_channels<R: AllocGlobal + Print>(rt: &R, plan: &Plan, ring: &Ring) -> Result<(), Miss>
-    requires ring { IsOfShape ring.now plan.now }
-{
-    let channels = channels_of(rt, plan, ring)?;
+    let ring = ring_for(rt.alloc(), &plan, &[5, 1, 3, 7])?;
+    let channels = channels_of(rt, &plan, &ring)?;
     tell_numbers(rt, &channels)
 }
 

@@ -44,21 +44,7 @@ fn tell_table_with<R: AllocGlobal + Print + Threads + Wait + Sync>(
     requires { memo_plan memo.now ≡ plan.now }
 {
     let mut pass = other_call(memo.pass(rt.alloc()))?;
-    tell_filled(rt, plan, memo, &mut pass, workers)
-}
-
-// Prints the entries of the table of a plan that `workers` workers filled.
-fn tell_filled<'a, R: AllocGlobal + Print + Threads + Wait + Sync>(
-    rt: &R,
-    plan: &Plan,
-    memo: &Memo<'a>,
-    pass: &mut Pass<'a>,
-    workers: u32,
-) -> Result<(), Miss>
-    requires plan { memo_plan memo.now ≡ plan.now }
-    requires pass { IsPassOf memo.now pass.old }
-{
-    let table = filled(rt, plan, memo, pass, workers)?;
+    let table = filled(rt, plan, memo, &mut pass, workers)?;
     tell_entries(rt, &table)
 }
 
