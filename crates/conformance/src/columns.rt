@@ -39,18 +39,7 @@ fn agreeing(plan: &Plan, table: &Table, windows: u32) -> u32 {
     agreeing
 }
 
-/// Returns that number for the table of a plan, filled by two workers.
-fn agreeing_of_plan<R: Threads + Wait + Sync>(
-    rt: &R,
-    alloc: Global,
-    plan: &Plan,
-    windows: u32,
-) -> Option<u32> {
-    let table = table_by(rt, alloc, plan, 2)?;
-    Some(agreeing(plan, &table, windows))
-}
-
-/// Returns that number for a program and eight identifiers.
+/// Returns that number for the table of a program and eight identifiers, filled by two workers.
 fn agreeing_windows<R: Threads + Wait + Sync>(
     rt: &R,
     alloc: Global,
@@ -58,7 +47,8 @@ fn agreeing_windows<R: Threads + Wait + Sync>(
     windows: u32,
 ) -> Option<u32> {
     let plan = plan_of(alloc, text, 8).ok()?;
-    agreeing_of_plan(rt, alloc, &plan, windows)
+    let table = table_by(rt, alloc, &plan, 2)?;
+    Some(agreeing(&plan, &table, windows))
 }
 
 #[test]

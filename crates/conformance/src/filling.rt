@@ -10,15 +10,15 @@ use std::thread::Threads;
 use table_fill::{FillFault, compile};
 use test_programs::{CV1, plan_of};
 
-/// Returns the table of a memo's plan by this many workers, from a pass of its own.
-fn table_from<R: Threads + Wait + Sync>(
+/// Returns the table of a memo's plan by this many workers, from a pass of its own, or its fault.
+fn filled_from<R: Threads + Wait + Sync>(
     rt: &R,
     alloc: Global,
     memo: &Memo<'_>,
     workers: u32,
-) -> Option<Table> {
+) -> Option<Result<Table, FillFault>> {
     let mut pass = memo.pass(alloc).ok()?;
-    compile(rt, alloc, memo.plan(), memo, &mut pass, workers, &OpenGate).ok()
+    Some(compile(rt, alloc, memo.plan(), memo, &mut pass, workers, &OpenGate))
 }
 
 /// Returns the table of a plan by this many workers, from a memo of its own.
@@ -29,7 +29,7 @@ pub(crate) fn table_by<R: Threads + Wait + Sync>(
     workers: u32,
 ) -> Option<Table> {
     let memo = Memo::new(alloc, plan).ok()?;
-    table_from(rt, alloc, &memo, workers)
+    filled_from(rt, alloc, &memo, workers)?.ok()
 }
 
 /// What a table has: the number of its entries, the one with the number 256, and the channels at
@@ -62,17 +62,6 @@ fn cv1_has_a_channel_at_each_window(rt: HostRuntime) {
     assert!(rt; row_of_cv1(&rt, rt.alloc()) == Some((336, Some(2), channels)));
 }
 
-/// Returns the fault of a table by this many workers.
-fn fault_from<R: Threads + Wait + Sync>(
-    rt: &R,
-    alloc: Global,
-    memo: &Memo<'_>,
-    workers: u32,
-) -> Option<FillFault> {
-    let mut pass = memo.pass(alloc).ok()?;
-    compile(rt, alloc, memo.plan(), memo, &mut pass, workers, &OpenGate).err()
-}
-
 /// Returns the faults of a table by no worker and by 65.
 fn faults_of<R: Threads + Wait + Sync>(
     rt: &R,
@@ -81,8 +70,8 @@ fn faults_of<R: Threads + Wait + Sync>(
 ) -> Option<[Option<FillFault>; 2]> {
     let memo = Memo::new(alloc, plan).ok()?;
     Some([
-        fault_from(rt, alloc, &memo, 0),
-        fault_from(rt, alloc, &memo, 65),
+        filled_from(rt, alloc, &memo, 0)?.err(),
+        filled_from(rt, alloc, &memo, 65)?.err(),
     ])
 }
 

@@ -3,7 +3,6 @@
 use crate::slow_devices::Pace;
 use crate::slow_inputs::{Outcome, Streams, outcome_of};
 use plan_print::fault::EngineFault;
-use plan_print::status::Status;
 use plan_print::task::Task;
 use std::alloc::Global;
 use std::io::ErrorKind;
@@ -46,14 +45,8 @@ fn formula_at<R: Threads + Wait + Sync>(
 
 #[test]
 fn a_formula_reads_nothing(rt: HostRuntime) {
-    let want = Outcome {
-        answer: Ok(Status::Done),
-        reads: 0,
-        writes: 1,
-        as_wanted: true,
-    };
     let found = formula_at(&rt, rt.alloc(), Pace::of(usize::MAX), FORMULA);
-    assert!(rt; found == Some(want));
+    assert!(rt; found == Some(Outcome::of_one_write(0)));
 }
 
 // Returns whether a formula has all bytes before the one at which the write fails.
@@ -80,40 +73,31 @@ fn a_formula_whose_write_fails_at_each_call(rt: HostRuntime) {
     }
 }
 
-// Checks the refutation, read at this pace, with a writer that is to take these bytes.
-fn refuted_at<R: Threads + Wait + Sync>(
-    rt: &R,
-    alloc: Global,
-    reader: Pace,
-    want: &[u8],
-) -> Option<Outcome> {
-    let task = Task::Refute {
+// Returns the task of checking the refutation.
+fn refute_task() -> Task {
+    Task::Refute {
         ids: 2,
         rounds: 0,
         channels: 1,
         near: 1,
         far: 0,
-    };
-    let streams = Streams::reading(REFUTATION, reader, want);
-    outcome_of(rt, alloc, task, &streams)
+    }
 }
 
 #[test]
 fn a_refutation_of_single_bytes_is_checked(rt: HostRuntime) {
     // One call for each byte, and one that finds the end.
-    let want = Outcome {
-        answer: Ok(Status::Done),
-        reads: 13,
-        writes: 1,
-        as_wanted: true,
-    };
-    assert!(rt; refuted_at(&rt, rt.alloc(), Pace::of(1), REFUTED) == Some(want));
+    let streams = Streams::reading(REFUTATION, Pace::of(1), REFUTED);
+    let found = outcome_of(&rt, rt.alloc(), refute_task(), &streams);
+    assert!(rt; found == Some(Outcome::of_one_write(13)));
 }
 
 // Returns whether nothing is written after the read fails at this call.
 fn refutation_stops<R: Threads + Wait + Sync>(rt: &R, alloc: Global, call: usize) -> bool {
     let want = Outcome::of_failed_read(call);
-    refuted_at(rt, alloc, Pace::failing_at(call, ErrorKind::Other, 1), b"") == Some(want)
+    let reader = Pace::failing_at(call, ErrorKind::Other, 1);
+    let streams = Streams::reading(REFUTATION, reader, b"");
+    outcome_of(rt, alloc, refute_task(), &streams) == Some(want)
 }
 
 #[test]

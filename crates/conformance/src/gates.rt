@@ -146,23 +146,13 @@ impl Hold {
     }
 }
 
-/// Compiles with two workers, whose calls are held.
-fn seen_by_two<R: Threads + Wait + Sync>(
-    rt: &R,
-    alloc: Global,
-    plan: &Plan,
-    held: Held,
-) -> Option<Seen> {
-    let memo = Memo::new(alloc, plan).ok()?;
+/// Compiles the table of `CV1` with two workers, whose calls are held.
+fn seen_by_two<R: Threads + Wait + Sync>(rt: &R, alloc: Global, held: Held) -> Option<Seen> {
+    let plan = plan_of(alloc, CV1, 8).ok()?;
+    let memo = Memo::new(alloc, &plan).ok()?;
     let gate = Hold::new(held);
     let makers = makers_by(rt, alloc, &memo, 2, &gate)?;
     Some(gate.seen(makers))
-}
-
-/// Compiles the table of `CV1` with two workers, whose calls are held.
-fn seen_by_two_of_cv1<R: Threads + Wait + Sync>(rt: &R, alloc: Global, held: Held) -> Option<Seen> {
-    let plan = plan_of(alloc, CV1, 8).ok()?;
-    seen_by_two(rt, alloc, &plan, held)
 }
 
 // While a worker is held with the block below, the other makes that block itself.
@@ -174,7 +164,7 @@ fn a_worker_makes_a_missing_block_and_tries_again(rt: HostRuntime) {
         entered: [1; 2],
         makers: [1; 3],
     };
-    assert!(rt; seen_by_two_of_cv1(&rt, rt.alloc(), Held::FirstJob) == Some(seen));
+    assert!(rt; seen_by_two(&rt, rt.alloc(), Held::FirstJob) == Some(seen));
 }
 
 /// Returns whether two workers have met, each job was entered once, and who entered with a block of
@@ -186,7 +176,7 @@ fn have_met(seen: Seen) -> bool {
 
 #[test]
 fn two_workers_are_at_work_at_once(rt: HostRuntime) {
-    let seen = seen_by_two_of_cv1(&rt, rt.alloc(), Held::FirstCalls);
+    let seen = seen_by_two(&rt, rt.alloc(), Held::FirstCalls);
     assert!(rt; seen.is_some_and(have_met));
 }
 

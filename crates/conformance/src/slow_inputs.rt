@@ -48,6 +48,16 @@ pub(crate) struct Outcome {
 }
 
 impl Outcome {
+    /// Returns the outcome of a task that is done by this many reads and one write.
+    pub(crate) fn of_one_write(reads: usize) -> Outcome {
+        Outcome {
+            answer: Ok(Status::Done),
+            reads,
+            writes: 1,
+            as_wanted: true,
+        }
+    }
+
     /// Returns the outcome of a task whose read with this number, counted from 1, fails.
     pub(crate) fn of_failed_read(reads: usize) -> Outcome {
         Outcome {
@@ -107,19 +117,10 @@ pub(crate) fn outcome_of_run<R: Threads + Wait + Sync>(
     outcome_of(rt, alloc, task, streams)
 }
 
-// Runs with a reader of this pace, and a writer that takes all bytes and is to take these.
-fn read_at<R: Threads + Wait + Sync>(
-    rt: &R,
-    alloc: Global,
-    reader: Pace,
-    want: &[u8],
-) -> Option<Outcome> {
-    outcome_of_run(rt, alloc, &Streams::reading(CV1, reader, want))
-}
-
 #[test]
 fn an_input_of_single_bytes_has_the_same_report(rt: HostRuntime) {
-    let outcome = read_at(&rt, rt.alloc(), Pace::of(1), REPORT).expect(&rt, "an outcome");
+    let streams = Streams::reading(CV1, Pace::of(1), REPORT);
+    let outcome = outcome_of_run(&rt, rt.alloc(), &streams).expect(&rt, "an outcome");
     // One call for each byte, and one that finds the end.
     let reads = CV1.len().saturating_add(1);
     let found = (outcome.answer, outcome.reads, outcome.as_wanted);
@@ -136,13 +137,15 @@ fn fails_at<R: Threads + Wait + Sync>(
     most: usize,
 ) -> bool {
     let want = Outcome::of_failed_read(call);
-    read_at(rt, alloc, Pace::failing_at(call, kind, most), b"") == Some(want)
+    let streams = Streams::reading(CV1, Pace::failing_at(call, kind, most), b"");
+    outcome_of_run(rt, alloc, &streams) == Some(want)
 }
 
 /// Returns whether a reader that gives at most `most` bytes per call is called twice at least, and
 /// can fail at each call.
 fn fails_at_each<R: Threads + Wait + Sync>(rt: &R, alloc: Global, most: usize) -> Option<bool> {
-    let calls = read_at(rt, alloc, Pace::of(most), REPORT)?.reads;
+    let streams = Streams::reading(CV1, Pace::of(most), REPORT);
+    let calls = outcome_of_run(rt, alloc, &streams)?.reads;
     let mut fails = calls >= 2;
     for call in 1..calls.saturating_add(1) {
         fails = fails
