@@ -1,6 +1,6 @@
 -- Cells in rows and columns.
 use Rattle.std.proofs.Common.{◌≡◌, ℕ, ◌+◌, ◌*◌, ◌<◌, ◌≤◌, ◌&&◌, cond, eqb, List, length, get_or, set, ap, ◌∙◌, arith}
-use Rattle.std.proofs.Math.Nat.{mul-le-mul, mul-le-mul_right, add-mul, one-mul}
+use Rattle.std.proofs.Math.Nat.{mul-le-mul_right, add-mul, one-mul}
 use Rattle.std.proofs.lemmas.Bool.Decides.{nat_tests}
 use Rattle.std.proofs.lemmas.List.{get_or-set_same, get_or-set_other}
 use Rattle.std.proofs.lemmas.Nat.{same_from_place}

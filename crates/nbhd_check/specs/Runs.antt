@@ -2,7 +2,6 @@
 use Rattle.std.specs.Prelude.{◌≡◌, ◌≢◌, ℕ, ◌+◌, ◌-◌, ◌*◌, ◌<◌, ◌≤◌, cond, nat_lt, Option, MatchOption, List, length, drop, slice_get, slice_index, Some}
 use Rattle.std.specs.Int.{abs_diff}
 use Rattle.win_index.specs.Arcs.{part_at}
-use Rattle.win_index.specs.Falling.{falling}
 use Rattle.win_index.specs.Windows.{unused, windows, IsWindow}
 use Rattle.channel_tables.specs.Tables.{ChannelTable, channel_of, windows_of}
 use Rattle.channel_tables.specs.declared.separation.Separation.{Separation}

@@ -10,7 +10,7 @@ ghost use Rattle.nbhd_check.specs.FarSearch.{IsAtFamily};
 ghost use Rattle.nbhd_check.specs.Masks.{AreMasks};
 ghost use Rattle.nbhd_check.specs.Runs.{AreFreeUntil, BeginsFarTuple, wide};
 
-use crate::masks::Masks;
+use crate::masks::may_hold;
 use crate::search::{Search, windows_per_run};
 use channel_tables::Table;
 use win_index::RunPlaces;
@@ -21,9 +21,9 @@ use win_index::RunPlaces;
 pub(crate) struct FarMasks<'a> {
     pub(crate) table: &'a Table,
     pub(crate) distance: u32,
-    pub(crate) masks: Masks,
+    pub(crate) masks: Vec<u64>,
     pub(crate) ghost some: { 1 ≤ table.now.rounds },
-    pub(crate) ghost cover: { AreMasks table.now.entries (family_len table.now) distance masks.per_group masks.words.items },
+    pub(crate) ghost cover: { AreMasks table.now.entries (family_len table.now) distance masks.items },
 }
 
 impl<'a> Search for FarMasks<'a> {
@@ -56,10 +56,8 @@ impl<'a> FarMasks<'a> {
         let each = windows_per_run(self.table) as u32;
         let mut place = place;
         for number in run * each..run * each + each {
-            if self
-                .masks
-                .may_hold(first + place as usize, entries[number as usize])
-            {
+            let family = first + place as usize;
+            if may_hold(&self.masks, family, entries[number as usize]) {
                 return Some(number);
             }
             place = places.after(place).unwrap_or(place);

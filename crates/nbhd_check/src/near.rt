@@ -7,7 +7,7 @@ ghost use Rattle.nbhd_check.specs.Masks.{AreMasks};
 ghost use Rattle.nbhd_check.specs.Runs.{AreFree, AreFreeUntil, BeginsBadTuple, SecondRunsOf, wide};
 
 use crate::gaps::has_close_outside;
-use crate::masks::{Masks, group_masks};
+use crate::masks::{group_masks, may_hold};
 use crate::search::{Search, free_windows, window_count, windows_per_run};
 use channel_tables::Table;
 use std::alloc::Global;
@@ -33,7 +33,7 @@ pub(crate) fn near_free_windows<R: Threads + Sync>(
 {
     let count = window_count(table);
     let most = count.min(FIRST_WINDOWS);
-    let masks = Masks::none(alloc);
+    let masks = Vec::new(alloc);
     let search = NearSearch {
         table,
         distance,
@@ -57,9 +57,9 @@ pub(crate) fn near_free_windows<R: Threads + Sync>(
 struct NearSearch<'a> {
     table: &'a Table,
     distance: u32,
-    masks: Masks,
+    masks: Vec<u64>,
     ghost some: { 1 ≤ table.now.rounds },
-    ghost cover: { AreMasks table.now.entries (wide table.now) distance masks.per_group masks.words.items },
+    ghost cover: { AreMasks table.now.entries (wide table.now) distance masks.items },
 }
 
 // Where the second windows after the windows of a run are: those after the window at place `i` of
@@ -139,7 +139,7 @@ impl<'a> NearSearch<'a> {
         let each = windows_per_run(self.table);
         let channel = self.table.entries()[runs.run * each + place];
         let next = runs.run_at(place);
-        if !self.masks.may_hold(next, channel) {
+        if !may_hold(&self.masks, next, channel) {
             return false;
         }
         let gap = runs.gap_at(place);

@@ -1,4 +1,4 @@
-use Rattle.std.proofs.Common.{◌≡◌, ℕ, ◌+◌, ◌-◌, ◌*◌, ◌<◌, get_or, slice_get, ap, ◌∙◌, arith}
+use Rattle.std.proofs.Common.{◌≡◌, ℕ, ◌+◌, ◌-◌, ◌*◌, ◌<◌, slice_get, ap, ◌∙◌, arith}
 use Rattle.channel_tables.specs.Tables.{windows_of}
 use Rattle.nbhd_check.specs.Counts.{shared_len}
 use Rattle.nbhd_check.proofs.HeldCounts.{window_counted}

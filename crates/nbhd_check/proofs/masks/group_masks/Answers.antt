@@ -1,19 +1,16 @@
-use Rattle.std.proofs.Common.{length, drop, ◌∙◌}
+use Rattle.std.proofs.Common.{ℕ, ◌/◌, ◌≤◌, length, drop, ◌∙◌, arith}
+use Rattle.std.proofs.Math.Nat.{div-mul-le_self, mul-le-mul_right}
 use Rattle.std.proofs.lemmas.List.{take_at}
 use Rattle.nbhd_check.proofs.masks.group_masks.Goals as goal
 
-pub returns-then-len-lt-MIN_GROUP_WINDOWS : goal.returns-then-len-lt-MIN_GROUP_WINDOWS
-returns-then-len-lt-MIN_GROUP_WINDOWS c = c.none.ensures c.args.table.now.entries c.args.len c.args.distance
-
-pub returns-in_default : goal.returns-in_default
-returns-in_default c = c.none-in_default.ensures c.args.table.now.entries c.args.len c.args.distance
-
-pub returns-then-is_full : goal.returns-then-is_full
-returns-then-is_full c = c.none-then-is_full.ensures c.args.table.now.entries c.args.len c.args.distance
+pub fill_masks-requires-clause-room : goal.fill_masks-requires-clause-room
+fill_masks-requires-clause-room c =
+    let entries : ℕ = length c.entries-entries.result.now in
+    let few : length c.deref_mut.result.now ≤ entries / c.args.len = omega (arith, c.deref_mut.ensures.len, c.in-Ok.ensures.len, c.min-groups.ensures) in
+    omega (arith, mul-le-mul_right c.args.len few, div-mul-le_self entries c.args.len)
 
 pub returns : goal.returns
 returns c =
-    let words = c.add_groups.new.words in
-    let written = take_at words (drop (length words) c.in-Ok.words.items) c.in-Ok.words.len
-    (c.add_groups.auto.words ∙ c.deref_mut.ensures.len) in
-    rw (written, ← c.entries-entries.ensures.value) c.add_groups.ensures
+    let masks = c.fill_masks.new.masks in
+    let written = take_at masks (drop (length masks) c.in-Ok.masks.items) c.in-Ok.masks.len (c.fill_masks.auto.masks ∙ c.deref_mut.ensures.len) in
+    rw (written, ← c.entries-entries.ensures.value) c.fill_masks.ensures

@@ -47,17 +47,14 @@ module _ (c : In-loop-number) where
   small : c.args.first + c.loop-number.place < 2 ^ 32
   small = omega (arith, few, c.windows_per_run-each.ensures.table.size, c.windows_per_run-each.ensures.table.begun.shape.few_windows)
 
-pub overflow_add-first : goal.overflow_add-first
-overflow_add-first c = omega (arith, small (goal.at.overflow_add-first c).In-loop-number)
+pub overflow_add-family : goal.overflow_add-family
+overflow_add-family c = omega (arith, small (goal.at.overflow_add-family c).In-loop-number)
 
 pub bounds-entries-number : goal.bounds-entries-number
 bounds-entries-number c =
     let t = c.args.self.now.table.now in
     let d = (goal.at.bounds-entries-number c).In-loop-number in
     omega (arith, slice_get_within (windows_of t) c.loop-number.number (own d).0 (own d).1.item, c.entries-entries.ensures.table.size, ap length c.entries-entries.ensures.value)
-
-pub may_hold-requires : goal.may_hold-requires
-may_hold-requires c = small (goal.at.may_hold-requires c).In-loop-number
 
 pub after-requires : goal.after-requires
 after-requires c =
@@ -77,7 +74,7 @@ loop-number-preserved c =
     let from : c.args.run * wide t ≤ number = rw (← c.windows_per_run-each.ensures.value) c.loop-number.auto.number in
     let none : NoneClose t.entries (family_len t) c.args.self.now.distance family (get_or t.entries number 0) =
     subst (λ l. NoneClose t.entries (family_len t) c.args.self.now.distance family (get_or l number 0)) c.entries-entries.ensures.value
-    (OnFalse_at c.if-may_hold.false (c.may_hold.ensures t.entries (family_len t) c.args.self.now.distance c.args.self.now.cover)) in (
+    (OnFalse_at c.if-may_hold.false (c.may_hold.ensures t.entries (family_len t) c.args.self.now.distance (rw c.deref.ensures.value c.args.self.now.cover))) in (
       λ lt. next_family t number here.0 c.args.first c.args.places c.loop-number.place some here.1 c.args.run
           c.unwrap_or-place.result c.after.result
           c.unwrap_or-place.ensures from lt within c.after.ensures.next c.after.ensures.last,

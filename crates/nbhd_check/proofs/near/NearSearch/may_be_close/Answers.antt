@@ -53,10 +53,6 @@ bounds-entries-runs c = inside (goal.at.bounds-entries-runs c).After-entries
 pub run_at-next-requires : goal.run_at-next-requires
 run_at-next-requires c = omega (arith, (here (goal.at.run_at-next-requires c).After-entries).next_few, c.entries.ensures.table.begun.shape.few_windows, c.entries.ensures.table.size)
 
-pub may_hold-requires : goal.may_hold-requires
-may_hold-requires c =
-    omega (arith, c.run_at-next.ensures, (here (goal.at.may_hold-requires c).After-entries).next_few, c.entries.ensures.table.begun.shape.few_windows, c.entries.ensures.table.size)
-
 pub channels_of-requires : goal.channels_of-requires
 channels_of-requires c =
     let t = c.args.self.now.table.now in
@@ -77,7 +73,7 @@ returns-then-not-may_hold c =
     let s = (goal.at.returns-then-not-may_hold c).After-entries in
     let at' = here s in
     let n : ℕ = c.args.runs.run * wide t + c.args.place in
-    let none = OnFalse_at c.if-not-may_hold.true (c.may_hold.ensures t.entries (wide t) c.args.self.now.distance c.args.self.now.cover) in
+    let none = OnFalse_at c.if-not-may_hold.true (c.may_hold.ensures t.entries (wide t) c.args.self.now.distance (rw c.deref.ensures.value c.args.self.now.cover)) in
     let lacks : NoneClose t.entries (wide t) c.args.self.now.distance (second_run c.args.runs c.args.place) (get_or t.entries n 0) =
     subst (λ r. NoneClose t.entries (wide t) c.args.self.now.distance r (get_or t.entries n 0)) c.run_at-next.ensures
     (subst (λ v. NoneClose t.entries (wide t) c.args.self.now.distance c.run_at-next.result v) (channel_is s) none) in

@@ -1,9 +1,0 @@
-use Rattle.std.proofs.Common.{◌≡◌, ℕ, ◌+◌, ◌*◌, ◌<◌, length, get_or}
-use Rattle.nbhd_check.specs.Masks.{Covers}
-use Rattle.nbhd_check.proofs.masks.add_groups.Given as goal
-
--- the masks of the groups so far cover their channels
-abbrev pub invariant-loop-group : goal.invariant-loop-group
-invariant-loop-group l =
-    (length l.words ≡ length l.initial.words)
-    × ((group place : ℕ) → group < l.group → place < l.len → Covers l.words (group * l.per_group) l.per_group l.distance (get_or l.entries (group * l.len + place) 0))
