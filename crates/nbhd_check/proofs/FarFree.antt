@@ -13,8 +13,7 @@ use Rattle.win_index.proofs.Positions.{window_place}
 use Rattle.channel_tables.specs.Tables.{ChannelTable, channel_of, windows_of}
 use Rattle.bad_tuples.specs.Apart.{AreClose}
 use Rattle.nbhd_check.specs.Counts.{family_len, shared_len, shared_lists, IsFamily}
-use Rattle.nbhd_check.specs.FarSearch.{AreFarFreeIn, HasFamilyIn}
-use Rattle.nbhd_check.specs.Runs.{AreFree, BeginsFarTuple}
+use Rattle.nbhd_check.specs.Runs.{BeginsFarTuple}
 use Rattle.nbhd_check.proofs.Cells.{row_more}
 use Rattle.bad_tuples.proofs.Close.{close_along}
 use Rattle.nbhd_check.proofs.Ends.{by_first}
@@ -71,14 +70,13 @@ module _ (t : ChannelTable) (some : 1 ≤ t.rounds) where
       })
 
   -- every window has a family
-  pub all_families : (distance least end : ℕ) → length (shared_lists t) ≤ end
-      → AreFarFreeIn t distance least (HasFamilyIn t 0 end) → AreFree t (BeginsFarTuple t distance) 0 least
-  all_families distance least end le free number window from below item =
+  pub family_of : (number : ℕ) (window : List ℕ) → slice_get (windows_of t) number ≡ Some window
+      → (family : ℕ) × (family < length (shared_lists t)) × (slice_get (shared_lists t) family ≡ Some (drop 2 window))
+  family_of number window item =
       let turn : 2 * t.rounds + 1 ≡ 2 + shared_len t = omega arith in
       let rest = window_drop (shared_len t) t.ids 2 window (rw turn at (windows_all (2 * t.rounds + 1) t.ids number window item)) in
       let family = window_place (shared_len t) t.ids (drop 2 window) rest in
-      let within = slice_get_within (shared_lists t) family.0 (drop 2 window) family.1 in
-      free number window below item (family.0, omega arith, omega arith, family.1)
+      (family.0, slice_get_within (shared_lists t) family.0 (drop 2 window) family.1, family.1)
 
 -- the third window of a tuple that begins with the window, if it is closer than the distance
 pub record FarThird (t : ChannelTable) (distance : ℕ) (window : List ℕ) : Type 0 where

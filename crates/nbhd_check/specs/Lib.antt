@@ -5,4 +5,5 @@ pub mod Masks
 pub mod Pairs
 pub mod Counts
 pub mod FarSearch
+pub mod Searches
 pub mod Verdicts

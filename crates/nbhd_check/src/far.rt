@@ -8,7 +8,8 @@ use crate::counts::channel_limit;
 use crate::far_counts::FarCounts;
 use crate::far_masks::FarMasks;
 use crate::masks::{group_masks, windows_per_family};
-use crate::search::{free_windows, window_count, windows_per_run};
+use crate::run_search::{window_count, windows_per_run};
+use crate::search::{Search, free_windows};
 use bad_tuples::{Tuples, judge_part};
 use channel_tables::Table;
 use std::alloc::Global;
@@ -34,23 +35,24 @@ pub(crate) fn far_free_windows<R: Threads + Sync>(
     requires { IsFarSearch tuples.table.now tuples.separation most }
     ensures { AreFree tuples.entry.table.now (BeginsBadTuple tuples.entry.table.now tuples.entry.separation) 0 result }
 {
+    let tests = Search::Tuples(tuples);
     if is_long_search(tuples.table, most) {
         let few = windows_before_masks(tuples.table).min(most);
-        let first = free_windows(rt, &tuples, few, 1);
+        let first = free_windows(rt, tests, few, 1);
         if first < few {
             return first;
         }
         if let Some(free) = free_by_masks(rt, alloc, tuples, most, threads) {
             return free;
         }
-        if let Some(counts) = counts_if_worth(tuples) {
-            let free = counts.free_windows(rt, alloc, most, threads);
+        if let Some(counts) = counts_if_worth(alloc, tuples) {
+            let free = free_windows(rt, Search::FarCounts(counts), most, threads);
             if free > 0 {
                 return free;
             }
         }
     }
-    free_windows(rt, &tuples, most, threads)
+    free_windows(rt, tests, most, threads)
 }
 
 // Returns the number of windows that are searched before masks are made: those of as many runs as
@@ -85,7 +87,7 @@ fn free_by_masks<R: Threads + Sync>(
         distance,
         masks,
     };
-    let free = free_windows(rt, &search, most, threads);
+    let free = free_windows(rt, Search::FarMasks(&search), most, threads);
     if free == most || begins_bad_tuple(tuples, free) {
         return Some(free);
     }
@@ -94,7 +96,7 @@ fn free_by_masks<R: Threads + Sync>(
 
 // Returns the search by counts of third windows, if it is estimated that counting a family takes less
 // time than testing the tuples with third windows in it, one by one.
-fn counts_if_worth(tuples: Tuples) -> Option<FarCounts>
+fn counts_if_worth(alloc: Global, tuples: Tuples) -> Option<FarCounts>
     requires { (1 ≤ tuples.table.now.rounds) × (1 ≤ tuples.separation.far) }
     ensures { IfSome result (λ counts. (counts.table.now ≡ tuples.entry.table.now)
         × (counts.distance ≡ tuples.entry.separation.far)) }
@@ -107,6 +109,7 @@ fn counts_if_worth(tuples: Tuples) -> Option<FarCounts>
         return None;
     }
     Some(FarCounts {
+        alloc,
         table,
         distance,
         limit,

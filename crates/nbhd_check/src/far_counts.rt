@@ -13,18 +13,17 @@ ghost use Rattle.nbhd_check.specs.FarSearch.{AreFarFreeIn, ArePairNumbers, HasFa
 ghost use Rattle.nbhd_check.specs.Runs.{AreFree, BeginsFarTuple};
 
 use crate::counts::{Counts, close_count, count_family};
-use crate::parallel::{least_of_parts, part_count};
-use crate::search::window_count;
+use crate::run_search::window_count;
 use channel_tables::Table;
 use std::alloc::Global;
 use std::sync::atomic::{AtomicU32, Ordering};
-use std::thread::Threads;
 use win_index::{MAX_WINDOW_LEN, place_among_unused};
 
 /// The search for windows that begin a tuple whose third window is closer than `distance`, which is
 /// at least 1. All channels are below `limit`.
 #[derive(Clone, Copy)]
 pub(crate) struct FarCounts<'a> {
+    pub(crate) alloc: Global,
     pub(crate) table: &'a Table,
     pub(crate) distance: u32,
     pub(crate) limit: u32,
@@ -34,45 +33,23 @@ pub(crate) struct FarCounts<'a> {
 }
 
 impl<'a> FarCounts<'a> {
-    /// Returns a number of windows, at most `most`, such that none of the windows below it begins
-    /// such a tuple. It is 0 if memory for counts was refused. At most `threads` threads search.
-    pub(crate) fn free_windows<R: Threads + Sync>(
-        self,
-        rt: &R,
-        alloc: Global,
-        most: u32,
-        threads: u32,
-    ) -> u32
-        ensures less { result ≤ most }
-        ensures free { AreFree self.entry.table.now (BeginsFarTuple self.entry.table.now self.entry.distance) 0 result }
+    /// Returns the number of families.
+    pub(crate) fn families(self) -> u32
+        ensures value { result ≡ length (shared_lists self.entry.table.now) }
+        ensures few { result ≤ 2 ^ 22 }
     {
         let shape = self.table.shape();
-        let families = shape.count(shape.rounds() - 1);
-        let parts = part_count(window_count(self.table), threads);
-        let each = families.div_ceil(parts);
-        let best = AtomicU32::new(most);
-        let least = least_of_parts(
-            rt,
-            parts,
-            |part: u32| -> u32
-                requires { (part * each + each < 2 ^ 32) × (families ≡ length (shared_lists self.table.now)) }
-                ensures { AreFarFreeIn self.entry.table.now self.entry.distance result (HasFamilyIn self.entry.table.now (part * each) (part * each + each)) }
-            {
-                let low = part * each;
-                self.free_in_families(alloc, low.min(families), (low + each).min(families), &best)
-            },
-        );
-        least.min(most)
+        shape.count(shape.rounds() - 1)
     }
 
-    // Returns a number of windows such that none of the windows below it with a family from `low` on
-    // and below `high` begins such a tuple. `best` is the least such number that any thread has
-    // found.
-    fn free_in_families(self, alloc: Global, low: u32, high: u32, best: &AtomicU32) -> u32
+    /// Returns a number of windows such that none of the windows below it with a family from `low` on
+    /// and below `high` begins such a tuple. It is 0 if memory for counts was refused. `best` is the
+    /// least such number that any thread has found.
+    pub(crate) fn free_in_families(self, low: u32, high: u32, best: &AtomicU32) -> u32
         requires { high ≤ length (shared_lists self.table.now) }
         ensures { AreFarFreeIn self.entry.table.now self.entry.distance result (HasFamilyIn self.entry.table.now low high) }
     {
-        let Ok(mut counts) = Counts::new(alloc, self.table, self.limit) else {
+        let Ok(mut counts) = Counts::new(self.alloc, self.table, self.limit) else {
             return 0;
         };
         let mut least = best.load(Ordering::SeqCst);

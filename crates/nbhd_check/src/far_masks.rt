@@ -11,7 +11,7 @@ ghost use Rattle.nbhd_check.specs.Masks.{AreMasks};
 ghost use Rattle.nbhd_check.specs.Runs.{AreFreeUntil, BeginsFarTuple, wide};
 
 use crate::masks::may_hold;
-use crate::search::{Search, windows_per_run};
+use crate::run_search::{RunSearch, windows_per_run};
 use channel_tables::Table;
 use win_index::RunPlaces;
 
@@ -26,7 +26,7 @@ pub(crate) struct FarMasks<'a> {
     pub(crate) ghost cover: { AreMasks table.now.entries (family_len table.now) distance masks.items },
 }
 
-impl<'a> Search for FarMasks<'a> {
+impl<'a> RunSearch for FarMasks<'a> {
     ghost searched = { λ s. s.table.now };
 
     ghost Bad = { λ s. BeginsFarTuple s.table.now s.distance };

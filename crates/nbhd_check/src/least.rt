@@ -6,7 +6,8 @@ ghost use Rattle.bad_tuples.specs.Searches.{IsLeastOfAll};
 
 use crate::far::far_free_windows;
 use crate::near::near_free_windows;
-use crate::search::{free_windows, window_count};
+use crate::run_search::window_count;
+use crate::search::{Search, free_windows};
 use bad_tuples::{Tuples, judge_part, tuple_count};
 use channel_tables::Separation;
 use std::alloc::Global;
@@ -54,5 +55,5 @@ fn single_windows<R: Threads + Sync>(rt: &R, tuples: Tuples, threads: u32) -> u3
     let near = separation.near.max(separation.far);
     let separation = Separation { near, far: 0 };
     let tuples = Tuples { table, separation };
-    free_windows(rt, &tuples, window_count(table), threads)
+    free_windows(rt, Search::Tuples(tuples), window_count(table), threads)
 }

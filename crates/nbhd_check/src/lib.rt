@@ -11,6 +11,7 @@ mod least;
 mod masks;
 mod near;
 mod parallel;
+mod run_search;
 mod scan;
 mod search;
 mod verdict;

@@ -8,7 +8,8 @@ ghost use Rattle.nbhd_check.specs.Runs.{AreFree, AreFreeUntil, BeginsBadTuple, S
 
 use crate::gaps::has_close_outside;
 use crate::masks::{group_masks, may_hold};
-use crate::search::{Search, free_windows, window_count, windows_per_run};
+use crate::run_search::{RunSearch, window_count, windows_per_run};
+use crate::search::{Search, free_windows};
 use channel_tables::Table;
 use std::alloc::Global;
 use std::thread::Threads;
@@ -39,7 +40,7 @@ pub(crate) fn near_free_windows<R: Threads + Sync>(
         distance,
         masks,
     };
-    let first = free_windows(rt, &search, most, 1);
+    let first = free_windows(rt, Search::Near(&search), most, 1);
     if first < most || most == count {
         return first;
     }
@@ -49,14 +50,14 @@ pub(crate) fn near_free_windows<R: Threads + Sync>(
         distance,
         masks,
     };
-    free_windows(rt, &search, count, threads)
+    free_windows(rt, Search::Near(&search), count, threads)
 }
 
-// The search for windows that begin a tuple whose second window is closer than `distance`.
+/// The search for windows that begin a tuple whose second window is closer than `distance`.
 #[derive(Drop)]
-struct NearSearch<'a> {
-    table: &'a Table,
-    distance: u32,
+pub(crate) struct NearSearch<'a> {
+    pub(crate) table: &'a Table,
+    pub(crate) distance: u32,
     masks: Vec<u64>,
     ghost some: { 1 ≤ table.now.rounds },
     ghost cover: { AreMasks table.now.entries (wide table.now) distance masks.items },
@@ -99,7 +100,7 @@ impl SecondRuns {
     }
 }
 
-impl<'a> Search for NearSearch<'a> {
+impl<'a> RunSearch for NearSearch<'a> {
     ghost searched = { λ s. s.table.now };
 
     ghost Bad = { λ s. BeginsBadTuple s.table.now (record { near = s.distance; far = 0 }) };

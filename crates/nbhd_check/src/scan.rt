@@ -3,11 +3,11 @@ ghost use Rattle.std.specs.Prelude.{◌+◌, ◌*◌, ◌≤◌, length};
 ghost use Rattle.channel_tables.specs.Tables.{windows_of};
 ghost use Rattle.nbhd_check.specs.Runs.{AreFreeUntil, BeginsBadTuple, wide};
 
-use crate::search::{Search, windows_per_run};
+use crate::run_search::{RunSearch, windows_per_run};
 use bad_tuples::{Tuples, judge_part};
 use channel_tables::Table;
 
-impl<'a> Search for Tuples<'a> {
+impl<'a> RunSearch for Tuples<'a> {
     ghost searched = { λ s. s.table.now };
 
     ghost Bad = { λ s. BeginsBadTuple s.table.now s.separation };

@@ -1,128 +1,103 @@
-//! Searches for windows that begin a bad tuple, run by run. A run is the windows that begin with the
-//! same `2t` identifiers.
-ghost use Rattle.std.specs.Prelude.{◌≡◌, ℕ, List, ◌+◌, ◌-◌, ◌*◌, ◌^◌, ◌<◌, ◌≤◌, Some, length, slice_get, min};
-ghost use Rattle.channel_tables.specs.Tables.{ChannelTable, windows_of, IsTable};
-ghost use Rattle.nbhd_check.specs.Runs.{AreFree, AreFreeUntil, wide};
+//! Searches for windows that begin a bad tuple, in parts on threads.
+ghost use Rattle.std.specs.Prelude.{◌≡◌, ℕ, List, ◌+◌, ◌*◌, ◌^◌, ◌<◌, ◌≤◌, Some, length, slice_get, min};
+ghost use Rattle.channel_tables.specs.Tables.{windows_of};
+ghost use Rattle.nbhd_check.specs.Runs.{AreFree, wide};
+ghost use Rattle.nbhd_check.specs.Searches.{searched, AreFreeIn, HasUnits, IsBad, IsInUnit};
 
+use crate::far_counts::FarCounts;
+use crate::far_masks::FarMasks;
+use crate::near::NearSearch;
 use crate::parallel::{least_of_parts, part_count};
+use crate::run_search::{first_in_runs, windows_per_run};
+use bad_tuples::Tuples;
 use channel_tables::Table;
-use std::sync::atomic::{AtomicU32, Ordering};
+use std::sync::atomic::AtomicU32;
 use std::thread::Threads;
-use win_index::MAX_WINDOW_LEN;
 
-/// A search for the windows of a table that are bad in some sense.
-pub(crate) trait Search: Sync {
-    // The table.
-    ghost searched: { Self → ChannelTable };
+/// A search for the windows of a table that are bad in some sense, unit by unit. A unit is a run, but
+/// for counts the windows whose third windows are in one family.
+#[derive(Clone, Copy)]
+pub(crate) enum Search<'s, 'a> {
+    /// By a test of each tuple.
+    Tuples(Tuples<'a>),
+    /// By masks of second windows, and these windows.
+    Near(&'s NearSearch<'a>),
+    /// By masks of third windows.
+    FarMasks(&'s FarMasks<'a>),
+    /// By counts of third windows.
+    FarCounts(FarCounts<'a>),
+}
 
-    // Whether a window is bad.
-    ghost Bad: { Self → List ℕ → Type 0 };
+impl<'s, 'a> Search<'s, 'a> {
+    // Returns the number of units in which the first `most` windows are.
+    fn units(self, most: u32) -> u32
+        requires { most ≤ length (windows_of (searched self)) }
+        ensures within { HasUnits self.entry result }
+        ensures few { result ≤ 2 ^ 22 }
+        ensures all { (number : ℕ) (window : List ℕ) → number < most → slice_get (windows_of (searched self.entry)) number ≡ Some window
+            → (unit : ℕ) × (unit < result) × IsInUnit self.entry unit number window }
+    {
+        match self {
+            Search::Tuples(search) => runs_of(search.table, most),
+            Search::Near(search) => runs_of(search.table, most),
+            Search::FarMasks(search) => runs_of(search.table, most),
+            Search::FarCounts(search) => search.families(),
+        }
+    }
 
-    /// Returns the table.
-    fn table(&self) -> &Table
-        ensures { result.now ≡ searched self.now };
+    // Returns a number of windows such that none of the windows below it in a unit from `low` on and
+    // below `high` is bad. Gives up windows that are not below `best`, the least such number that any
+    // thread has found.
+    fn free_in_units(self, low: u32, high: u32, best: &AtomicU32) -> u32
+        requires { HasUnits self high }
+        ensures { AreFreeIn self.entry result low high }
+    {
+        match self {
+            Search::Tuples(search) => first_in_runs(&search, low, high, best),
+            Search::Near(search) => first_in_runs(search, low, high, best),
+            Search::FarMasks(search) => first_in_runs(search, low, high, best),
+            Search::FarCounts(search) => search.free_in_families(low, high, best),
+        }
+    }
+}
 
-    /// Returns the number of a window of a run such that no window of the run before it is bad, or
-    /// `None` if none of the run is. `window` is the first window of the run.
-    fn first_in_run(&self, window: &[u32], run: u32) -> Option<u32>
-        requires { slice_get (windows_of (searched self.now)) (run * wide (searched self.now)) ≡ Some window.now }
-        ensures { AreFreeUntil (searched self.now) (Bad self.now) (run * wide (searched self.now)) (run * wide (searched self.now) + wide (searched self.now)) result };
+// Returns the number of runs in which the first `most` windows are.
+fn runs_of(table: &Table, most: u32) -> u32
+    requires { most ≤ length (windows_of table.now) }
+    ensures within { result * wide table.now ≤ length (windows_of table.now) }
+    ensures few { result ≤ 2 ^ 22 }
+    ensures all { most ≤ result * wide table.now }
+    ensures some { 1 ≤ wide table.now }
+{
+    most.div_ceil(windows_per_run(table) as u32)
 }
 
 /// Returns a number of windows, at most `most`, such that none of the windows below it is bad. At
 /// most `threads` threads search. If that is 0 or 1, only the calling thread does.
-pub(crate) fn free_windows<R: Threads + Sync, S: Search>(
+pub(crate) fn free_windows<R: Threads + Sync>(
     rt: &R,
-    search: &S,
+    search: Search<'_, '_>,
     most: u32,
     threads: u32,
 ) -> u32
-    requires { most ≤ length (windows_of (S.searched search.now)) }
+    requires { most ≤ length (windows_of (searched search)) }
     ensures less { result ≤ most }
-    ensures free { AreFree (S.searched search.now) (S.Bad search.now) 0 result }
+    ensures free { AreFree (searched search.entry) (IsBad search.entry) 0 result }
 {
-    let runs = most.div_ceil(windows_per_run(search.table()) as u32);
+    let units = search.units(most);
     let parts = part_count(most, threads);
-    let each = runs.div_ceil(parts);
+    let each = units.div_ceil(parts);
     let best = AtomicU32::new(most);
     let least = least_of_parts(
         rt,
         parts,
         |part: u32| -> u32
-            requires { (part * each + each < 2 ^ 32) × (runs * wide (S.searched search.now) ≤ length (windows_of (S.searched search.now))) }
-            ensures { AreFree (S.searched search.entry.now) (S.Bad search.entry.now) (part * each * wide (S.searched search.entry.now))
-                (min result (min (part * each + each) runs * wide (S.searched search.entry.now))) }
+            requires { (part * each + each < 2 ^ 32) × HasUnits search units }
+            ensures { AreFreeIn search.entry result (part * each) (min (part * each + each) units) }
         {
             let low = part * each;
-            first_in_runs(search, low, (low + each).min(runs), &best)
+            search.free_in_units(low, (low + each).min(units), &best)
         },
     );
     least.min(most)
-}
-
-// Returns a number such that none of the windows below it of the runs from `low` on and below `high`
-// is bad. Gives up when `best`, the least such number that any thread has returned, is less.
-fn first_in_runs<S: Search>(search: &S, low: u32, high: u32, best: &AtomicU32) -> u32
-    requires { high * wide (S.searched search.now) ≤ length (windows_of (S.searched search.now)) }
-    ensures { AreFree (S.searched search.now) (S.Bad search.now) (low * wide (S.searched search.now)) (min result (high * wide (S.searched search.now))) }
-{
-    if low >= high {
-        return u32::MAX;
-    }
-    let table = search.table();
-    let shape = table.shape();
-    let level = shape.rounds();
-    let mut cells = [0; MAX_WINDOW_LEN];
-    let window = &mut cells[..2 * level as usize + 1];
-    shape.window(level, low * windows_per_run(table) as u32, window);
-    scan_runs(search, window, low, high, best)
-}
-
-// Like `first_in_runs`. `window` is the first window of run `low`, and is advanced in place.
-fn scan_runs<S: Search>(
-    search: &S,
-    window: &mut [u32],
-    low: u32,
-    high: u32,
-    best: &AtomicU32,
-) -> u32
-    requires order { low < high }
-    requires within { high * wide (S.searched search.now) ≤ length (windows_of (S.searched search.now)) }
-    requires item { slice_get (windows_of (S.searched search.now)) (low * wide (S.searched search.now)) ≡ Some window.old }
-    ensures { AreFree (S.searched search.now) (S.Bad search.now) (low * wide (S.searched search.now)) (min result (high * wide (S.searched search.now))) }
-{
-    let table = search.table();
-    let shape = table.shape();
-    let each = windows_per_run(table) as u32;
-    for run in low..high {
-        let first = run * each;
-        if best.load(Ordering::SeqCst) <= first {
-            return first;
-        }
-        if let Some(number) = search.first_in_run(window, run) {
-            best.fetch_min(number, Ordering::SeqCst);
-            return number;
-        }
-        shape.next_run(shape.rounds(), window);
-    }
-    u32::MAX
-}
-
-/// Returns the number of windows of a run.
-pub(crate) fn windows_per_run(table: &Table) -> usize
-    ensures value { result ≡ wide table.now }
-    ensures some { 1 ≤ result }
-    ensures table { IsTable table.now }
-{
-    let shape = table.shape();
-    shape.ids() as usize - 2 * shape.rounds() as usize
-}
-
-/// Returns the number of windows, which is the number of entries.
-pub(crate) fn window_count(table: &Table) -> u32
-    ensures value { result ≡ length (windows_of table.now) }
-    ensures table { IsTable table.now }
-{
-    let shape = table.shape();
-    shape.count(shape.rounds())
 }

@@ -7,8 +7,8 @@ use Rattle.nbhd_check.proofs.Parts.{quotient_below}
 use Rattle.bad_tuples.proofs.RunLengths.{all_runs}
 use Rattle.nbhd_check.proofs.Runs.{free_of_none}
 use Rattle.nbhd_check.proofs.RunSteps.{run_end}
-use Rattle.nbhd_check.proofs.scan.TuplesSearch.first_in_run.Goals.{After-from}
-use Rattle.nbhd_check.proofs.scan.TuplesSearch.first_in_run.Goals as goal
+use Rattle.nbhd_check.proofs.scan.TuplesRunSearch.first_in_run.Goals.{After-from}
+use Rattle.nbhd_check.proofs.scan.TuplesRunSearch.first_in_run.Goals as goal
 
 -- the tuples of the run have small numbers
 tuples_few : (c : After-from)

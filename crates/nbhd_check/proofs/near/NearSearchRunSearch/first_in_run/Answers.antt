@@ -1,6 +1,6 @@
 use Rattle.std.proofs.Common.{◌+◌, ◌*◌, subst}
 use Rattle.nbhd_check.specs.Runs.{AreFreeUntil, BeginsBadTuple, wide}
-use Rattle.nbhd_check.proofs.near.NearSearchSearch.first_in_run.Goals as goal
+use Rattle.nbhd_check.proofs.near.NearSearchRunSearch.first_in_run.Goals as goal
 
 pub returns : goal.returns
 returns c =

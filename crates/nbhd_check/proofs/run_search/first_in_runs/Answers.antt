@@ -3,14 +3,14 @@ use Rattle.std.proofs.Math.Nat.{mul-le-mul_right}
 use Rattle.channel_tables.specs.Tables.{windows_of}
 use Rattle.nbhd_check.specs.Runs.{wide}
 use Rattle.nbhd_check.proofs.RunSteps.{run_few}
-use Rattle.nbhd_check.proofs.search.first_in_runs.Goals as goal
+use Rattle.nbhd_check.proofs.run_search.first_in_runs.Goals as goal
 
 pub returns-then-low-high : goal.returns-then-low-high
 returns-then-low-high g c = λ number window low below item.
     absurd (omega (
       arith,
       mul-le-mul_right
-          (wide (g.S.Search.searched c.args.search.now)) c.if-low-high.true,
+          (wide (g.S.RunSearch.searched c.args.search.now)) c.if-low-high.true,
       low,
       below,
     ))
@@ -33,7 +33,7 @@ window-requires-clause-below g c =
     (omega (arith, few, c.windows_per_run.ensures.some))
 
 pub scan_runs-requires-clause-item : goal.scan_runs-requires-clause-item
-scan_runs-requires-clause-item g c = λ _ _.
+scan_runs-requires-clause-item g c =
     let rounds_is = c.rounds-level.ensures ∙ c.shape-shape.ensures.rounds in
     let own = rw (rounds_is, c.shape-shape.ensures.ids, c.windows_per_run.ensures.value) at c.window.ensures.item in
     subst (λ t. slice_get (windows_of t) (c.args.low * wide t) ≡ Some c.window.new.out) c.table-table.ensures own

@@ -7,11 +7,11 @@ use Rattle.nbhd_check.proofs.Cells.{row_more}
 use Rattle.bad_tuples.proofs.Prefixes.{window_of_shape, step_of_run}
 use Rattle.win_index.proofs.Numbers.{windows_all}
 use Rattle.nbhd_check.proofs.RunSteps.{next_first, run_few}
-use Rattle.nbhd_check.proofs.search.scan_runs.Goals as goal
+use Rattle.nbhd_check.proofs.run_search.scan_runs.Goals as goal
 
 pub next_run-requires-clause-window : goal.next_run-requires-clause-window
 next_run-requires-clause-window g c =
-    let t = g.S.Search.searched c.args.search.now in
+    let t = g.S.RunSearch.searched c.args.search.now in
     let table_is = c.table-table.ensures in
     let item = c.loop-run.invariant.0 c.loop-run-test.true in
     window_of_shape t c.rounds.result c.shape-shape.result.ids c.loop-run.window (c.rounds.ensures ∙ c.shape-shape.ensures.rounds ∙ ap (λ x. x.rounds) table_is)
@@ -20,7 +20,7 @@ next_run-requires-clause-window g c =
 
 pub loop-run-preserved : goal.loop-run-preserved
 loop-run-preserved g c =
-    let t = g.S.Search.searched c.args.search.now in
+    let t = g.S.RunSearch.searched c.args.search.now in
     let table_is = c.table-table.ensures in
     let run : ℕ = c.loop-run.run in
     let more = row_more run (wide t) in
@@ -56,7 +56,7 @@ returns-then-load-first g c = λ number window low below item.
 
 pub returns-in-Some : goal.returns-in-Some
 returns-in-Some g c = λ number window low below item.
-    let t = g.S.Search.searched c.args.search.now in
+    let t = g.S.RunSearch.searched c.args.search.now in
     ⊎_elim
     (λ (before : number < c.loop-run.run * wide t). c.loop-run.invariant.1 number window low before item)
     (λ (own : c.loop-run.run * wide t ≤ number). c.in-Some.ensures number window own (omega (arith, below)) item)
@@ -64,6 +64,6 @@ returns-in-Some g c = λ number window low below item.
 
 pub returns : goal.returns
 returns g c = λ number window low below item.
-    let t = g.S.Search.searched c.args.search.now in
+    let t = g.S.RunSearch.searched c.args.search.now in
     let all = mul-le-mul_right (wide t) c.loop-run-test.false in
     c.loop-run.invariant.1 number window low (omega (arith, below, all)) item

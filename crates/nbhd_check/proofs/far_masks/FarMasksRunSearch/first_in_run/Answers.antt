@@ -5,7 +5,7 @@ use Rattle.nbhd_check.specs.Runs.{wide}
 use Rattle.win_index.proofs.Numbers.{windows_all}
 use Rattle.nbhd_check.proofs.Suffixes.{front_two}
 use Rattle.nbhd_check.proofs.ThirdFamilies.{at_family}
-use Rattle.nbhd_check.proofs.far_masks.FarMasksSearch.first_in_run.Goals as goal
+use Rattle.nbhd_check.proofs.far_masks.FarMasksRunSearch.first_in_run.Goals as goal
 
 -- a window of the table, at the level that is computed
 above : (t : ChannelTable) (rounds ids : ℕ) (window : List ℕ) → rounds ≡ t.rounds → ids ≡ t.ids → 1 ≤ t.rounds
