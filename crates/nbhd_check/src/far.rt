@@ -45,11 +45,8 @@ pub(crate) fn far_free_windows<R: Threads + Sync>(
         if let Some(free) = free_by_masks(rt, alloc, tuples, most, threads) {
             return free;
         }
-        if let Some(counts) = counts_if_worth(alloc, tuples) {
-            let free = free_windows(rt, Search::FarCounts(counts), most, threads);
-            if free > 0 {
-                return free;
-            }
+        if let Some(free) = free_by_counts(rt, alloc, tuples, most, threads) {
+            return free;
         }
     }
     free_windows(rt, tests, most, threads)
@@ -94,12 +91,18 @@ fn free_by_masks<R: Threads + Sync>(
     None
 }
 
-// Returns the search by counts of third windows, if it is estimated that counting a family takes less
-// time than testing the tuples with third windows in it, one by one.
-fn counts_if_worth(alloc: Global, tuples: Tuples) -> Option<FarCounts>
-    requires { (1 ≤ tuples.table.now.rounds) × (1 ≤ tuples.separation.far) }
-    ensures { IfSome result (λ counts. (counts.table.now ≡ tuples.entry.table.now)
-        × (counts.distance ≡ tuples.entry.separation.far)) }
+// Returns a number as `far_free_windows` does, by counts of third windows. Returns `None` if memory for
+// counts was refused, or if it is estimated that counting a family takes more time than testing the
+// tuples with third windows in it, one by one.
+fn free_by_counts<R: Threads + Sync>(
+    rt: &R,
+    alloc: Global,
+    tuples: Tuples,
+    most: u32,
+    threads: u32,
+) -> Option<u32>
+    requires { IsFarSearch tuples.table.now tuples.separation most }
+    ensures { IfSome result (AreFree tuples.entry.table.now (BeginsBadTuple tuples.entry.table.now tuples.entry.separation) 0) }
 {
     let Tuples { table, separation } = tuples;
     let distance = separation.far;
@@ -108,12 +111,17 @@ fn counts_if_worth(alloc: Global, tuples: Tuples) -> Option<FarCounts>
     if 8 * family * family <= 4 * family + cells_of_rows(table, limit) {
         return None;
     }
-    Some(FarCounts {
+    let search = FarCounts {
         alloc,
         table,
         distance,
         limit,
-    })
+    };
+    let free = free_windows(rt, Search::FarCounts(search), most, threads);
+    if free == 0 {
+        return None;
+    }
+    Some(free)
 }
 
 // Returns whether the window with this number begins a bad tuple.
