@@ -5,18 +5,16 @@ use Rattle.channel_tables.specs.Tables.{ChannelTable, windows_of}
 use Rattle.nbhd_check.specs.Counts.{shared_lists}
 use Rattle.nbhd_check.specs.Runs.{BeginsBadTuple, BeginsFarTuple, wide}
 use Rattle.nbhd_check.specs.declared.search.Search.{Search}
-use Rattle.nbhd_check.specs.declared.search.Search.TheVariants.{Tuples, Near, FarMasks, FarCounts}
+use Rattle.nbhd_check.specs.declared.search.Search.TheVariants.{Near, FarMasks, FarCounts}
 
 -- the table of the search
 abbrev pub searched : Search → ChannelTable
-searched (Tuples s) = s.table.now
 searched (Near s) = s.now.table.now
 searched (FarMasks s) = s.now.table.now
 searched (FarCounts s) = s.table.now
 
 -- the window is bad in the search's sense
 abbrev pub IsBad : Search → List ℕ → Type 0
-IsBad (Tuples s) = BeginsBadTuple s.table.now s.separation
 IsBad (Near s) = BeginsBadTuple s.now.table.now (record { near = s.now.distance; far = 0 })
 IsBad (FarMasks s) = BeginsFarTuple s.now.table.now s.now.distance
 IsBad (FarCounts s) = BeginsFarTuple s.table.now s.distance
@@ -27,14 +25,12 @@ IsInRun t run number = (run * wide t ≤ number) × (number < run * wide t + wid
 
 -- the window with this number is in the unit with this number
 abbrev pub IsInUnit : Search → ℕ → ℕ → List ℕ → Type 0
-IsInUnit (Tuples s) unit number window = IsInRun s.table.now unit number
 IsInUnit (Near s) unit number window = IsInRun s.now.table.now unit number
 IsInUnit (FarMasks s) unit number window = IsInRun s.now.table.now unit number
 IsInUnit (FarCounts s) unit number window = slice_get (shared_lists s.table.now) unit ≡ Some (drop 2 window)
 
 -- the search has at least so many units
 abbrev pub HasUnits : Search → ℕ → Type 0
-HasUnits (Tuples s) count = count * wide s.table.now ≤ length (windows_of s.table.now)
 HasUnits (Near s) count = count * wide s.now.table.now ≤ length (windows_of s.now.table.now)
 HasUnits (FarMasks s) count = count * wide s.now.table.now ≤ length (windows_of s.now.table.now)
 HasUnits (FarCounts s) count = count ≤ length (shared_lists s.table.now)

@@ -23,8 +23,8 @@ const FIRST_TUPLES: usize = 1 << 13;
 /// below `most` begins one whose second window is too close. At most `threads` threads search.
 ///
 /// The first tuples are tested one by one. Then masks of the channels of third windows often show that
-/// no third window is too close. If they do not, third windows are counted, or all tuples are tested if
-/// that takes less time.
+/// no third window is too close. If they do not, third windows are counted. The number is 0 if one of
+/// the first tuples is bad, if a test of all tuples takes less time, or if memory was refused.
 pub(crate) fn far_free_windows<R: Threads + Sync>(
     rt: &R,
     alloc: Global,
@@ -35,25 +35,18 @@ pub(crate) fn far_free_windows<R: Threads + Sync>(
     requires { IsFarSearch tuples.table.now tuples.separation most }
     ensures { AreFree tuples.entry.table.now (BeginsBadTuple tuples.entry.table.now tuples.entry.separation) 0 result }
 {
-    let tests = Search::Tuples(tuples);
-    if is_long_search(tuples.table, most) {
-        let few = windows_before_masks(tuples.table).min(most);
-        let first = free_windows(rt, tests, few, 1);
-        if first < few {
-            return first;
-        }
-        if let Some(free) = free_by_masks(rt, alloc, tuples, most, threads) {
-            return free;
-        }
-        if let Some(free) = free_by_counts(rt, alloc, tuples, most, threads) {
-            return free;
-        }
+    let few = windows_before_masks(tuples.table).min(most);
+    if !is_long_search(tuples.table, most) || has_bad_tuple(tuples, 0, few) {
+        return 0;
     }
-    free_windows(rt, tests, most, threads)
+    if let Some(free) = free_by_masks(rt, alloc, tuples, most, threads) {
+        return free;
+    }
+    free_by_counts(rt, alloc, tuples, most, threads).unwrap_or(0)
 }
 
-// Returns the number of windows that are searched before masks are made: those of as many runs as
-// have at most `FIRST_TUPLES` tuples.
+// Returns the number of windows whose tuples are tested before masks are made: those of as many runs
+// as have at most `FIRST_TUPLES` tuples.
 fn windows_before_masks(table: &Table) -> u32
     requires { 1 ≤ table.now.rounds }
 {
@@ -85,7 +78,7 @@ fn free_by_masks<R: Threads + Sync>(
         masks,
     };
     let free = free_windows(rt, Search::FarMasks(&search), most, threads);
-    if free == most || begins_bad_tuple(tuples, free) {
+    if free == most || has_bad_tuple(tuples, free, 1) {
         return Some(free);
     }
     None
@@ -124,13 +117,14 @@ fn free_by_counts<R: Threads + Sync>(
     Some(free)
 }
 
-// Returns whether the window with this number begins a bad tuple.
-fn begins_bad_tuple(tuples: Tuples, number: u32) -> bool
-    requires { number < length (windows_of tuples.table.now) }
+// Returns whether one of the `count` windows from number `first` on begins a bad tuple.
+fn has_bad_tuple(tuples: Tuples, first: u32, count: u32) -> bool
+    requires { first + count ≤ length (windows_of tuples.table.now) }
 {
     let each = tuples.per_window();
-    let low = u64::from(number) * each;
-    judge_part(tuples.table, tuples.separation, low, low + each).is_some()
+    let low = u64::from(first) * each;
+    let high = low + u64::from(count) * each;
+    judge_part(tuples.table, tuples.separation, low, high).is_some()
 }
 
 // Estimates whether a test of all tuples that begin with one of the first `most` windows takes more

@@ -6,8 +6,6 @@ ghost use Rattle.bad_tuples.specs.Searches.{IsLeastOfAll};
 
 use crate::far::far_free_windows;
 use crate::near::near_free_windows;
-use crate::run_search::window_count;
-use crate::search::{Search, free_windows};
 use bad_tuples::{Tuples, judge_part, tuple_count};
 use channel_tables::Separation;
 use std::alloc::Global;
@@ -36,7 +34,7 @@ fn first_windows<R: Threads + Sync>(rt: &R, alloc: Global, tuples: Tuples, threa
 {
     let Tuples { table, separation } = tuples;
     if table.shape().rounds() == 0 {
-        return single_windows(rt, tuples, threads);
+        return single_windows(tuples);
     }
     let near = near_free_windows(rt, alloc, table, separation.near, threads);
     if separation.far == 0 {
@@ -47,13 +45,15 @@ fn first_windows<R: Threads + Sync>(rt: &R, alloc: Global, tuples: Tuples, threa
 
 // Like `first_windows`, for no rounds. A window is one identifier then, and each other one can be
 // next to it and at distance two.
-fn single_windows<R: Threads + Sync>(rt: &R, tuples: Tuples, threads: u32) -> u32
+fn single_windows(tuples: Tuples) -> u32
     requires { tuples.table.now.rounds ≡ 0 }
     ensures { AreFree tuples.entry.table.now (BeginsBadTuple tuples.entry.table.now tuples.entry.separation) 0 result }
 {
     let Tuples { table, separation } = tuples;
     let near = separation.near.max(separation.far);
     let separation = Separation { near, far: 0 };
-    let tuples = Tuples { table, separation };
-    free_windows(rt, Search::Tuples(tuples), window_count(table), threads)
+    let count = tuple_count(table, separation);
+    let first = judge_part(table, separation, 0, count).unwrap_or(count);
+    let each = u64::from(table.shape().ids()) - 1;
+    (first / each) as u32
 }

@@ -12,7 +12,6 @@ mod masks;
 mod near;
 mod parallel;
 mod run_search;
-mod scan;
 mod search;
 mod verdict;
 

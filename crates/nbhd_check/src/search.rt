@@ -9,7 +9,6 @@ use crate::far_masks::FarMasks;
 use crate::near::NearSearch;
 use crate::parallel::{least_of_parts, part_count};
 use crate::run_search::{first_in_runs, windows_per_run};
-use bad_tuples::Tuples;
 use channel_tables::Table;
 use std::sync::atomic::AtomicU32;
 use std::thread::Threads;
@@ -18,8 +17,6 @@ use std::thread::Threads;
 /// for counts the windows whose third windows are in one family.
 #[derive(Clone, Copy)]
 pub(crate) enum Search<'s, 'a> {
-    /// By a test of each tuple.
-    Tuples(Tuples<'a>),
     /// By masks of second windows, and these windows.
     Near(&'s NearSearch<'a>),
     /// By masks of third windows.
@@ -38,7 +35,6 @@ impl<'s, 'a> Search<'s, 'a> {
             → (unit : ℕ) × (unit < result) × IsInUnit self.entry unit number window }
     {
         match self {
-            Search::Tuples(search) => runs_of(search.table, most),
             Search::Near(search) => runs_of(search.table, most),
             Search::FarMasks(search) => runs_of(search.table, most),
             Search::FarCounts(search) => search.families(),
@@ -53,7 +49,6 @@ impl<'s, 'a> Search<'s, 'a> {
         ensures { AreFreeIn self.entry result low high }
     {
         match self {
-            Search::Tuples(search) => first_in_runs(&search, low, high, best),
             Search::Near(search) => first_in_runs(search, low, high, best),
             Search::FarMasks(search) => first_in_runs(search, low, high, best),
             Search::FarCounts(search) => search.free_in_families(low, high, best),

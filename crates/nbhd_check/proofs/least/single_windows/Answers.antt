@@ -1,13 +1,21 @@
-use Rattle.std.proofs.Common.{◌≡◌, ℕ, zero, suc, ◌+◌, ◌*◌, ◌<◌, ◌≤◌, max, List, [], ◌∷◌, length, get_or, take, drop, subst, sym, ap, ◌∙◌, arith, refl, inl, ⊎_elim}
+use Rattle.std.proofs.Common.{Option, Some, None, ◌/◌, ◌-◌, ◌≡◌, ℕ, zero, suc, ◌+◌, ◌*◌, ◌<◌, ◌≤◌, max, List, [], ◌∷◌, length, get_or, take, drop, subst, sym, ap, ◌∙◌, arith, refl, inl, ⊎_elim}
+use Rattle.std.proofs.Math.Nat.{div-mul-le_self}
+use Rattle.std.specs.Option.{unwrap_or}
 use Rattle.win_index.specs.Arcs.{part_at}
 use Rattle.win_index.specs.Windows.{IsWindow}
 use Rattle.win_index.proofs.FrontPlaces.{slice_window}
-use Rattle.channel_tables.specs.Tables.{ChannelTable, channel_of}
+use Rattle.channel_tables.specs.Tables.{ChannelTable, channel_of, windows_of}
 use Rattle.channel_tables.specs.declared.separation.Separation.{Separation}
-use Rattle.bad_tuples.specs.Apart.{AreClose, IsBad}
+use Rattle.bad_tuples.specs.Apart.{run_len, AreClose, IsBad, NoneIsBad}
+use Rattle.bad_tuples.specs.Searches.{IsLeastIn}
+use Rattle.bad_tuples.proofs.RunLengths.{all_runs}
 use Rattle.nbhd_check.specs.Runs.{BeginsBadTuple}
 use Rattle.bad_tuples.proofs.Close.{close_along, closer, two_of_far}
+use Rattle.nbhd_check.proofs.Cells.{row_more}
 use Rattle.nbhd_check.proofs.Ends.{push_two}
+use Rattle.nbhd_check.proofs.Parts.{quotient_below}
+use Rattle.nbhd_check.proofs.Runs.{free_of_none}
+use Rattle.nbhd_check.proofs.least.single_windows.Goals.{After-from-each}
 use Rattle.nbhd_check.proofs.least.single_windows.Goals as goal
 
 -- Windows of one identifier: each other identifier can be next to it and at distance two.
@@ -52,8 +60,48 @@ bad_next t s window none bad =
     pair t s 2 tuple none (omega arith) (omega (arith, two)) own (closer s.far (max s.near s.far) first (channel_of t (part_at t.rounds 2 tuple)) (omega arith) close))
     bad.3)
 
-pub returns : goal.returns
-returns g c number window from below item bad =
+-- the tuples before the first bad one, or all
+none_before : (t : ChannelTable) (s : Separation) (count : ℕ) (found : Option ℕ) → IsLeastIn t s 0 count found
+    → NoneIsBad t s 0 (unwrap_or found count) × (unwrap_or found count ≤ count)
+none_before t s count None none = (none, omega arith)
+none_before t s count (Some n) least = (least.1.1.least, omega (arith, least.0))
+
+-- each window begins a tuple with each other identifier
+module _ (c : After-from-each) where
+  each_is : c.from-each.result - 1 ≡ run_len c.args.tuples.table.now (record { near = c.max-near.result; far = 0 })
+  each_is =
+      let t = c.args.tuples.table.now in
+      let own : c.from-each.result - 1 ≡ 1 * (t.ids - (2 * t.rounds + 1) - 0) = omega (arith, c.from-each.ensures, c.ids.ensures, c.shape.ensures.ids, c.requires) in
+      own
+
+  before : NoneIsBad c.args.tuples.table.now (record { near = c.max-near.result; far = 0 }) 0 c.unwrap_or-first.result
+      × (c.unwrap_or-first.result ≤ c.tuple_count-count.result)
+  before =
+      rw c.unwrap_or-first.ensures
+      (none_before c.args.tuples.table.now (record { near = c.max-near.result; far = 0 }) c.tuple_count-count.result c.judge_part.result c.judge_part.ensures)
+
+pub nonzero_div-result : goal.nonzero_div-result
+nonzero_div-result c = omega (arith, c.from-each.ensures, c.ids.ensures, c.shape.ensures.ids, c.shape.ensures.table.begun.shape.ids.enough)
+
+pub overflow_cast-result : goal.overflow_cast-result
+overflow_cast-result c =
     let t = c.args.tuples.table.now in
-    c.free_windows.ensures.free number window from below item
-    (subst (λ n. BeginsBadTuple t (record { near = n; far = 0 }) window) (sym c.max-near.ensures) (bad_next t c.args.tuples.separation window c.requires bad))
+    let d = (goal.at.overflow_cast-result c).After-from-each in
+    let each : ℕ = c.from-each.result - 1 in
+    let windows : ℕ = length (windows_of t) in
+    let all : c.tuple_count-count.result ≡ windows * each = c.tuple_count-count.ensures ∙ all_runs t (record { near = c.max-near.result; far = 0 }) ∙ ap (λ n. windows * n) (sym (each_is d)) in
+    let some : 0 < each = omega (arith, c.from-each.ensures, c.ids.ensures, c.shape.ensures.ids, c.shape.ensures.table.begun.shape.ids.enough) in
+    let few = quotient_below c.unwrap_or-first.result each (windows + 1) (omega (arith, (before d).1, all, row_more windows each, some)) in
+    omega (arith, few, c.shape.ensures.table.begun.shape.few_windows)
+
+pub returns : goal.returns
+returns c number window from below item bad =
+    let t = c.args.tuples.table.now in
+    let s = c.args.tuples.separation in
+    let d = (goal.at.returns c).After-from-each in
+    let each : ℕ = c.from-each.result - 1 in
+    let next : Separation = record { near = c.max-near.result; far = 0 } in
+    let first : ℕ = c.unwrap_or-first.result in
+    let free = free_of_none t next 0 (first / each) first (λ n tuple low high at'. (before d).0 n tuple (omega arith) high at') (rw (← each_is d) (div-mul-le_self first each)) in
+    free number window from below item
+    (subst (λ n. BeginsBadTuple t (record { near = n; far = 0 }) window) (sym c.max-near.ensures) (bad_next t s window c.requires bad))

@@ -16,17 +16,11 @@ free_runs t bad low high least free run number window from below is few item =
     let end = mul-le-mul_right (wide t) more in
     free number window (omega (arith, start, is.0)) (omega (arith, few, end, row_more run (wide t), is.1)) item
 
-pub returns-in-Tuples : goal.returns-in-Tuples
-returns-in-Tuples c =
-    let s = c.in-Tuples.search in
-    subst (λ own. AreFreeIn own c.first_in_runs.result c.args.low c.args.high) (sym c.in-Tuples.is)
-    (free_runs s.table.now (BeginsBadTuple s.table.now s.separation) c.args.low c.args.high c.first_in_runs.result c.first_in_runs.ensures)
-
 pub returns-in-Near : goal.returns-in-Near
 returns-in-Near c =
     let s = c.in-Near.search.now in
-    subst (λ own. AreFreeIn own c.first_in_runs-in-Near.result c.args.low c.args.high) (sym c.in-Near.is)
-    (free_runs s.table.now (BeginsBadTuple s.table.now (record { near = s.distance; far = 0 })) c.args.low c.args.high c.first_in_runs-in-Near.result c.first_in_runs-in-Near.ensures)
+    subst (λ own. AreFreeIn own c.first_in_runs.result c.args.low c.args.high) (sym c.in-Near.is)
+    (free_runs s.table.now (BeginsBadTuple s.table.now (record { near = s.distance; far = 0 })) c.args.low c.args.high c.first_in_runs.result c.first_in_runs.ensures)
 
 pub returns-in-FarMasks : goal.returns-in-FarMasks
 returns-in-FarMasks c =

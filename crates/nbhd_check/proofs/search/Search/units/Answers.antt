@@ -19,15 +19,9 @@ All s most units =
     (number : ℕ) (window : List ℕ) → number < most → slice_get (windows_of (searched s)) number ≡ Some window
     → (unit : ℕ) × (unit < units) × IsInUnit s unit number window
 
-pub returns-in-Tuples-clause-all : goal.returns-in-Tuples-clause-all
-returns-in-Tuples-clause-all c =
-    let t = c.in-Tuples.search.table.now in
-    subst (λ s. All s c.args.most c.runs_of.result) (sym c.in-Tuples.is)
-    (λ number window below item. in_runs t c.args.most c.runs_of.result number c.runs_of.ensures.some c.runs_of.ensures.all below)
-
 pub returns-in-Near-clause-all : goal.returns-in-Near-clause-all
 returns-in-Near-clause-all c =
-    let runs = c.runs_of-in-Near in
+    let runs = c.runs_of in
     subst (λ s. All s c.args.most runs.result) (sym c.in-Near.is)
     (λ number window below item. in_runs c.in-Near.search.now.table.now c.args.most runs.result number runs.ensures.some runs.ensures.all below)
 
