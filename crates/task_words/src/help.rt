@@ -1,4 +1,4 @@
-//! The help texts, except those that `clap` writes itself.
+//! The long texts of the help, except those that `clap` writes itself. The rows have the others.
 
 /// The details of a command on a program text: the lines `$reads`, then the numbers of identifiers
 /// that each number of rounds allows (enough for a ring, and at most `win_index::MAX_WINDOWS`
@@ -42,57 +42,8 @@ and prints the channels of these four nodes: 2 4 3 5
 Pages: docs/TUTORIAL.md teaches from the start, docs/LANGUAGE.md has programs, commands and texts,
 docs/FAULTS.md each refusal and its note, and docs/GALLERY.md classical programs.";
 
-pub(crate) const CHECK: &str = "Tells whether a program is accepted for M identifiers";
-
-pub(crate) const PRINT: &str = "Prints a program text in its one printed form";
-
-pub(crate) const TABLE: &str = "Prints the table of a program, one channel per window";
-
-pub(crate) const JUDGE: &str =
-    "Tells whether channels are far enough apart on every ring, by a program's table";
-
-pub(crate) const RUN: &str = "Runs a program by messages on a ring, and prints the channels";
-
-pub(crate) const TRACE: &str =
-    "Runs a program on a ring, and prints what its nodes hold and send in each round";
-
-pub(crate) const EXPLAIN: &str =
-    "Runs a program on a ring, and prints how one node computes each of its values";
-
-pub(crate) const PLAN: &str = "Prints the channels of a ring's places, looked up in the table";
-
-pub(crate) const AUDIT: &str =
-    "Tells whether channels are far enough apart on every ring, by a table text";
-
-pub(crate) const MIGRATE: &str = "Prints a table text of any version in the newest one";
-
-pub(crate) const FORMULA: &str =
-    "Prints the formula that asks for a table of some size, for a SAT solver";
-
-pub(crate) const REFUTE: &str = "Checks a solver's refutation: there is no table of this size";
-
-pub(crate) const IDS: &str = "How many identifiers there are; they are 0 to M-1";
-
-pub(crate) const RING: &str = "The ring's identifiers, each followed by its right neighbour's";
-
-pub(crate) const PLACE: &str = "The place of the node in the ring, counted from 0";
-
-pub(crate) const BASE: &str = "The base of the numbers that are printed, 2 to 10";
-
-pub(crate) const ROUNDS: &str = "How many rounds nodes communicate, 0 to 4";
-
-pub(crate) const CHANNELS: &str = "How many channels there are, 1 to 4096; they are 0 to C-1";
-
-pub(crate) const WORKERS: &str = "How many threads work on the table, 1 to 64";
-
-pub(crate) const SEGMENTS: &str = "How many segments the ring is cut into, each a thread, 1 to 64";
-
-pub(crate) const NEAR: &str = "By how much neighbours' channels have to differ, 1 to 4096";
-
-pub(crate) const FAR: &str = "By how much the channels at distance two have to differ, 0 to 4096";
-
 /// The input, output and exit statuses of `check`.
-pub(crate) const CHECK_DETAILS: &str = details!(
+pub(crate) const CHECK: &str = details!(
     "Standard input:  a program text
 Standard output: one line: the program is accepted, or what is refused
 
@@ -107,7 +58,7 @@ Exit status:
 );
 
 /// The input, output and exit statuses of `print`.
-pub(crate) const PRINT_DETAILS: &str = "Standard input:  a program text
+pub(crate) const PRINT: &str = "Standard input:  a program text
 Standard output: the same program with one line for each of its parts and without comments,
                  or one line: what is refused
 
@@ -121,7 +72,7 @@ Exit status:
   6  memory was refused";
 
 /// The input, output and exit statuses of `table`.
-pub(crate) const TABLE_DETAILS: &str = details!(
+pub(crate) const TABLE: &str = details!(
     "Standard input:  a program text
 Standard output: the table text, or one line: what is refused
 
@@ -137,7 +88,7 @@ Exit status:
 );
 
 /// The input, output and exit statuses of `judge`.
-pub(crate) const JUDGE_DETAILS: &str = details!(
+pub(crate) const JUDGE: &str = details!(
     "Standard input:  a program text
 Standard output: one line: yes, or no with a ring where two channels are too close,
                  or what is refused
@@ -156,7 +107,7 @@ Exit status:
 );
 
 /// The input, output and exit statuses of `run`.
-pub(crate) const RUN_DETAILS: &str = details!(
+pub(crate) const RUN: &str = details!(
     ring: "Standard input:  a program text
 Standard output: one line: the channels in the order of the ring, or what is refused
 
@@ -173,7 +124,7 @@ Exit status:
 );
 
 /// The input, output and exit statuses of `trace`.
-pub(crate) const TRACE_DETAILS: &str = details!(
+pub(crate) const TRACE: &str = details!(
     ring: "Standard input:  a program text
 Standard output: lines with a number for each place of the ring, or one line: what is refused
 
@@ -198,7 +149,7 @@ Exit status:
 );
 
 /// The input, output and exit statuses of `explain`.
-pub(crate) const EXPLAIN_DETAILS: &str = details!(
+pub(crate) const EXPLAIN: &str = details!(
     ring: "Standard input:  a program text
 Standard output: each expression of the program with its values, or one line: what is refused
 
@@ -224,7 +175,7 @@ Exit status:
 );
 
 /// The input, output and exit statuses of `plan`.
-pub(crate) const PLAN_DETAILS: &str = details!(
+pub(crate) const PLAN: &str = details!(
     ring: "Standard input:  a program text
 Standard output: one line for each place of the ring: the place, its identifier and its channel;
                  or one line: what is refused
@@ -241,7 +192,7 @@ Exit status:
 );
 
 /// The input, output and exit statuses of `audit`.
-pub(crate) const AUDIT_DETAILS: &str = "Standard input:  a table text, as `nbhd table` prints it
+pub(crate) const AUDIT: &str = "Standard input:  a table text, as `nbhd table` prints it
 Standard output: one line: yes, or no with a ring where two channels are too close,
                  or what is refused
 
@@ -257,7 +208,7 @@ Exit status:
   6  memory or a thread was refused";
 
 /// The input, output and exit statuses of `migrate`.
-pub(crate) const MIGRATE_DETAILS: &str = "Standard input:  a table text of version 1 or 2
+pub(crate) const MIGRATE: &str = "Standard input:  a table text of version 1 or 2
 Standard output: the text of the same table, near and far in version 2, or one line: what is refused
 
 Exit status:
@@ -268,7 +219,7 @@ Exit status:
   6  memory was refused";
 
 /// The input, output and exit statuses of `formula`.
-pub(crate) const FORMULA_DETAILS: &str = "Standard input:  nothing is read
+pub(crate) const FORMULA: &str = "Standard input:  nothing is read
 Standard output: the formula in DIMACS, as SAT solvers read it, or one line: what is refused
 
 The formula has a variable for each window of 2T+1 identifiers and each channel: w*C+c+1 says that
@@ -284,7 +235,7 @@ Exit status:
   7  there is no such formula, or it is too large";
 
 /// The input, output and exit statuses of `refute`.
-pub(crate) const REFUTE_DETAILS: &str =
+pub(crate) const REFUTE: &str =
     "Standard input:  a refutation of the formula that `nbhd formula` prints, in LRAT
 Standard output: one line: refuted, or what is refused
 

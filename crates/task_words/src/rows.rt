@@ -132,7 +132,7 @@ const COUNTS: Values = Values::Numbers(1, MAX_COUNT);
 const IDS: OptionRow = OptionRow {
     name: "ids",
     value_name: "M",
-    help: help::IDS,
+    help: "How many identifiers there are; they are 0 to M-1",
     values: Values::Numbers(0, u32::MAX),
     default: None,
 };
@@ -140,7 +140,7 @@ const IDS: OptionRow = OptionRow {
 const RING: OptionRow = OptionRow {
     name: "ring",
     value_name: "A,B,..",
-    help: help::RING,
+    help: "The ring's identifiers, each followed by its right neighbour's",
     values: Values::Text,
     default: None,
 };
@@ -148,7 +148,7 @@ const RING: OptionRow = OptionRow {
 const PLACE: OptionRow = OptionRow {
     name: "place",
     value_name: "P",
-    help: help::PLACE,
+    help: "The place of the node in the ring, counted from 0",
     values: Values::Numbers(0, u32::MAX),
     default: None,
 };
@@ -156,7 +156,7 @@ const PLACE: OptionRow = OptionRow {
 const BASE: OptionRow = OptionRow {
     name: "base",
     value_name: "B",
-    help: help::BASE,
+    help: "The base of the numbers that are printed, 2 to 10",
     values: Values::Numbers(MIN_BASE, MAX_BASE),
     default: Some("10"),
 };
@@ -164,7 +164,7 @@ const BASE: OptionRow = OptionRow {
 const WORKERS: OptionRow = OptionRow {
     name: "workers",
     value_name: "W",
-    help: help::WORKERS,
+    help: "How many threads work on the table, 1 to 64",
     values: COUNTS,
     default: Some("1"),
 };
@@ -172,7 +172,7 @@ const WORKERS: OptionRow = OptionRow {
 const SEGMENTS: OptionRow = OptionRow {
     name: "segments",
     value_name: "S",
-    help: help::SEGMENTS,
+    help: "How many segments the ring is cut into, each a thread, 1 to 64",
     values: COUNTS,
     default: Some("1"),
 };
@@ -180,7 +180,7 @@ const SEGMENTS: OptionRow = OptionRow {
 const NEAR: OptionRow = OptionRow {
     name: "near",
     value_name: "P",
-    help: help::NEAR,
+    help: "By how much neighbours' channels have to differ, 1 to 4096",
     values: Values::Numbers(1, MAX_DISTANCE),
     default: Some("1"),
 };
@@ -188,7 +188,7 @@ const NEAR: OptionRow = OptionRow {
 const FAR: OptionRow = OptionRow {
     name: "far",
     value_name: "Q",
-    help: help::FAR,
+    help: "By how much the channels at distance two have to differ, 0 to 4096",
     values: Values::Numbers(0, MAX_DISTANCE),
     default: Some("0"),
 };
@@ -196,7 +196,7 @@ const FAR: OptionRow = OptionRow {
 const ROUNDS: OptionRow = OptionRow {
     name: "rounds",
     value_name: "T",
-    help: help::ROUNDS,
+    help: "How many rounds nodes communicate, 0 to 4",
     values: Values::Numbers(0, MAX_ROUNDS),
     default: None,
 };
@@ -204,7 +204,7 @@ const ROUNDS: OptionRow = OptionRow {
 const CHANNELS: OptionRow = OptionRow {
     name: "channels",
     value_name: "C",
-    help: help::CHANNELS,
+    help: "How many channels there are, 1 to 4096; they are 0 to C-1",
     values: Values::Numbers(1, MAX_CHANNELS),
     default: None,
 };
@@ -214,85 +214,85 @@ pub(crate) const COMMANDS: [CommandRow; 12] = [
     // `check --ids M`
     CommandRow {
         command: Command::OnText(TextCommand::Check),
-        about: help::CHECK,
-        details: help::CHECK_DETAILS,
+        about: "Tells whether a program is accepted for M identifiers",
+        details: help::CHECK,
         options: &[IDS],
     },
     // `print`
     CommandRow {
         command: Command::OnText(TextCommand::Print),
-        about: help::PRINT,
-        details: help::PRINT_DETAILS,
+        about: "Prints a program text in its one printed form",
+        details: help::PRINT,
         options: &[],
     },
     // `table --ids M [--workers W] [--near P] [--far Q]`
     CommandRow {
         command: Command::OnText(TextCommand::Table),
-        about: help::TABLE,
-        details: help::TABLE_DETAILS,
+        about: "Prints the table of a program, one channel per window",
+        details: help::TABLE,
         options: &[IDS, WORKERS, NEAR, FAR],
     },
     // `judge --ids M [--workers W] [--near P] [--far Q]`
     CommandRow {
         command: Command::OnText(TextCommand::Judge),
-        about: help::JUDGE,
-        details: help::JUDGE_DETAILS,
+        about: "Tells whether channels are far enough apart on every ring, by a program's table",
+        details: help::JUDGE,
         options: &[IDS, WORKERS, NEAR, FAR],
     },
     // `run --ids M --ring A,B,.. [--segments S]`
     CommandRow {
         command: Command::OnRing(RingCommand::Run),
-        about: help::RUN,
-        details: help::RUN_DETAILS,
+        about: "Runs a program by messages on a ring, and prints the channels",
+        details: help::RUN,
         options: &[IDS, RING, SEGMENTS],
     },
     // `trace --ids M --ring A,B,.. [--base B]`
     CommandRow {
         command: Command::OnRing(RingCommand::Trace),
-        about: help::TRACE,
-        details: help::TRACE_DETAILS,
+        about: "Runs a program on a ring, and prints what its nodes hold and send in each round",
+        details: help::TRACE,
         options: &[IDS, RING, BASE],
     },
     // `explain --ids M --ring A,B,.. --place P [--base B]`
     CommandRow {
         command: Command::OnRing(RingCommand::Explain),
-        about: help::EXPLAIN,
-        details: help::EXPLAIN_DETAILS,
+        about: "Runs a program on a ring, and prints how one node computes each of its values",
+        details: help::EXPLAIN,
         options: &[IDS, RING, PLACE, BASE],
     },
     // `plan --ids M --ring A,B,.. [--workers W]`
     CommandRow {
         command: Command::OnRing(RingCommand::Plan),
-        about: help::PLAN,
-        details: help::PLAN_DETAILS,
+        about: "Prints the channels of a ring's places, looked up in the table",
+        details: help::PLAN,
         options: &[IDS, RING, WORKERS],
     },
     // `audit`
     CommandRow {
         command: Command::OnText(TextCommand::Audit),
-        about: help::AUDIT,
-        details: help::AUDIT_DETAILS,
+        about: "Tells whether channels are far enough apart on every ring, by a table text",
+        details: help::AUDIT,
         options: &[],
     },
     // `migrate`
     CommandRow {
         command: Command::OnText(TextCommand::Migrate),
-        about: help::MIGRATE,
-        details: help::MIGRATE_DETAILS,
+        about: "Prints a table text of any version in the newest one",
+        details: help::MIGRATE,
         options: &[],
     },
     // `formula --ids M --rounds T --channels C [--near P] [--far Q]`
     CommandRow {
         command: Command::OnFormula(FormulaCommand::Formula),
-        about: help::FORMULA,
-        details: help::FORMULA_DETAILS,
+        about: "Prints the formula that asks for a table of some size, for a SAT solver",
+        details: help::FORMULA,
         options: &[IDS, ROUNDS, CHANNELS, NEAR, FAR],
     },
     // `refute --ids M --rounds T --channels C [--near P] [--far Q]`
     CommandRow {
         command: Command::OnFormula(FormulaCommand::Refute),
-        about: help::REFUTE,
-        details: help::REFUTE_DETAILS,
+        about: "Checks a solver's refutation: there is no table of this size",
+        details: help::REFUTE,
         options: &[IDS, ROUNDS, CHANNELS, NEAR, FAR],
     },
 ];
