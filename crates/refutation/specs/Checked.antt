@@ -2,8 +2,8 @@
 use Rattle.std.specs.Prelude.{◌≡◌, Option, Some}
 use Rattle.table_formula.specs.Problems.{Problem}
 use Rattle.refutation.specs.declared.checker.Checker.{Checker}
-use Rattle.refutation.specs.declared.step_error.StepError.{StepError}
-use Rattle.refutation.specs.declared.step_error.StepError.TheVariants.{Fault, OutOfMemory}
+use Rattle.refutation.specs.declared.fault.StepError.{StepError}
+use Rattle.refutation.specs.declared.fault.StepError.TheVariants.{Fault, OutOfMemory}
 use Rattle.refutation.specs.declared.fault.LineFault.{LineFault}
 use Rattle.refutation.specs.Derivations.{Derivation}
 use Rattle.refutation.specs.Stored.{clause_of}

@@ -4,10 +4,9 @@ ghost use Rattle.clause_check.specs.Marked.{variables_of};
 ghost use Rattle.table_formula.specs.Formula.{variable_count, longest_len, formula as clauses_of};
 
 use crate::clauses::Clauses;
-use crate::fault::LineFault;
+use crate::fault::{LineFault, StepError};
 use crate::forms::Form;
 use crate::hints::outcome_of_hints;
-use crate::step_error::StepError;
 use clause_check::{Literal, Marks, Outcome};
 use std::alloc::{AllocError, Global};
 use table_formula::Formula;

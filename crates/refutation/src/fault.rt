@@ -33,13 +33,20 @@ pub enum LineFault {
     NoEmptyClause,
 }
 
-impl From<AllocError> for RefuteError {
+// Why a step was not made.
+#[derive(Clone, Copy, Debug, PartialEq, Eq)]
+pub(crate) enum StepError {
+    Fault(LineFault),
+    OutOfMemory,
+}
+
+impl From<AllocError> for StepError {
     ghost use Rattle.std.specs.Prelude.{◌≡◌};
-    ghost use Rattle.refutation.specs.declared.fault.RefuteError.TheVariants.{OutOfMemory};
+    ghost use Rattle.refutation.specs.declared.fault.StepError.TheVariants.{OutOfMemory};
 
     ghost from_gives = { λ _ e. e ≡ OutOfMemory };
 
-    fn from(_error: AllocError) -> RefuteError {
-        RefuteError::OutOfMemory
+    fn from(_error: AllocError) -> StepError {
+        StepError::OutOfMemory
     }
 }

@@ -11,7 +11,6 @@ mod laws;
 mod limits;
 mod parts;
 mod refuting;
-mod step_error;
 mod words;
 
 pub use fault::{LineFault, RefuteError};

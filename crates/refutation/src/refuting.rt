@@ -9,12 +9,11 @@ ghost use Rattle.refutation.specs.Forms.{line_of};
 ghost use Rattle.refutation.specs.Checked.{problem_of, derivation_of, IsStepError};
 
 use crate::checker::Checker;
-use crate::fault::{LineFault, RefuteError};
+use crate::fault::{LineFault, RefuteError, StepError};
 use crate::forms::{Form, read_line};
 use crate::laws::refutations_are_sound;
 use crate::limits::LONGEST_REFUTATION;
 use crate::parts::Parts;
-use crate::step_error::StepError;
 use clause_check::Literal;
 use std::alloc::Global;
 use table_formula::Formula;
