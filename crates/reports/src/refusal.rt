@@ -37,11 +37,3 @@ impl From<AllocError> for Refusal {
         Refusal::OutOfMemory
     }
 }
-
-impl From<OutOfMemory> for Refusal {
-    ghost from_gives = { λ _ refusal. refusal ≡ NoMemory };
-
-    fn from(_refused: OutOfMemory) -> Refusal {
-        Refusal::OutOfMemory
-    }
-}

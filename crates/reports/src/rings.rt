@@ -19,7 +19,7 @@ use crate::status::Status;
 use lang_check::Plan;
 use node_program::OutOfMemory;
 use numerals::Base;
-use std::alloc::Global;
+use std::alloc::{AllocError, Global};
 use value_trees::{explanation_text, trace_text};
 use win_index::{Ring, RingFault, Shape};
 
@@ -42,7 +42,7 @@ fn ring_refusal(
     shape: Shape,
     places: Vec<u32>,
     fault: RingFault,
-) -> Result<Answer, OutOfMemory>
+) -> Result<Answer, AllocError>
     requires { IsFirstFault shape.ids shape.rounds places.items fault }
     ensures { IfOk result (λ r. Refuses (report.ring_fault_line fault) Status.RingRefused
         (of_ring shape.ids shape.rounds places.items fault) (report_in r)) }

@@ -1,10 +1,8 @@
 //! Writing a report.
 
-ghost use Rattle.std.specs.Prelude.{◌≡◌, false, IfOk};
+ghost use Rattle.std.specs.Prelude.{◌≡◌, ℕ, Bool, false, List, Option, IfOk};
+ghost use Rattle.devices.specs.Output.{WritesText};
 ghost use Rattle.devices.specs.Watched.{device_of, has_failed};
-ghost use Rattle.table_text.specs.LineForms.{IsSeparation};
-ghost use Rattle.table_text.specs.TableText.{table_text};
-ghost use Rattle.table_formula.specs.Texts.{formula_text};
 ghost use Rattle.reports.specs.Answers.{report_in};
 ghost use Rattle.reports.specs.Causes.{reason_in};
 ghost use Rattle.reports.specs.Written.{WritesBytes};
@@ -12,13 +10,12 @@ ghost use Rattle.reports.specs.Written.{WritesBytes};
 use crate::answer::{Answer, TableReport};
 use crate::cause::Cause;
 use crate::status::Status;
-use channel_tables::{Separation, Table};
 use devices::fault::{EngineFault, OutFault};
 use devices::output::send;
 use devices::watched::Watched;
 use std::alloc::Global;
 use std::io::Write;
-use table_formula::{Formula, write_formula};
+use table_formula::write_formula;
 use table_text::write_table;
 
 /// Writes a report. Returns its status, and its cause if it has one.
@@ -44,44 +41,22 @@ pub fn write_answer<W: Write>(
             Ok((status, Some(cause)))
         }
         Answer::Table(TableReport { table, separation }) => {
-            write_table_text(alloc, &table, separation, writer)?;
+            result_of(write_table(alloc, &table, separation, writer))?;
             Ok((Status::Done, None))
         }
         Answer::Formula(formula) => {
-            write_formula_text(alloc, &formula, writer)?;
+            result_of(write_formula(alloc, &formula, writer))?;
             Ok((Status::Done, None))
         }
     }
 }
 
-// Writes the text of a table and a separation.
-fn write_table_text<W: Write>(
-    alloc: Global,
-    table: &Table,
-    separation: Separation,
-    writer: &mut Watched<W>,
-) -> Result<(), EngineFault>
-    requires separation { IsSeparation separation }
-    requires writes { has_failed writer.old ≡ false }
-    ensures { WritesBytes (table_text table.now separation) (W.contents (device_of writer.old)) (W.contents (device_of writer.new)) (has_failed writer.new) result }
+// Returns the result of writing a text, as that of a report.
+fn result_of(written: Result<(), OutFault>) -> Result<(), EngineFault>
+    ensures { (text : List ℕ) (before after : Option (List ℕ)) (failed : Bool)
+        → WritesText text before after failed written → WritesBytes text before after failed result }
 {
-    match write_table(alloc, table, separation, writer) {
-        Ok(()) => Ok(()),
-        Err(OutFault::Write) => Err(EngineFault::Write),
-        Err(OutFault::Memory) => Err(EngineFault::Memory),
-    }
-}
-
-// Writes the text of a formula.
-fn write_formula_text<W: Write>(
-    alloc: Global,
-    formula: &Formula,
-    writer: &mut Watched<W>,
-) -> Result<(), EngineFault>
-    requires { has_failed writer.old ≡ false }
-    ensures { WritesBytes (formula_text formula.now) (W.contents (device_of writer.old)) (W.contents (device_of writer.new)) (has_failed writer.new) result }
-{
-    match write_formula(alloc, formula, writer) {
+    match written {
         Ok(()) => Ok(()),
         Err(OutFault::Write) => Err(EngineFault::Write),
         Err(OutFault::Memory) => Err(EngineFault::Memory),

@@ -8,3 +8,23 @@ returns-in_ok-send-in-Text-clause-writes g c =
 pub returns-in_ok-send-in-WithCause-clause-writes : goal.returns-in_ok-send-in-WithCause-clause-writes
 returns-in_ok-send-in-WithCause-clause-writes g c =
     rw c.in-WithCause.is (record { written = rw c.as_bytes-in-WithCause.ensures.value at c.in_ok-send-in-WithCause.ensures.ok; left = tt; unread = tt; own = tt; told = search rules })
+
+pub returns-in_ok-result_of-in-Table-clause-writes : goal.returns-in_ok-result_of-in-Table-clause-writes
+returns-in_ok-result_of-in-Table-clause-writes g c =
+    let w = c.in_ok-result_of-in-Table.ensures _ _ _ _ c.write_table.ensures in
+    rw c.in-Table.is (record { written = w.written; left = tt; unread = tt; own = tt; told = search (rules, w) })
+
+pub returns-in_ok-result_of-in-Formula-clause-writes : goal.returns-in_ok-result_of-in-Formula-clause-writes
+returns-in_ok-result_of-in-Formula-clause-writes g c =
+    let w = c.in_ok-result_of-in-Formula.ensures _ _ _ _ c.write_formula.ensures in
+    rw c.in-Formula.is (record { written = w.written; left = tt; unread = tt; own = tt; told = search (rules, w) })
+
+pub returns-in_err-result_of-in-Table-clause-writes : goal.returns-in_err-result_of-in-Table-clause-writes
+returns-in_err-result_of-in-Table-clause-writes g c =
+    let w = c.in_err-result_of-in-Table.ensures _ _ _ _ c.write_table.ensures in
+    search (rules, w)
+
+pub returns-in_err-result_of-in-Formula-clause-writes : goal.returns-in_err-result_of-in-Formula-clause-writes
+returns-in_err-result_of-in-Formula-clause-writes g c =
+    let w = c.in_err-result_of-in-Formula.ensures _ _ _ _ c.write_formula.ensures in
+    search (rules, w)
