@@ -6,10 +6,9 @@ ghost use Rattle.task_words.specs.Counts.{IsCount};
 ghost use Rattle.shared_memo.specs.Passes.{memo_plan};
 ghost use Rattle.plan_print.specs.Engine.{IsTaskFault};
 ghost use Rattle.plan_print.specs.ReportedFaults.{reported_fill_fault, reported_run_fault};
-ghost use Rattle.table_text.specs.LineForms.{IsSeparation};
 ghost use Rattle.reports.specs.Answers.{report_in};
 ghost use Rattle.reports.specs.Report as report;
-ghost use Rattle.reports.specs.Report.{Says, IsAnswerOnRing, IsJudgement, IsRunAnswer, IsTableText};
+ghost use Rattle.reports.specs.Report.{Says, IsAnswerOnRing, IsJudgement, IsRunAnswer};
 
 use crate::places::places_text;
 use channel_tables::Table;
@@ -17,7 +16,7 @@ use devices::fault::EngineFault;
 use first_tuples::{Witness, first_witness};
 use lang_check::Plan;
 use nbhd_check::Separation;
-use reports::answer::{Answer, TableReport};
+use reports::answer::Answer;
 use reports::judgement::{no_answer, verdict_answer};
 use reports::judging::verdict_and_drop;
 use reports::lines::numbers_line;
@@ -31,25 +30,6 @@ use std::sync::Wait;
 use std::thread::Threads;
 use table_fill::{FillFault, compile};
 use win_index::Ring;
-
-// Returns the report with the table of an accepted program, which this many workers fill, and a
-// separation.
-pub(crate) fn table_answer<T: Threads + Wait + Sync>(
-    rt: &T,
-    alloc: Global,
-    plan: &Plan,
-    separation: Separation,
-    workers: u32,
-) -> Result<Answer, EngineFault>
-    requires workers { IsCount workers }
-    requires separation { IsSeparation separation }
-    ensures answer { IfOk result (λ r. IsTableText (table_of plan.now.program plan.now.ids) separation (report_in r)) }
-    ensures fault { IfErr result (IsTaskFault workers) }
-{
-    let memo = Memo::new(alloc, plan)?;
-    let table = compile_table(rt, alloc, plan, &memo, workers)?;
-    Ok(Answer::Table(TableReport { table, separation }))
-}
 
 // Returns the report of a run on a list of identifiers in this many segments.
 pub(crate) fn run_answer<T: Threads + Wait + Sync>(
@@ -118,8 +98,7 @@ pub(crate) fn plan_answer<T: Threads + Wait + Sync>(
 {
     match ring_in(alloc, plan, ids) {
         Ok(ring) => {
-            let memo = Memo::new(alloc, plan)?;
-            let table = compile_table(rt, alloc, plan, &memo, workers)?;
+            let table = filled_table(rt, alloc, plan, workers)?;
             Ok(Answer::Text(places_text(alloc, plan, &table, &ring)?, Status::Done))
         }
         Err(refusal) => Ok(refusal.report()?),
@@ -153,7 +132,22 @@ pub(crate) fn judge_report<T: Threads + Wait + Sync>(
     Ok(verdict_answer(alloc, &table, separation, verdict)?)
 }
 
-// Returns the table of an accepted program, filled by this many workers in a memo of it.
+// Returns the table of an accepted program, which this many workers fill.
+pub(crate) fn filled_table<T: Threads + Wait + Sync>(
+    rt: &T,
+    alloc: Global,
+    plan: &Plan,
+    workers: u32,
+) -> Result<Table, EngineFault>
+    requires { IsCount workers }
+    ensures table { IfOk result (λ table. table ≡ table_of plan.now.program plan.now.ids) }
+    ensures fault { IfErr result (IsTaskFault workers) }
+{
+    let memo = Memo::new(alloc, plan)?;
+    compile_table(rt, alloc, plan, &memo, workers)
+}
+
+// Returns the same table, filled in a memo of the program.
 #[tactic(auto, using(crate::proofs::Workers::worker_count))]
 fn compile_table<T: Threads + Wait + Sync>(
     rt: &T,

@@ -10,12 +10,12 @@ ghost use Rattle.reports.specs.ProblemFaults.{problem_of};
 ghost use Rattle.reports.specs.Report.{IsProgramReport};
 ghost use Rattle.task_words.specs.Task.{IsRunnable};
 
-use crate::answer::{judge_report, plan_answer, run_answer, table_answer};
+use crate::answer::{filled_table, judge_report, plan_answer, run_answer};
 use devices::fault::EngineFault;
 use lang_check::Plan;
 use nbhd_check::Separation;
 use numerals::Base;
-use reports::answer::Answer;
+use reports::answer::{Answer, TableReport};
 use reports::formulas::{formula_report, refute_report};
 use reports::problem::ProblemNumbers;
 use reports::rings::{explain_answer, trace_answer};
@@ -154,7 +154,10 @@ fn program_answer<T: Threads + Wait + Sync>(
 {
     match question {
         Question::Check => Ok(check_answer(alloc, plan)?),
-        Question::Table(separation, workers) => table_answer(rt, alloc, plan, separation, workers),
+        Question::Table(separation, workers) => {
+            let table = filled_table(rt, alloc, plan, workers)?;
+            Ok(Answer::Table(TableReport { table, separation }))
+        }
         Question::Judge(separation, workers) => judge_report(rt, alloc, plan, separation, workers),
         Question::Run(ring, segments) => run_answer(rt, alloc, plan, ring, segments),
         Question::Trace(ring, base) => Ok(trace_answer(alloc, base, plan, ring)?),

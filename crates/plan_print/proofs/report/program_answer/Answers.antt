@@ -3,12 +3,6 @@ use Rattle.plan_print.proofs.report.program_answer.Goals as goal
 pub returns-in_ok-check_answer-in-Check-clause-answer : goal.returns-in_ok-check_answer-in-Check-clause-answer
 returns-in_ok-check_answer-in-Check-clause-answer g c = rw c.in-Check.is c.in_ok-check_answer-in-Check.ensures
 
-pub returns-in-Table-clause-answer : goal.returns-in-Table-clause-answer
-returns-in-Table-clause-answer g c = rw c.in-Table.is c.table_answer.ensures.answer
-
-pub returns-in-Table-clause-fault : goal.returns-in-Table-clause-fault
-returns-in-Table-clause-fault g c = rw c.in-Table.is c.table_answer.ensures.fault
-
 pub returns-in-Judge-clause-answer : goal.returns-in-Judge-clause-answer
 returns-in-Judge-clause-answer g c = rw c.in-Judge.is c.judge_report.ensures.answer
 
