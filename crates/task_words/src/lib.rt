@@ -2,7 +2,6 @@
 #![tactic(auto)]
 
 mod command_line;
-mod decimal;
 mod help;
 pub mod limits;
 mod options;

@@ -1,11 +1,11 @@
 //! Ring texts: decimal numbers separated by single commas.
 
 ghost use Rattle.std.specs.Prelude.{◌≡◌, ◌⊎◌, ◌↔◌, map, All, IsOk, IsErrOf, IfOk, IfErr};
+ghost use Rattle.std.specs.Option.{SomeIff};
 ghost use Rattle.task_words.specs.Decimal.{IsNumber, number_in};
 ghost use Rattle.task_words.specs.RingText.{parts_of, IsRingText, ring_in};
 ghost use Rattle.task_words.specs.WordsFault.{MemoryAside};
 
-use crate::decimal::number_of;
 use crate::words::WordsFault;
 use std::alloc::{AllocError, Global};
 
@@ -47,4 +47,15 @@ fn numbers(alloc: Global, parts: &[&str]) -> Result<Vec<u32>, WordsFault>
         numbers.push(number)?;
     }
     Ok(numbers)
+}
+
+// Returns the value of a text of one or more decimal digits, with leading zeros allowed. Returns
+// `None` if the text has any other byte or no digit, or if its value is above 4294967295.
+pub(crate) fn number_of(text: &str) -> Option<u32>
+    ensures { SomeIff result (IsNumber text.now) (number_in text.now) }
+{
+    match text.as_bytes() {
+        [b'+', ..] => None,
+        _ => text.parse::<u32>().ok(),
+    }
 }

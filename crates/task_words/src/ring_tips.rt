@@ -6,8 +6,7 @@ ghost use Rattle.task_words.specs.RingText.{IsRingText};
 ghost use Rattle.task_words.specs.RingTips as texts;
 ghost use Rattle.task_words.specs.RingTips.{IsFirstBad, IsRingTip};
 
-use crate::decimal::number_of;
-use crate::ring_text::parts;
+use crate::ring_text::{number_of, parts};
 use std::alloc::{AllocError, Global};
 
 /// Returns a line that names the first part of a text that is not a number, or `None` if it is a ring

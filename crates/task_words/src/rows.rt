@@ -2,7 +2,7 @@
 
 ghost use Rattle.std.specs.Prelude.{◌≡◌, IfSome, IfNone, map};
 ghost use Rattle.task_words.specs.CommandLine.{command_line};
-ghost use Rattle.task_words.specs.CommandNames.{name_of, ring_name, text_name, formula_name};
+ghost use Rattle.task_words.specs.CommandNames.{name_of};
 ghost use Rattle.task_words.specs.Rows.{command_in, IsNoName};
 
 use crate::help;
@@ -49,51 +49,18 @@ impl Command {
         ensures { result.now ≡ name_of self }
     {
         match self {
-            Command::OnText(command) => command.name(),
-            Command::OnRing(command) => command.name(),
-            Command::OnFormula(command) => command.name(),
-        }
-    }
-}
-
-impl TextCommand {
-    // Returns the name of the command.
-    fn name(self) -> &'static str
-        ensures { result.now ≡ text_name self }
-    {
-        match self {
-            TextCommand::Check => "check",
-            TextCommand::Print => "print",
-            TextCommand::Table => "table",
-            TextCommand::Judge => "judge",
-            TextCommand::Audit => "audit",
-            TextCommand::Migrate => "migrate",
-        }
-    }
-}
-
-impl RingCommand {
-    // Returns the name of the command.
-    fn name(self) -> &'static str
-        ensures { result.now ≡ ring_name self }
-    {
-        match self {
-            RingCommand::Run => "run",
-            RingCommand::Trace => "trace",
-            RingCommand::Explain => "explain",
-            RingCommand::Plan => "plan",
-        }
-    }
-}
-
-impl FormulaCommand {
-    // Returns the name of the command.
-    fn name(self) -> &'static str
-        ensures { result.now ≡ formula_name self }
-    {
-        match self {
-            FormulaCommand::Formula => "formula",
-            FormulaCommand::Refute => "refute",
+            Command::OnText(TextCommand::Check) => "check",
+            Command::OnText(TextCommand::Print) => "print",
+            Command::OnText(TextCommand::Table) => "table",
+            Command::OnText(TextCommand::Judge) => "judge",
+            Command::OnText(TextCommand::Audit) => "audit",
+            Command::OnText(TextCommand::Migrate) => "migrate",
+            Command::OnRing(RingCommand::Run) => "run",
+            Command::OnRing(RingCommand::Trace) => "trace",
+            Command::OnRing(RingCommand::Explain) => "explain",
+            Command::OnRing(RingCommand::Plan) => "plan",
+            Command::OnFormula(FormulaCommand::Formula) => "formula",
+            Command::OnFormula(FormulaCommand::Refute) => "refute",
         }
     }
 }
