@@ -5,7 +5,6 @@ ghost use Rattle.ring_segments.specs.SegmentCounts.{IsSegmentCount};
 ghost use Rattle.headline.specs.Headline.{IsHeadline, TableAgrees};
 ghost use Rattle.ring_exec.specs.declared.fault.RunFault.{RunFault};
 
-use crate::fault::FindingsFault;
 use channel_tables::Table;
 use lang_check::Plan;
 use nbhd_check::{Separation, Verdict, judge};
@@ -28,6 +27,17 @@ pub struct Findings {
     pub channels: Vec<u32>,
     /// Whether channels are far enough apart on every ring, judged by the table.
     pub verdict: Verdict,
+}
+
+/// Why there are no findings.
+#[derive(Clone, Copy, Debug, PartialEq, Eq)]
+pub enum FindingsFault {
+    /// The table was not compiled.
+    Table(FillFault),
+    /// The ring was not run.
+    Run(RunFault),
+    /// Memory for the memo or for the judge's ring was refused.
+    OutOfMemory,
 }
 
 /// Compiles a plan's program to its table, runs it on a ring by messages, and judges the table. Its
