@@ -8,7 +8,7 @@ use std::alloc::Global;
 use std::marker::Brand;
 use std::sync::Wait;
 use std::sync::ledger::{Blank, Ledger};
-use test_programs::{Note, to_the_left, to_the_right};
+use test_programs::Note;
 
 /// The outcome of a border: it could not be made, or its results were printed.
 #[derive(Clone, Copy)]
@@ -100,10 +100,10 @@ fn exchange<L: Ledger, M: Ledger, R: Print + Wait>(
     right: &mut Seat<L, M>,
     left: &mut Seat<L, M>,
 ) -> Result<(), Miss> {
-    put(rt, border, right, to_the_right(0, 1))?;
-    put(rt, border, right, to_the_right(0, 1))?;
-    put(rt, border, right, to_the_left(1, 3))?;
-    put(rt, border, left, to_the_left(0, 2))?;
+    put(rt, border, right, Note::new(Side::Rightward, 0, 1))?;
+    put(rt, border, right, Note::new(Side::Rightward, 0, 1))?;
+    put(rt, border, right, Note::new(Side::Leftward, 1, 3))?;
+    put(rt, border, left, Note::new(Side::Leftward, 0, 2))?;
     take(rt, border, Side::Rightward, 0)?;
     take(rt, border, Side::Leftward, 0)
 }
@@ -116,7 +116,7 @@ fn use_closed_border<L: Ledger, M: Ledger, R: Print + Wait>(
 ) -> Result<(), Miss> {
     take(rt, border, Side::Rightward, 0)?;
     take(rt, border, Side::Rightward, 1)?;
-    put(rt, border, right, to_the_right(1, 4))
+    put(rt, border, right, Note::new(Side::Rightward, 1, 4))
 }
 
 // Puts eight messages to the right.
@@ -126,7 +126,7 @@ fn put_eight<L: Ledger, M: Ledger, R: Print + Wait>(
     right: &mut Seat<L, M>,
 ) -> Result<(), Miss> {
     for round in 0..8 {
-        put(rt, border, right, to_the_right(round, round))?;
+        put(rt, border, right, Note::new(Side::Rightward, round, round))?;
     }
     Ok(())
 }

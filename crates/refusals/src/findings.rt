@@ -17,50 +17,26 @@ use win_index::Ring;
 const NEIGHBOURS_DIFFER: Separation = Separation { near: 1, far: 0 };
 
 /// `compile_run_and_judge`: prints the channels of four places for a program for eight identifiers,
-/// and the verdict on its table, with these numbers of workers and segments.
+/// and the verdict on its table, with `count` workers and as many segments.
 pub(crate) fn do_findings<R: AllocGlobal + Print + Threads + Wait + Sync>(
     rt: &R,
-    workers: u32,
-    segments: u32,
+    count: u32,
 ) -> Result<(), Miss> {
     let plan = plan_of(rt.alloc(), CV1, 8)?;
     let ring = ring_for(rt.alloc(), &plan, &[5, 1, 3, 7])?;
-    let findings = findings_of(rt, &plan, &ring, workers, segments)?;
+    let findings = match value_or_refusal(rt, findings_of(rt, &plan, &ring, count))? {
+        Some(findings) => findings,
+        None => retried(findings_of(rt, &plan, &ring, count))?,
+    };
     tell_findings(rt, &findings)
 }
 
-// Prints the channels and the verdict, which is yes.
-fn tell_findings<R: Print>(rt: &R, findings: &Findings) -> Result<(), Miss> {
-    if findings.verdict != Verdict::Yes {
-        return Err(Miss::Wrong);
-    }
-    tell_numbers(rt, &findings.channels)?;
-    tell(rt, "yes")
-}
-
-// Returns the findings of a plan and a ring.
-fn findings_of<R: AllocGlobal + Print + Threads + Wait + Sync>(
-    rt: &R,
-    plan: &Plan,
-    ring: &Ring,
-    workers: u32,
-    segments: u32,
-) -> Result<Findings, Miss>
-    requires ring { IsOfShape ring.now plan.now }
-{
-    match value_or_refusal(rt, answer_of(rt, plan, ring, workers, segments))? {
-        Some(findings) => Ok(findings),
-        None => retried(answer_of(rt, plan, ring, workers, segments)),
-    }
-}
-
 // Calls `compile_run_and_judge` with a gate that is open.
-fn answer_of<R: AllocGlobal + Threads + Wait + Sync>(
+fn findings_of<R: AllocGlobal + Threads + Wait + Sync>(
     rt: &R,
     plan: &Plan,
     ring: &Ring,
-    workers: u32,
-    segments: u32,
+    count: u32,
 ) -> Result<Findings, FindingsFault>
     requires ring { IsOfShape ring.now plan.now }
 {
@@ -70,8 +46,17 @@ fn answer_of<R: AllocGlobal + Threads + Wait + Sync>(
         plan,
         ring,
         NEIGHBOURS_DIFFER,
-        workers,
-        segments,
+        count,
+        count,
         &OpenGate,
     )
+}
+
+// Prints the channels and the verdict, which is yes.
+fn tell_findings<R: Print>(rt: &R, findings: &Findings) -> Result<(), Miss> {
+    if findings.verdict != Verdict::Yes {
+        return Err(Miss::Wrong);
+    }
+    tell_numbers(rt, &findings.channels)?;
+    tell(rt, "yes")
 }

@@ -118,7 +118,7 @@ fn do_call<R: AllocGlobal + Print + Threads + Wait + Sync>(rt: &R, row: Row) -> 
         Row::Border => do_border(rt),
         Row::Put => do_put(rt),
         Row::Compile(workers) => do_compile(rt, workers),
-        Row::Findings(count) => do_findings(rt, count, count),
+        Row::Findings(count) => do_findings(rt, count),
         Row::RunOfFour(segments) => do_run(rt, CV1, &FOUR, segments),
         Row::RunOfEight(segments) => do_run(rt, RED, &EIGHT, segments),
     }

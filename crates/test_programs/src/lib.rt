@@ -8,6 +8,6 @@ mod plans;
 mod texts;
 
 pub use events::EVENTS;
-pub use notes::{Note, to_the_left, to_the_right};
+pub use notes::Note;
 pub use plans::plan_of;
 pub use texts::{CV1, CV1_OF_12, EIGHT_REGISTERS, ID0, LDB, RED, TWO_REGISTERS};

@@ -1,7 +1,6 @@
 //! Messages of a border.
 
 ghost use Rattle.std.specs.Prelude.{◌≡◌};
-ghost use Rattle.border_exchange.specs.declared.Side.TheVariants.{Leftward, Rightward};
 
 use border_exchange::{Dated, Side};
 
@@ -11,6 +10,15 @@ pub struct Note {
     pub side: Side,
     pub round: u32,
     pub value: u32,
+}
+
+impl Note {
+    /// Returns the message of this side and round with this value.
+    pub fn new(side: Side, round: u32, value: u32) -> Note
+        ensures { result ≡ record { side = side; round = round; value = value } }
+    {
+        Note { side, round, value }
+    }
 }
 
 impl Dated for Note {
@@ -24,27 +32,5 @@ impl Dated for Note {
 
     fn round(&self) -> u32 {
         self.round
-    }
-}
-
-/// Returns a message to the right of this round.
-pub fn to_the_right(round: u32, value: u32) -> Note
-    ensures { result ≡ record { side = Rightward; round = round; value = value } }
-{
-    Note {
-        side: Side::Rightward,
-        round,
-        value,
-    }
-}
-
-/// Returns a message to the left of this round.
-pub fn to_the_left(round: u32, value: u32) -> Note
-    ensures { result ≡ record { side = Leftward; round = round; value = value } }
-{
-    Note {
-        side: Side::Leftward,
-        round,
-        value,
     }
 }

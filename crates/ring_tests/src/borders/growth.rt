@@ -6,7 +6,7 @@ use std::alloc::Global;
 use std::marker::Brand;
 use std::sync::Wait;
 use std::sync::ledger::{Blank, Ledger};
-use test_programs::{Note, to_the_right};
+use test_programs::Note;
 
 // Puts a message, a second time if memory for it was refused.
 fn put_again<R: Ledger, L: Ledger, W: Wait>(
@@ -38,9 +38,8 @@ fn after_eight_puts<R: Ledger, L: Ledger, W: Wait>(
     let (border, mut seat, other) = Border::<Note, R, L>::new(alloc, right, left).ok()?;
     let mut done = true;
     for round in 0..8 {
-        if seat.puts() > 8
-            || put_again(rt, &border, &mut seat, to_the_right(round, round)).is_err()
-        {
+        let message = Note::new(Side::Rightward, round, round);
+        if seat.puts() > 8 || put_again(rt, &border, &mut seat, message).is_err() {
             done = false;
         }
     }

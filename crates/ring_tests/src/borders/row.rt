@@ -8,7 +8,7 @@ use std::process::Abort;
 use std::sync::Wait;
 use std::sync::ledger::{Blank, Ledger};
 use std::test::Fail;
-use test_programs::{Note, to_the_left, to_the_right};
+use test_programs::Note;
 
 // Puts a message at a seat with few puts.
 fn put<R: Ledger, L: Ledger, W: Wait>(
@@ -43,7 +43,8 @@ fn after_a_close<R: Ledger, L: Ledger, W: Abort + Wait>(
 ) {
     border.close(rt);
     border.close(rt);
-    let (late, next) = (to_the_right(1, 4), to_the_left(1, 5));
+    let late = Note::new(Side::Rightward, 1, 4);
+    let next = Note::new(Side::Leftward, 1, 5);
     let puts = [put(rt, border, right, late), put(rt, border, left, next)];
     assert!(rt;
         puts == [
@@ -72,7 +73,9 @@ fn puts_and_takes<R: Ledger, L: Ledger, W: Abort + Wait>(
     let (border, mut right, mut left) = Border::<Note, R, L>::new(alloc, right, left)
         .ok()
         .ok_or("a border")?;
-    let (one, two, other) = (to_the_right(0, 1), to_the_left(0, 2), to_the_left(1, 3));
+    let one = Note::new(Side::Rightward, 0, 1);
+    let two = Note::new(Side::Leftward, 0, 2);
+    let other = Note::new(Side::Leftward, 1, 3);
     let puts = [
         put(rt, &border, &mut right, one),
         put(rt, &border, &mut right, one),
