@@ -35,7 +35,7 @@ pub(crate) fn write_tree(
     let mut values = Vec::new(alloc);
     push_values(&mut values, env, expression)?;
     let form = form_of(alloc, base, &values)?;
-    write_parts(text, Shared { alloc, form, env }, 1, expression)
+    Shared { alloc, form, env }.write_parts(text, 1, expression)
 }
 
 // Appends the values of the parts of an expression.
@@ -58,51 +58,41 @@ fn push_values(values: &mut Vec<u32>, env: Env<'_>, expression: &Expr) -> Result
     }
 }
 
-// Appends the lines of an expression and of its operands, whose levels stay below 2^32.
-fn write_parts(
-    text: &mut String,
-    shared: Shared<'_>,
-    level: u32,
-    expression: &Expr,
-) -> Result<(), AllocError>
-    requires { level + depth (term_of expression.now) < 2 ^ 32 }
-    ensures { OnOk result (string_bytes text.new ≡ string_bytes text.old ++ part_lines shared.entry.form (env_of shared.entry.env) level (term_of expression.now)) }
-{
-    write_part(text, shared, level, expression)?;
-    match expression {
-        Expr::Number(_) | Expr::Id | Expr::FromLeft | Expr::FromRight | Expr::Register(_) => Ok(()),
-        Expr::One(_, a) => write_parts(text, shared, level + 1, a),
-        Expr::Two(_, a, b) => {
-            write_parts(text, shared, level + 1, a)?;
-            write_parts(text, shared, level + 1, b)
-        }
-        Expr::Choose(c, a, b) => {
-            write_parts(text, shared, level + 1, c)?;
-            write_parts(text, shared, level + 1, a)?;
-            write_parts(text, shared, level + 1, b)
+impl<'a> Shared<'a> {
+    // Appends the lines of an expression and of its operands, whose levels stay below 2^32.
+    fn write_parts(self, text: &mut String, level: u32, expression: &Expr) -> Result<(), AllocError>
+        requires { level + depth (term_of expression.now) < 2 ^ 32 }
+        ensures { OnOk result (string_bytes text.new ≡ string_bytes text.old ++ part_lines self.entry.form (env_of self.entry.env) level (term_of expression.now)) }
+    {
+        self.write_part(text, level, expression)?;
+        match expression {
+            Expr::Number(_) | Expr::Id | Expr::FromLeft | Expr::FromRight | Expr::Register(_) => {
+                Ok(())
+            }
+            Expr::One(_, a) => self.write_parts(text, level + 1, a),
+            Expr::Two(_, a, b) => {
+                self.write_parts(text, level + 1, a)?;
+                self.write_parts(text, level + 1, b)
+            }
+            Expr::Choose(c, a, b) => {
+                self.write_parts(text, level + 1, c)?;
+                self.write_parts(text, level + 1, a)?;
+                self.write_parts(text, level + 1, b)
+            }
         }
     }
-}
 
-// Appends the line of an expression itself, at a level of its tree.
-fn write_part(
-    text: &mut String,
-    shared: Shared<'_>,
-    level: u32,
-    expression: &Expr,
-) -> Result<(), AllocError>
-    ensures { OnOk result (string_bytes text.new ≡ string_bytes text.old ++ part_line shared.entry.form (env_of shared.entry.env) level (term_of expression.now)) }
-{
-    write_blanks(text, level)?;
-    write_word(text, expression)?;
-    text.push_str(" ")?;
-    write_number(
-        shared.alloc,
-        text,
-        shared.form,
-        value_of(expression, shared.env),
-    )?;
-    text.push_str("\n")
+    // Appends the line of an expression itself, at a level of its tree.
+    fn write_part(self, text: &mut String, level: u32, expression: &Expr) -> Result<(), AllocError>
+        ensures { OnOk result (string_bytes text.new ≡ string_bytes text.old ++ part_line self.entry.form (env_of self.entry.env) level (term_of expression.now)) }
+    {
+        write_blanks(text, level)?;
+        write_word(text, expression)?;
+        text.push_str(" ")?;
+        let value = value_of(expression, self.env);
+        write_number(self.alloc, text, self.form, value)?;
+        text.push_str("\n")
+    }
 }
 
 // Appends blanks.
