@@ -1,8 +1,8 @@
 -- Each event leads to at most one machine.
 use Rattle.std.proofs.Common.{◌≡◌, ℕ, ◌⊎◌, [], ◌∷◌, sym, subst, ap, ◌∙◌, inl, inr, arith}
 use Rattle.std.proofs.lemmas.Option.{same_Some}
-use Rattle.fill_core.specs.declared.event.FillEvent.{FillEvent}
-use Rattle.fill_core.specs.declared.event.FillEvent.TheVariants.{Draw, Look, Install}
+use Rattle.fill_core.specs.declared.state.FillEvent.{FillEvent}
+use Rattle.fill_core.specs.declared.state.FillEvent.TheVariants.{Draw, Look, Install}
 use Rattle.fill_core.specs.FillMachine.{Machine, CanLook, looked, CanInstall, installed, Steps, Runs}
 use Rattle.fill_core.specs.Laws.{OneRun}
 

@@ -5,8 +5,8 @@ use Rattle.lang_check.specs.Plans.{ProgramForIds, plan_code}
 use Rattle.unroll.specs.Below.{IsBelow}
 use Rattle.window_states.specs.BlockStates.{MadeBlock, block_code}
 use Rattle.shared_memo.specs.PlanJobs.{job_count, job_of}
-use Rattle.fill_core.specs.declared.event.FillEvent.{FillEvent}
-use Rattle.fill_core.specs.declared.event.FillEvent.TheVariants.{Draw, Look, Install}
+use Rattle.fill_core.specs.declared.state.FillEvent.{FillEvent}
+use Rattle.fill_core.specs.declared.state.FillEvent.TheVariants.{Draw, Look, Install}
 
 -- a worker: the job in hand, whether it is stopped, and for each job whether its block is known
 pub record Worker : Type 0 where

@@ -1,6 +1,6 @@
 -- The statement of the law of this crate.
 use Rattle.std.specs.Prelude.{◌≡◌, List}
-use Rattle.fill_core.specs.declared.event.FillEvent.{FillEvent}
+use Rattle.fill_core.specs.declared.state.FillEvent.{FillEvent}
 use Rattle.fill_core.specs.FillMachine.{Machine, Runs}
 
 -- a list of events leads from a machine to at most one machine

@@ -1,10 +1,8 @@
 //! The event that a worker draws a job.
-ghost use Rattle.std.specs.Prelude.{◌≡◌};
 ghost use Rattle.fill_core.specs.FillMachine.{Steps};
 ghost use Rattle.fill_core.specs.FillStates.{machine_of};
 
-use crate::event::FillEvent;
-use crate::state::World;
+use crate::state::{FillEvent, World};
 
 impl<'a> World<'a> {
     // Lets a worker draw the next job, or stop.

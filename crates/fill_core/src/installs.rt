@@ -1,13 +1,12 @@
 //! The event that a worker makes and installs a block.
-ghost use Rattle.std.specs.Prelude.{◌≡◌, ◌<◌, ◌≤◌, length, IfOk, OnOk, MatchOption};
+ghost use Rattle.std.specs.Prelude.{◌≡◌, IfOk, OnOk, MatchOption};
 ghost use Rattle.shared_memo.specs.PlanJobs.{IsKey};
 ghost use Rattle.fill_core.specs.FillMachine.{Steps, MarksBelow, block_by};
 ghost use Rattle.fill_core.specs.FillPromises.{IsConsistent, MarkedAreFull};
 ghost use Rattle.fill_core.specs.FillStates.{machine_of};
 
-use crate::event::FillEvent;
 use crate::known::Known;
-use crate::state::World;
+use crate::state::{FillEvent, World};
 use lang_check::Plan;
 use node_program::OutOfMemory;
 use std::alloc::Global;

@@ -3,7 +3,6 @@
 #![tactic(auto)]
 
 mod draws;
-mod event;
 mod installs;
 mod known;
 mod laws;
@@ -12,6 +11,6 @@ mod replaying;
 mod state;
 mod world;
 
-pub use event::FillEvent;
 pub use laws::one_run;
+pub use state::FillEvent;
 pub use world::{FillWorld, replay};

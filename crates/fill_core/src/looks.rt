@@ -4,8 +4,7 @@ ghost use Rattle.fill_core.specs.FillMachine.{Steps, learned};
 ghost use Rattle.fill_core.specs.FillPromises.{IsConsistent};
 ghost use Rattle.fill_core.specs.FillStates.{machine_of, worker_of};
 
-use crate::event::FillEvent;
-use crate::state::{Hand, World};
+use crate::state::{FillEvent, Hand, World};
 
 impl Hand {
     // Marks the job as known, and takes it out of the worker's hand if it is there.

@@ -4,8 +4,7 @@ ghost use Rattle.fill_core.specs.FillMachine.{Steps, Runs, idle, opening as open
 ghost use Rattle.fill_core.specs.FillPromises.{IsConsistent, Follows};
 ghost use Rattle.fill_core.specs.FillStates.{machine_of, worker_of};
 
-use crate::event::FillEvent;
-use crate::state::{Hand, World};
+use crate::state::{FillEvent, Hand, World};
 use lang_check::Plan;
 use node_program::OutOfMemory;
 use std::alloc::Global;

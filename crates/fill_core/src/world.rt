@@ -1,7 +1,6 @@
 //! The state after a list of events.
-use crate::event::FillEvent;
 use crate::replaying::run;
-use crate::state::World;
+use crate::state::{FillEvent, World};
 use lang_check::Plan;
 use node_program::OutOfMemory;
 use std::alloc::Global;

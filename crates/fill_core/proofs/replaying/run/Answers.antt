@@ -1,6 +1,6 @@
 use Rattle.std.proofs.Common.{List, take, subst, sym}
 use Rattle.std.proofs.lemmas.List.{take_more}
-use Rattle.fill_core.specs.declared.event.FillEvent.{FillEvent}
+use Rattle.fill_core.specs.declared.state.FillEvent.{FillEvent}
 use Rattle.fill_core.specs.FillMachine.{Machine, opening, Runs}
 use Rattle.fill_core.specs.FillStates.{machine_of}
 use Rattle.fill_core.proofs.FillKeeps.{replay_follows, runs_more}
