@@ -1,26 +1,28 @@
 //! The long texts of the help, except those that `clap` writes itself. The rows have the others.
 
-/// The details of a command on a program text: the lines `$reads`, then the numbers of identifiers
-/// that each number of rounds allows (enough for a ring, and at most `win_index::MAX_WINDOWS`
-/// windows), for a command on a ring the minimum length of the ring, then the lines `$more`.
+/// The details of a command on a program text: that it reads one, its output `$output`, the numbers
+/// of identifiers that each number of rounds allows (enough for a ring, and at most
+/// `win_index::MAX_WINDOWS` windows), for a command on a ring the minimum length of the ring, then
+/// the lines `$more`.
 macro_rules! details {
-    (@ $reads:literal, $ring:literal, $more:literal) => {
+    (@ $output:literal, $ring:literal, $more:literal) => {
         concat!(
-            $reads,
-            "M is 2 to 1024 for 0 rounds, 4 to 162 for 1 round, 6 to 23 for 2, 8 to 12 for 3, 10 for 4 rounds.\n",
+            "Standard input:  a program text\nStandard output: ",
+            $output,
+            "\n\nM is 2 to 1024 for 0 rounds, 4 to 162 for 1 round, 6 to 23 for 2, 8 to 12 for 3, 10 for 4 rounds.\n",
             $ring,
             $more
         )
     };
-    (ring: $reads:literal, $more:literal) => {
+    (ring: $output:literal, $more:literal) => {
         details!(
-            @ $reads,
+            @ $output,
             "The ring has at least 2, 4, 6, 8 or 10 identifiers for 0 to 4 rounds, below M, no two the same.\n",
             $more
         )
     };
-    ($reads:literal, $more:literal) => {
-        details!(@ $reads, "", $more)
+    ($output:literal, $more:literal) => {
+        details!(@ $output, "", $more)
     };
 }
 
@@ -44,10 +46,7 @@ docs/FAULTS.md each refusal and its note, and docs/GALLERY.md classical programs
 
 /// The input, output and exit statuses of `check`.
 pub(crate) const CHECK: &str = details!(
-    "Standard input:  a program text
-Standard output: one line: the program is accepted, or what is refused
-
-",
+    "one line: the program is accepted, or what is refused",
     "
 Exit status:
   0  the program is accepted
@@ -73,10 +72,7 @@ Exit status:
 
 /// The input, output and exit statuses of `table`.
 pub(crate) const TABLE: &str = details!(
-    "Standard input:  a program text
-Standard output: the table text, or one line: what is refused
-
-",
+    "the table text, or one line: what is refused",
     "The text also tells near and far, by which `nbhd audit` judges the table.
 
 Exit status:
@@ -89,11 +85,8 @@ Exit status:
 
 /// The input, output and exit statuses of `judge`.
 pub(crate) const JUDGE: &str = details!(
-    "Standard input:  a program text
-Standard output: one line: yes, or no with a ring where two channels are too close,
-                 or what is refused
-
-",
+    "one line: yes, or no with a ring where two channels are too close,
+                 or what is refused",
     "Without --near and --far, neighbours' channels have to differ. With --near 2 --far 1, for example,
 they have to differ by 2 or more, and the channels of a node's two neighbours have to differ as well.
 
@@ -108,10 +101,7 @@ Exit status:
 
 /// The input, output and exit statuses of `run`.
 pub(crate) const RUN: &str = details!(
-    ring: "Standard input:  a program text
-Standard output: one line: the channels in the order of the ring, or what is refused
-
-",
+    ring: "one line: the channels in the order of the ring, or what is refused",
     "It is cut into at most as many segments as it has identifiers.
 
 Exit status:
@@ -125,10 +115,7 @@ Exit status:
 
 /// The input, output and exit statuses of `trace`.
 pub(crate) const TRACE: &str = details!(
-    ring: "Standard input:  a program text
-Standard output: lines with a number for each place of the ring, or one line: what is refused
-
-",
+    ring: "lines with a number for each place of the ring, or one line: what is refused",
     "The lines are:
   ring ..           the identifier of each place
   start r0 ..       what a register holds after the assignments of start; one line for each register
@@ -150,10 +137,7 @@ Exit status:
 
 /// The input, output and exit statuses of `explain`.
 pub(crate) const EXPLAIN: &str = details!(
-    ring: "Standard input:  a program text
-Standard output: each expression of the program with its values, or one line: what is refused
-
-",
+    ring: "each expression of the program with its values, or one line: what is refused",
     "Each expression is below a line that says what it gives to the node:
   start r0          what a register holds after the assignments of start
   round 1 left      what the node sends to its left neighbour in a round
@@ -176,11 +160,8 @@ Exit status:
 
 /// The input, output and exit statuses of `plan`.
 pub(crate) const PLAN: &str = details!(
-    ring: "Standard input:  a program text
-Standard output: one line for each place of the ring: the place, its identifier and its channel;
-                 or one line: what is refused
-
-",
+    ring: "one line for each place of the ring: the place, its identifier and its channel;
+                 or one line: what is refused",
     "
 Exit status:
   0  the channels are printed
