@@ -1,11 +1,10 @@
 -- The first token that is the cause of a refusal, as the tokens are read one by one.
-use Rattle.std.proofs.Common.{◌≡◌, ℕ, ◌-◌, ◌≤◌, true, false, cond, List, [], ◌∷◌, length, refl, sym, ap, ◌∙◌, arith, Option, Some, None}
+use Rattle.std.proofs.Common.{◌≡◌, ℕ, true, false, cond, List, [], ◌∷◌, refl, ◌∙◌, Some}
 use Rattle.node_lang.specs.declared.token.Token.{Token}
 use Rattle.node_lang.specs.declared.token.Token.TheVariants as token
 use Rattle.node_lang.specs.Lexemes.{Lexeme, lexemes_of}
 use Rattle.lang_check.specs.declared.acceptance.CheckFault.{CheckFault}
 use Rattle.lang_check.specs.declared.acceptance.CheckFault.TheVariants as check
-use Rattle.fault_notes.specs.declared.scanning.Place.{Place}
 use Rattle.fault_notes.specs.FaultTokens.{is_cause, first_cause, offset_in, place_of_cause}
 use Rattle.fault_notes.specs.CausePlaces.{place_after, next_place, is_cause_at, cause_from, offset_from}
 
@@ -45,29 +44,3 @@ finds text f before (l ∷ ls) =
 pub found : (text : List ℕ) (f : CheckFault) →
     offset_from text (cause_from f (place_after []) (lexemes_of text)) ≡ place_of_cause text f
 found text f = finds text f [] (lexemes_of text)
-
--- the next token is the cause
-pub found_here : (text : List ℕ) (f : CheckFault) (p : Place) (start : ℕ) (t : Token) (left ls : List Lexeme)
-    (place : Option ℕ) →
-    offset_from text (cause_from f p left) ≡ place →
-    left ≡ record { from = length text - start; token = t } ∷ ls → start ≤ length text →
-    is_cause_at f p t ≡ true → Some start ≡ place
-found_here text f p start t left ls place is next within cause =
-    let same : length text - (length text - start) ≡ start = omega (arith, within) in
-    ap Some (sym same)
-    ∙ sym (λ i. offset_from text (cond (cause i) (Some (length text - start)) (cause_from f (next_place p t) ls)))
-    ∙ sym (λ i. offset_from text (cause_from f p (next i))) ∙ is
-
--- the next token is not the cause
-pub found_later : (text : List ℕ) (f : CheckFault) (p : Place) (from : ℕ) (t : Token) (left ls : List Lexeme)
-    (place : Option ℕ) →
-    offset_from text (cause_from f p left) ≡ place → left ≡ record { from = from; token = t } ∷ ls →
-    is_cause_at f p t ≡ false → offset_from text (cause_from f (next_place p t) ls) ≡ place
-found_later text f p from t left ls place is next other =
-    sym (λ i. offset_from text (cond (other i) (Some from) (cause_from f (next_place p t) ls)))
-    ∙ sym (λ i. offset_from text (cause_from f p (next i))) ∙ is
-
--- no token is left
-pub found_nowhere : (text : List ℕ) (f : CheckFault) (p : Place) (left : List Lexeme) (place : Option ℕ) →
-    offset_from text (cause_from f p left) ≡ place → left ≡ [] → None ≡ place
-found_nowhere text f p left place is none = sym (λ i. offset_from text (cause_from f p (none i))) ∙ is

@@ -33,11 +33,6 @@ no_shape text rest r i sizes p q none t m h =
     none (subst (λ k. k ≤ MAX_ROUNDS) once.0 h.few_rounds)
     (subst (λ k. IsShape k r) once.1 (subst (λ k. IsShape m k) once.0 h.shape))
 
-pub no_sizes : (text : List ℕ) →
-    ((t m : ℕ) (rest : List ℕ) → t < 2 ^ 32 → m < 2 ^ 32 →
-    after_first is_feed text ≡ sizes_then t m rest → ⊥) → (t m : ℕ) → ¬ HasShape text t m
-no_sizes text none t m h = none t m h.rest (omega (arith, h.few_rounds)) (omega (arith, h.shape.ids.few)) h.sizes
-
 -- a line that is not one of those of the windows of the shape
 pub none_due : (text : List ℕ) (line r i : ℕ) → ((t m : ℕ) → HasShape text t m → (t ≡ r) × (m ≡ i)) →
     length (windows (2 * r + 1) i) ≤ line - 3 →

@@ -9,7 +9,7 @@ ghost use Rattle.fault_notes.specs.Probes.{IsOpen, IsProbe, WordsPassed, Registe
 ghost use Rattle.node_lang.specs.declared.token.Token.TheVariants as token;
 
 use crate::wanted::{WORDS, Wanted, probe_word};
-use node_lang::{FaultKind, LONGEST_TEXT, MAX_REGISTERS, OutOfMemory, TextFault, parse};
+use node_lang::{FaultKind, LONGEST_TEXT, MAX_REGISTERS, OutOfMemory, parse};
 use std::alloc::{AllocError, Global};
 
 // The length of the longest word and of a line feed before it.

@@ -1,7 +1,6 @@
 //! The note on a program that is not accepted.
 
-ghost use Rattle.std.specs.Prelude.{◌≡◌, ◌≤◌, ◌<◌, ◌↔◌, ◌++◌, ℕ, IsTrue, IfOk, IfSome, IfNone, string_bytes};
-ghost use Rattle.node_program.specs.declared.limits.TheConstants as limits;
+ghost use Rattle.std.specs.Prelude.{◌≡◌, ◌≤◌, ◌↔◌, ◌++◌, ℕ, IsTrue, IfOk, IfSome, IfNone, string_bytes};
 ghost use Rattle.win_index.specs.declared.limits.TheConstants.{MAX_ROUNDS};
 ghost use Rattle.win_index.specs.ShapeRange.{IsShape};
 ghost use Rattle.fault_notes.specs.Placed.{placed_note};

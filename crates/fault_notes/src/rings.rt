@@ -1,7 +1,7 @@
 //! The notes on a list that is not a ring, on a place that a ring has not, and on a number of
 //! segments.
 
-ghost use Rattle.std.specs.Prelude.{◌≡◌, ◌+◌, ◌*◌, ◌<◌, ◌≤◌, ◌^◌, length, IfOk, string_bytes};
+ghost use Rattle.std.specs.Prelude.{◌≡◌, ◌<◌, ◌≤◌, length, IfOk, string_bytes};
 ghost use Rattle.win_index.specs.declared.limits.TheConstants.{MAX_ROUNDS};
 ghost use Rattle.win_index.specs.RingFaults.{IsFirstFault};
 ghost use Rattle.fault_notes.specs.RingNotes.{place_note, ring_note, segments_note, note_end};

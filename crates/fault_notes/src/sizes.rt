@@ -1,6 +1,6 @@
 //! The shape that the second line of a table text gives.
 
-ghost use Rattle.std.specs.Prelude.{◌≡◌, ◌≢◌, ◌==◌, not, ℕ, ◌<◌, ◌≤◌, ◌^◌, List, IfSome, IfNone};
+ghost use Rattle.std.specs.Prelude.{◌≡◌, ◌≢◌, ℕ, ◌<◌, ◌≤◌, ◌^◌, List, IfSome, IfNone};
 ghost use Rattle.std.specs.List.{after_first};
 ghost use Rattle.source_places.specs.Places.{is_feed};
 ghost use Rattle.win_index.specs.declared.limits.TheConstants.{MAX_ROUNDS};

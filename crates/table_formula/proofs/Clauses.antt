@@ -1,5 +1,5 @@
 -- Facts about lists of clauses.
-use Rattle.std.proofs.Common.{Result, Ok, Err, OnOk, ◌≡◌, ℕ, zero, suc, ◌+◌, ◌*◌, ◌<◌, Bool, true, false, ◌||◌, List, [], ◌∷◌, ◌++◌, map, All, length, refl, sym, ap, ◌∙◌, arith, add-one, zero-add, ltb, cond, length-append, Option, None, Some, IsSome, unwrap_or}
+use Rattle.std.proofs.Common.{◌≡◌, ℕ, zero, suc, ◌+◌, ◌*◌, ◌<◌, Bool, true, false, ◌||◌, List, [], ◌∷◌, ◌++◌, map, All, length, refl, sym, ap, ◌∙◌, arith, add-one, zero-add, ltb, cond, length-append, Option, None, Some, IsSome, unwrap_or}
 use Rattle.std.specs.List.{list_any, range_with_len, flat_map, filter}
 use Rattle.std.specs.Int.{abs_diff}
 use Rattle.clause_check.specs.declared.literal.Literal.{Literal}
@@ -117,8 +117,3 @@ formula_length p =
       length_flat (not_too_close p) (length (conflicts_of p))
           (λ tuple. length-map (conflicts_of p) (not_both p tuple)) (tuples_of p),
     )
-
--- what follows from a fact of one that is Ok
-pub on_ok : {T F : Type 0} (r : Result T F) (P Q : Type 0) → (P → Q) → OnOk r P → OnOk r Q
-on_ok (Ok x) P Q f h = f h
-on_ok (Err e) P Q f h = h

@@ -1,6 +1,5 @@
 //! The pairs of channels that a separation forbids.
 ghost use Rattle.std.specs.Prelude.{◌≡◌, ◌+◌, ◌-◌, ◌*◌, ◌^◌, ◌<◌, ◌≤◌, ◌++◌, ℕ, length, min, IfOk, OnOk};
-ghost use Rattle.channel_tables.specs.declared.separation.Separation.{Separation};
 ghost use Rattle.table_formula.specs.Formula.{close_to, close_pairs, close_in};
 ghost use Rattle.table_formula.specs.declared.limits.TheConstants.{MAX_VARIABLES};
 

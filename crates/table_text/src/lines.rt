@@ -1,9 +1,8 @@
 //! The lines of a table text.
 
-ghost use Rattle.std.specs.Prelude.{◌≡◌, ◌≢◌, ◌-◌, ◌<◌, ◌≤◌, ◌^◌, ℕ, List, [], ◌∷◌, ◌++◌, All, length, take, MatchOption, IfSome, IfNone};
-ghost use Rattle.win_index.specs.declared.limits.TheConstants.{MAX_IDS};
+ghost use Rattle.std.specs.Prelude.{◌≡◌, ◌<◌, ◌≤◌, ◌^◌, ℕ, List, ◌++◌, length, MatchOption, IfSome, IfNone};
 ghost use Rattle.channel_tables.specs.declared.separation.Separation.{Separation};
-ghost use Rattle.table_text.specs.TableText.{title_then, counts_then, counts_end, distances_then, sizes_then, ids_then, end_then};
+ghost use Rattle.table_text.specs.TableText.{title_then, counts_then, counts_end, distances_then, sizes_then, end_then};
 ghost use Rattle.table_text.specs.Pieces.{piece_text, prefix_text, channel_text, AreTexts};
 ghost use Rattle.table_text.specs.LineForms.{HasTitle, AreSizes, IsSeparationOf, HasSizes, IsEntry, HasEntry, HasEnd};
 ghost use Rattle.table_text.specs.LinePrefixes.{IsLine};

@@ -13,9 +13,6 @@ use Rattle.table_text.proofs.reading.entries.Goals as goal
 none_le : (n : ℕ) → 0 ≤ n
 none_le n = omega arith
 
-le_same : {a b : ℕ} → a ≡ b → a ≤ b
-le_same same = omega arith
-
 room_for : (entries n count windows : ℕ) → entries ≡ n → n < count → count ≡ windows → entries < windows
 room_for entries n count windows is lt count_is = omega arith
 
