@@ -8,10 +8,6 @@ module _ {X : Type 0} where
   abbrev pub with_items : List X → Option (List X × List (List ℕ)) → Option (List X × List (List ℕ))
   with_items items others = option_map (λ r. (items ++ r.0, r.1)) others
 
-  pub no_items : (others : Option (List X × List (List ℕ))) → with_items [] others ≡ others
-  no_items None = refl
-  no_items (Some others) = refl
-
   item_then : (items : List X) (item : X) (others : Option (List X × List (List ℕ))) → with_items items (with_item (Some item) others) ≡ with_items (items ++ item ∷ []) others
   item_then items item None = refl
   item_then items item (Some others) = ap (λ all. Some (all, others.1)) (sym (append_assoc items (item ∷ []) others.0))

@@ -22,7 +22,7 @@ pub(crate) struct Clauses<'f> {
 }
 
 impl<'f> Clauses<'f> {
-    ghost use Rattle.std.specs.Prelude.{ℕ, ◌==◌, ◌<◌, ◌≤◌, None, Some, IfOk, IfSome, OnOk, OnErr, All, option_map, if◌then◌else◌};
+    ghost use Rattle.std.specs.Prelude.{ℕ, ◌==◌, ◌<◌, ◌≤◌, None, Some, IfOk, IfSome, OnOk, All, option_map, if◌then◌else◌};
     ghost use Rattle.std.specs.List.{list_any};
     ghost use Rattle.clause_check.specs.Hints.{left_of, remaining_of};
     ghost use Rattle.clause_check.specs.Marked.{is_marked, variables_of, IsOneBelow};

@@ -1,5 +1,5 @@
 //! The parts of a text between separators.
-ghost use Rattle.std.specs.Prelude.{◌≡◌, ◌==◌, [], ◌∷◌, IfNone, IfSome};
+ghost use Rattle.std.specs.Prelude.{◌≡◌, [], ◌∷◌, IfNone, IfSome};
 
 /// The parts of a text between separators, from some part on.
 #[derive(Clone, Copy)]
