@@ -1,6 +1,5 @@
 pub mod Joined
 pub mod Aligned
 mod SentMemo
-pub mod Yes
 pub mod NotRing
 pub mod Refused
