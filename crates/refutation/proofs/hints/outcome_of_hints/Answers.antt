@@ -1,8 +1,7 @@
-use Rattle.std.proofs.Common.{◌<◌, ◌||◌, ap, sym, ◌∙◌, subst, Some}
+use Rattle.std.proofs.Common.{◌||◌, ap, sym, ◌∙◌, Some}
 use Rattle.clause_check.specs.Clauses.{is_same}
-use Rattle.clause_check.specs.Marked.{is_marked, variables_of, IsOneBelow}
+use Rattle.clause_check.specs.Marked.{is_marked}
 use Rattle.clause_check.specs.declared.literal.Literal.{Literal}
-use Rattle.clause_check.specs.declared.marks.Remaining.{Remaining}
 use Rattle.refutation.specs.Stored.{clause_of}
 use Rattle.refutation.proofs.HintSteps.{at_nothing, at_one}
 use Rattle.refutation.proofs.hints.outcome_of_hints.Goals as goal
@@ -13,12 +12,6 @@ returns-in-Nothing-clause-value c =
     ∙ at_nothing (clause_of c.args.clauses.now) c.args.hints.now (is_marked c.loop-i.marks) c.loop-i.i c.loop-i-test.true
     (ap Some (sym c.in-Nothing.is) ∙ c.in-Some.ensures.value)
     ∙ c.loop-i.invariant.value
-
-pub mark-requires : goal.mark-requires
-mark-requires c =
-    let n = variables_of c.loop-i.marks in
-    let below : c.in-One.l.variable < n = subst (λ (r : Remaining). IsOneBelow n r) c.in-One.is c.in-Some.ensures.below in
-    subst (λ (l : Literal). l.variable < n) (sym c.negation.ensures) below
 
 pub loop-i-preserved : goal.loop-i-preserved
 loop-i-preserved c = record {

@@ -1,8 +1,5 @@
-use Rattle.table_text.proofs.FaultsOnce.{one_fault, long_fault}
+use Rattle.table_text.proofs.FaultsOnce.{one_fault}
 use Rattle.table_text.proofs.laws.one_table_fault.Goals as goal
 
 pub returns-clause-one : goal.returns-clause-one
 returns-clause-one c = one_fault c.number_of_window.ensures c.windows_have_numbers.ensures
-
-pub returns-clause-long : goal.returns-clause-long
-returns-clause-long c = long_fault

@@ -8,10 +8,6 @@ use Rattle.table_text.proofs.PieceTexts.{piece_at}
 use Rattle.table_text.proofs.WrittenLines.{line_before}
 use Rattle.table_text.proofs.lines.known_line.Goals as goal
 
-pub bounds-ids-last_id : goal.bounds-ids-last_id
-bounds-ids-last_id c =
-    omega (arith, c.last_id.ensures.below, c.requires.odometer.1, ap length c.deref-ids.ensures.value)
-
 pub returns : goal.returns
 returns c =
     IfSome_then c.known_channel.result c.known_channel.ensures

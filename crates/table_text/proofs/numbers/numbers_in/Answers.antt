@@ -1,6 +1,6 @@
 use Rattle.std.proofs.Common.{take, sym, ap, subst, ◌∙◌, arith}
 use Rattle.std.specs.Prelude.{All}
-use Rattle.std.proofs.lemmas.List.{take_all, take_more_set, length-take-le, length-set}
+use Rattle.std.proofs.lemmas.List.{take_more_set, length-take-le, length-set}
 use Rattle.std.proofs.lemmas.List.Elements.{All-push}
 use Rattle.table_text.specs.TableText.{ids_then}
 use Rattle.table_text.proofs.IdTexts.{Fits32, ids_more, next_id}
@@ -28,8 +28,3 @@ numbers-preserved c =
           ∙ sym (ids_more so_far c.in_ok-value.value c.in_ok-value.after.now)
           ∙ ap (λ l. ids_then l c.in_ok-value.after.now) (sym grown);
     }
-
-pub returns-clause-fit : goal.returns-clause-fit
-returns-clause-fit c =
-    let all = take_all c.numbers.number-index c.numbers.numbers (rw c.numbers.invariant.size c.numbers-test.false) in
-    subst (All Fits32) all c.numbers.invariant.fit

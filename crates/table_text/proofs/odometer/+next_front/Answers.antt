@@ -30,14 +30,6 @@ returns-then-place-order-clause-step t c =
     (subst (λ n. n < length order) place c.if-place-order.true)
     (swap ∙ ap (λ n. set (set order k (get_or order n 0)) n (get_or order k 0)) place))
 
-pub carry-requires : goal.carry-requires
-carry-requires t c =
-    let last : c.args.len - 1 + 1 ≡ c.args.len = omega arith in
-    record {
-      order = rw last c.requires.order;
-      largest = omega (arith, c.place_among_unused.ensures, c.if-place-order.false);
-    }
-
 pub returns-clause-step : goal.returns-clause-step
 returns-clause-step t c =
     let k = c.args.len - 1 in

@@ -1,7 +1,7 @@
 use Rattle.std.proofs.Common.{◌≡◌, ℕ, ◌+◌, ◌*◌, ◌<◌, ◌≤◌, Some, length, slice_get, sym, ap, subst, ◌∙◌, arith}
 use Rattle.std.proofs.lemmas.List.Elements.{All-nil}
 use Rattle.std.proofs.lemmas.List.{length_push}
-use Rattle.channel_tables.specs.Tables.{IsBegun, IsTable, windows_of}
+use Rattle.channel_tables.specs.Tables.{IsBegun, windows_of}
 use Rattle.table_text.specs.TableText.{written, lines_then}
 use Rattle.table_text.specs.Odometers.{window_of}
 use Rattle.table_text.specs.LineForms.{HasEntry}
@@ -15,9 +15,6 @@ none_le n = omega arith
 
 room_for : (entries n count windows : ℕ) → entries ≡ n → n < count → count ≡ windows → entries < windows
 room_for entries n count windows is lt count_is = omega arith
-
-all_read : (entries n count windows : ℕ) → entries ≡ n → count ≤ n → n ≤ count → count ≡ windows → entries ≡ windows
-all_read entries n count windows is ge le count_is = omega arith
 
 pub lines-init : goal.lines-init
 unfolding lines_then
@@ -95,29 +92,6 @@ lines-preserved c =
           (window_of c.lines.odometer) channel c.in-Entry.after.now inv.read next c.in-Entry.ensures.spelled
           ∙ ap (λ m. lines_then (written c.args.version m c.args.header.separation) c.in-Entry.after.now) (sym pushed);
     }
-
-pub push-requires-clause-room : goal.push-requires-clause-room
-push-requires-clause-room c =
-    let inv = c.lines.invariant in
-    let count = rw c.rounds-level.ensures at c.count-count.ensures.value in
-    rw (inv.rounds, inv.ids) (room_for _ _ _ _ inv.count c.lines-test.true count)
-
-pub push-requires-clause-below : goal.push-requires-clause-below
-push-requires-clause-below c = rw c.lines.invariant.channels (c.is_too_large.ensures.no c.if-is_too_large.false)
-
-pub done-requires : goal.done-requires
-done-requires c =
-    let inv = c.lines.invariant in
-    let count = rw c.rounds-level.ensures at c.count-count.ensures.value in
-    rw (inv.rounds, inv.ids) (all_read _ _ _ _ inv.count c.lines-test.false c.lines.auto.number-end count)
-
-pub returns-clause-table : goal.returns-clause-table
-returns-clause-table c =
-    let inv = c.lines.invariant in
-    let count = rw c.rounds-level.ensures at c.count-count.ensures.value in
-    let size : length c.lines.maker.entries ≡ length (windows_of c.lines.maker) =
-    rw (inv.rounds, inv.ids) (all_read _ _ _ _ inv.count c.lines-test.false c.lines.auto.number-end count) in
-    subst IsTable (sym c.done.ensures) (record { begun = inv.begun; size = size })
 
 pub returns-then-is_too_large-clause-fault : goal.returns-then-is_too_large-clause-fault
 returns-then-is_too_large-clause-fault c =

@@ -1,11 +1,8 @@
-use Rattle.std.proofs.Common.{◌≡◌, List, ℕ, [], append-nil, sym, ap, subst, ◌∙◌, arith, lit≤}
+use Rattle.std.proofs.Common.{◌≡◌, List, ℕ, [], append-nil, sym, ap, subst, ◌∙◌}
 use Rattle.std.specs.Prelude.{Result, Ok, Err, MatchResult, IfOk, IfErr}
 use Rattle.channel_tables.specs.Tables.{ChannelTable}
 use Rattle.channel_tables.specs.declared.separation.Separation.{Separation}
 use Rattle.table_text.specs.TableText.{Written, written, text_of}
-use Rattle.table_text.specs.declared.version.Version.{Version}
-use Rattle.table_text.specs.declared.version.Version.TheVariants.{One, Two}
-use Rattle.table_text.specs.LineForms.{IsSeparation, IsSeparationOf}
 use Rattle.table_text.specs.Texts.{IsTextOf}
 use Rattle.table_text.specs.Faults.{IsFault}
 use Rattle.table_text.specs.Laws.{TableTextsAreApart, TableTextsAreRead}
@@ -26,21 +23,6 @@ answers_table apart read text (Ok told) ok err t s is =
     (ap (λ (x : Written). x.table) one, ap (λ (x : Written). x.separation) one)
 answers_table apart read text (Err fault) ok err t s is =
     read (written is.0 t s) fault is.1 (subst (λ l. IsFault l fault) is.2 err)
-
--- a separation that a text of some version can give is in its range
-in_range : (version : Version) (s : Separation) → IsSeparationOf version s → IsSeparation s
-in_range One s told =
-    subst IsSeparation (sym told) (record { some_near = omega arith; small_near = lit≤ tt; small_far = omega arith })
-in_range Two s told = told
-
-read_in_range : (text : List ℕ) (r : Result (ChannelTable × Separation) TableFault) →
-    IfOk r (λ read. IsTextOf text read.0 read.1)
-    → IfOk r (λ read. IsSeparation read.1)
-read_in_range text (Ok read) is = in_range is.0 read.1 is.1.told
-read_in_range text (Err fault) is = tt
-
-pub returns-clause-separation : goal.returns-clause-separation
-returns-clause-separation c = read_in_range c.args.text.now c.table_of.result c.table_of.ensures.table
 
 pub returns-clause-read : goal.returns-clause-read
 returns-clause-read c =

@@ -1,8 +1,7 @@
-use Rattle.std.proofs.Common.{◌≡◌, ◌+◌, ◌<◌, [], ◌++◌, length, length-take-le, take, get_or, refl, sym, ap, subst, ◌∙◌, arith, add-zero, append-nil}
-use Rattle.std.proofs.lemmas.List.{take_more, take_all, take-take, get_or-set_same}
+use Rattle.std.proofs.Common.{◌≡◌, ◌+◌, ◌<◌, [], ◌++◌, length, length-take-le, take, get_or, refl, sym, ap, ◌∙◌, arith, add-zero, append-nil}
+use Rattle.std.proofs.lemmas.List.{take_more, take-take, get_or-set_same}
 use Rattle.table_text.specs.TableText.{ids_then}
 use Rattle.table_text.specs.Pieces.{piece_text, id_text}
-use Rattle.table_text.specs.Prefixes.{HasTexts}
 use Rattle.table_text.proofs.WrittenLines.{ids_more}
 use Rattle.table_text.proofs.PieceTexts.{piece_at}
 use Rattle.table_text.proofs.PrefixTexts.{same_front, texts_more}
@@ -43,8 +42,3 @@ loop-place-preserved c =
           });
       end = sym (get_or-set_same c.loop-place.self.ends (place + 1) end 0 room);
     }
-
-pub returns-clause-texts : goal.returns-clause-texts
-returns-clause-texts c =
-    let all = take_all c.loop-place.place c.args.front.now (omega arith) in
-    subst (HasTexts c.loop-place.self.bytes c.loop-place.self.ends) all c.loop-place.invariant.texts
