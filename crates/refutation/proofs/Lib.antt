@@ -3,5 +3,4 @@ pub mod Verdicts
 pub mod Splitting
 pub mod Numbers
 pub mod ItemLists
-pub mod Deleting
 pub mod HintSteps

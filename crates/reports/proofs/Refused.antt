@@ -8,11 +8,6 @@ use Rattle.reports.specs.declared.answer.Answer.{Answer}
 use Rattle.reports.specs.declared.refusal.Refusal.{Refusal}
 use Rattle.reports.specs.declared.refusal.Refusal.TheVariants as refusal
 
--- a refusal by such a report is one by another that it gives
-pub refused_so : (is other : Report → Type 0) → ((r : Report) → is r → other r) → (by : Refusal) → IsRefusedBy is by → IsRefusedBy other by
-refused_so is other gives (refusal.Report answer) told = gives (report_in answer) told
-refused_so is other gives refusal.OutOfMemory told = tt
-
 -- the report of a refusal is such a report as it is refused by
 pub told_by : (is : Report → Type 0) (by : Refusal) (answer : Answer) → IsRefusedBy is by → by ≡ refusal.Report answer → is (report_in answer)
 told_by is by answer told same = subst (IsRefusedBy is) same told

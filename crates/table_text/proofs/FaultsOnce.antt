@@ -1,5 +1,5 @@
 -- A text has at most one fault besides OutOfMemory, and the text of a table has none.
-use Rattle.std.proofs.Common.{◌≡◌, ◌≢◌, ◌⊎◌, inl, inr, ℕ, ◌+◌, ◌*◌, ◌<◌, ◌≤◌, List, [], length, drop, refl, sym, ap, subst, ◌∙◌, arith, ⊎_elim}
+use Rattle.std.proofs.Common.{◌≡◌, ◌≢◌, ◌⊎◌, inl, inr, ℕ, ◌+◌, ◌*◌, ◌<◌, ◌≤◌, List, [], length, drop, refl, sym, ap, subst, ◌∙◌, arith}
 use Rattle.std.proofs.lemmas.Bool.{cases_order}
 use Rattle.win_index.specs.Laws.{NumberOfWindow, WindowsHaveNumbers}
 use Rattle.channel_tables.specs.Tables.{ChannelTable, IsBegun, windows_of}
@@ -8,7 +8,7 @@ use Rattle.table_text.specs.TableText.{Written, title_then, end_then, lines_then
 use Rattle.table_text.specs.Texts.{IsBegunText, IsWritten}
 use Rattle.table_text.specs.LineForms.{HasTitle, HasSizes, IsEntry, HasEntry, HasEnd}
 use Rattle.table_text.specs.Faults.{IsWithin, IsMalformed, no_title, no_sizes, no_entry, no_end, bytes_after, IsNextWindow, IsFault}
-use Rattle.table_text.specs.Laws.{OneTableFault, LongTextsHaveOneFault, TableTextsAreShort, TableTextsAreRead}
+use Rattle.table_text.specs.Laws.{OneTableFault, TableTextsAreShort, TableTextsAreRead}
 use Rattle.table_text.specs.declared.limits.TheConstants.{LONGEST_TABLE_TEXT}
 use Rattle.table_text.specs.declared.fault.TableFault.{TableFault}
 use Rattle.table_text.specs.declared.fault.TableFault.TheVariants.{Syntax, WrongWindow, ChannelTooLarge, OutOfMemory}
@@ -271,16 +271,3 @@ texts_read number have short w f is fault =
       | inr some ↦
           absurd (never_stops number have (text_of w) w f is refl (fault_stops (text_of w) f some (short w is) fault))
     ]
-
--- the fault of a text that is too long
-pub long_fault : LongTextsHaveOneFault
-long_fault text (Syntax offset) long = (
-  λ fault. ⊎_elim (λ at'. ap Syntax at'.1) (λ short. absurd (omega (arith, long, short.0))) fault,
-  λ is. subst (IsFault text) (sym is) (inl (long, refl)),
-)
-long_fault text (WrongWindow line) long =
-    (λ fault. absurd (omega (arith, long, fault.0)), λ is. subst (IsFault text) (sym is) (inl (long, refl)))
-long_fault text (ChannelTooLarge line) long =
-    (λ fault. absurd (omega (arith, long, fault.0)), λ is. subst (IsFault text) (sym is) (inl (long, refl)))
-long_fault text OutOfMemory long =
-    (λ fault. absurd (omega (arith, long, fault)), λ is. subst (IsFault text) (sym is) (inl (long, refl)))
