@@ -1,8 +1,5 @@
 -- Pieces of a note that were written one after another.
-use Rattle.std.proofs.Common.{◌≡◌, ℕ, List, [], ◌∷◌, ◌++◌, ap, ◌∙◌, append_assoc, ◌+◌, ◌<◌, Result, Ok, Err, is_ok, OnOk, cond, length, get_or, take, sym, append-nil}
-use Rattle.std.specs.List.{flat_map}
-use Rattle.std.proofs.lemmas.List.{take_more}
-use Rattle.std.proofs.lemmas.List.Concat.{flat_map-append}
+use Rattle.std.proofs.Common.{◌≡◌, ℕ, List, [], ◌∷◌, ◌++◌, ap, ◌∙◌, append_assoc, Result, Ok, Err, is_ok, OnOk, cond}
 
 regroup : (a b c d : List ℕ) → (((a ++ b) ++ c) ++ 10 ∷ []) ++ d ≡ a ++ (b ++ (c ++ 10 ∷ d))
 regroup a b c d = simp append_assoc
@@ -11,14 +8,6 @@ pub four_pieces : {n m l k j a : List ℕ} (b c d : List ℕ) → n ≡ a → m 
     k ≡ l ++ 10 ∷ [] → j ≡ k ++ d → j ≡ a ++ (b ++ (c ++ 10 ∷ d))
 four_pieces {a = a} b c d p q r s t =
     t ∙ ap (λ x. x ++ d) (s ∙ ap (λ x. x ++ 10 ∷ []) (r ∙ ap (λ x. x ++ c) (q ∙ ap (λ x. x ++ b) p))) ∙ regroup a b c d
-
-regroup_three : (a b d : List ℕ) → ((a ++ b) ++ 10 ∷ []) ++ d ≡ a ++ (b ++ 10 ∷ d)
-regroup_three a b d = simp append_assoc
-
-pub three_pieces : {n m k j a : List ℕ} (b d : List ℕ) → n ≡ a → m ≡ n ++ b → k ≡ m ++ 10 ∷ [] → j ≡ k ++ d →
-    j ≡ a ++ (b ++ 10 ∷ d)
-three_pieces {a = a} b d p q s t =
-    t ∙ ap (λ x. x ++ d) (s ∙ ap (λ x. x ++ 10 ∷ []) (q ∙ ap (λ x. x ++ b) p)) ∙ regroup_three a b d
 
 regroup_six : (a b c d e f : List ℕ) → ((((a ++ b) ++ c) ++ d) ++ e) ++ f ≡ a ++ (b ++ (c ++ (d ++ (e ++ f))))
 regroup_six a b c d e f = simp append_assoc
@@ -50,26 +39,3 @@ six_pieces {a = a} b c d e f p q r s t u =
     u ∙ ap (λ x. x ++ f) (t
     ∙ ap (λ x. x ++ e) (s ∙ ap (λ x. x ++ d) (r ∙ ap (λ x. x ++ c) (q ∙ ap (λ x. x ++ b) p))))
     ∙ regroup_six a b c d e f
-
--- one more number of a list, after those before it
-pub more_written : (f : ℕ → List ℕ) (xs : List ℕ) (i : ℕ) (start out new : List ℕ) → i < length xs →
-    out ≡ start ++ flat_map f (take i xs)
-    → new ≡ out ++ f (get_or xs i 0) → new ≡ start ++ flat_map f (take (i + 1) xs)
-more_written f xs i start out new within out_is new_is =
-    let next : flat_map f (take (i + 1) xs) ≡ flat_map f (take i xs) ++ f (get_or xs i 0) =
-    ap (flat_map f) (take_more xs i 0 within) ∙ flat_map-append f (take i xs) (get_or xs i 0 ∷ [])
-    ∙ ap (λ l. flat_map f (take i xs) ++ l) (append-nil (f (get_or xs i 0))) in
-    new_is ∙ ap (λ o. o ++ f (get_or xs i 0)) out_is
-    ∙ append_assoc start (flat_map f (take i xs)) (f (get_or xs i 0)) ∙ ap (λ l. start ++ l) (sym next)
-
--- a heading with one number, a list of numbers and a line end
-regroup_heading : (o h d t j : List ℕ) →
-    ((o ++ (h ++ (d ++ t))) ++ j) ++ 10 ∷ [] ≡ o ++ (h ++ (d ++ (t ++ (j ++ 10 ∷ []))))
-regroup_heading o h d t j = simp append_assoc
-
-pub line_pieces : (o n m k h d t j : List ℕ) → n ≡ o ++ (h ++ (d ++ t)) → m ≡ n ++ j →
-    k ≡ m ++ 10 ∷ [] → k ≡ o ++ (h ++ (d ++ (t ++ (j ++ 10 ∷ []))))
-line_pieces o n m k h d t j p q r = r ∙ ap (λ x. x ++ 10 ∷ []) (q ∙ ap (λ x. x ++ j) p) ∙ regroup_heading o h d t j
-
-pub heading_apart : (o h d t r : List ℕ) → o ++ (h ++ (d ++ (t ++ r))) ≡ o ++ ((h ++ (d ++ t)) ++ r)
-heading_apart o h d t r = simp append_assoc

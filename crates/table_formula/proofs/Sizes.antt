@@ -1,6 +1,5 @@
 -- The numbers of variables and clauses of a formula.
 use Rattle.std.proofs.Common.{◌≡◌, ℕ, ◌+◌, ◌*◌, ◌<◌, ◌≤◌, length, sym, ap, ◌∙◌, subst, arith}
-use Rattle.std.proofs.lemmas.Nat.{mul-le}
 use Rattle.win_index.specs.Windows.{windows}
 use Rattle.bad_tuples.specs.Apart.{extra}
 use Rattle.table_formula.specs.Problems.{Problem}
@@ -25,9 +24,6 @@ sizes_are p same count_is level_is tuples_is longer_is pairs_is = record {
   tuples_is = tuples_is ∙ ap (λ x. length (windows (2 * p.rounds + 1 + x) p.ids)) longer_is;
   pairs_is = pairs_is;
 }
-
-pub few_channels : (windows channels : ℕ) → 0 < windows → windows * channels ≤ MAX_VARIABLES → channels ≤ MAX_VARIABLES
-few_channels windows channels some few = omega (arith, few, mul-le 1 channels windows channels some (omega arith))
 
 pub clauses_of : (p : Problem) (windows tuples pairs : ℕ) → AreSizes p windows tuples pairs →
     length (formula p) ≡ windows + tuples * pairs

@@ -1,4 +1,4 @@
-use Rattle.std.proofs.Common.{ℕ, List, ◌∷◌, [], ◌++◌, map, sym, ◌∙◌, ap, arith, ◌≡◌, ◌+◌, length}
+use Rattle.std.proofs.Common.{ℕ, List, ◌∷◌, [], ◌++◌, map, sym, ◌∙◌, ap, arith, ◌+◌}
 use Rattle.std.specs.Prelude.{slice_index}
 use Rattle.std.specs.List.{range_with_len}
 use Rattle.std.proofs.lemmas.List.FromFn.{map-range_with_len_more}
@@ -13,10 +13,3 @@ loop-rounds-preserved c =
     ∙ ap (λ (items : List ℕ). items ++ c.bound_after-bound.result ∷ []) c.loop-rounds.invariant
     ∙ ap (λ (bound : ℕ). map f (range_with_len 0 k) ++ bound ∷ []) c.bound_after-bound.ensures
     ∙ sym (map-range_with_len_more f 0 k k (omega arith))
-
-pub returns : goal.returns
-returns c =
-    let f : ℕ → ℕ = λ r. slice_index (register_bounds c.args.program.now c.args.ids r) c.args.register in
-    let all : c.loop-rounds.rounds ≡ length c.args.program.now.steps + 1 =
-    omega (arith, c.rounds-rounds-end.ensures.value) in
-    c.loop-rounds.invariant ∙ ap (λ n. map f (range_with_len 0 n)) all

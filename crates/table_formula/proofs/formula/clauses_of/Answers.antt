@@ -1,13 +1,7 @@
-use Rattle.std.proofs.Common.{◌*◌, ◌≤◌, sym, ◌∙◌, arith, subst}
-use Rattle.table_formula.specs.declared.limits.TheConstants.{MAX_VARIABLES}
+use Rattle.std.proofs.Common.{sym, ◌∙◌}
 use Rattle.table_formula.specs.Problems.{problem_of}
-use Rattle.table_formula.proofs.Sizes.{sizes_are, few_channels, clauses_of, few_variables, few_clauses, many_clauses}
+use Rattle.table_formula.proofs.Sizes.{sizes_are, clauses_of, few_variables, few_clauses, many_clauses}
 use Rattle.table_formula.proofs.formula.clauses_of.Goals as goal
-
-pub conflict_count-pairs-requires : goal.conflict_count-pairs-requires
-conflict_count-pairs-requires c =
-    few_channels c.from-windows.result c.args.channels (omega (arith, c.from-windows.ensures, c.count.ensures.some))
-    (subst (λ n. c.from-windows.result * n ≤ MAX_VARIABLES) c.from.ensures c.if-windows-from-gt-MAX_VARIABLES.false)
 
 pub returns-in_default-clause-err : goal.returns-in_default-clause-err
 returns-in_default-clause-err c =
