@@ -1,19 +1,10 @@
 use Rattle.plan_print.proofs.report.program_answer.Goals as goal
 
-pub returns-in_ok-check_answer-in-Check-clause-answer : goal.returns-in_ok-check_answer-in-Check-clause-answer
-returns-in_ok-check_answer-in-Check-clause-answer g c = rw c.in-Check.is c.in_ok-check_answer-in-Check.ensures
-
 pub returns-in-Judge-clause-answer : goal.returns-in-Judge-clause-answer
 returns-in-Judge-clause-answer g c = rw c.in-Judge.is c.judge_report.ensures.answer
 
-pub returns-in-Judge-clause-fault : goal.returns-in-Judge-clause-fault
-returns-in-Judge-clause-fault g c = rw c.in-Judge.is c.judge_report.ensures.fault
-
 pub returns-in-Run-clause-answer : goal.returns-in-Run-clause-answer
 returns-in-Run-clause-answer g c = rw c.in-Run.is c.run_answer.ensures.answer
-
-pub returns-in-Run-clause-fault : goal.returns-in-Run-clause-fault
-returns-in-Run-clause-fault g c = rw c.in-Run.is c.run_answer.ensures.fault
 
 pub returns-in_ok-trace_answer-in-Trace-clause-answer : goal.returns-in_ok-trace_answer-in-Trace-clause-answer
 returns-in_ok-trace_answer-in-Trace-clause-answer g c = rw c.in-Trace.is c.in_ok-trace_answer-in-Trace.ensures
@@ -23,6 +14,3 @@ returns-in_ok-explain_answer-in-Explain-clause-answer g c = rw c.in-Explain.is c
 
 pub returns-in-Plan-clause-answer : goal.returns-in-Plan-clause-answer
 returns-in-Plan-clause-answer g c = rw c.in-Plan.is c.plan_answer.ensures.answer
-
-pub returns-in-Plan-clause-fault : goal.returns-in-Plan-clause-fault
-returns-in-Plan-clause-fault g c = rw c.in-Plan.is c.plan_answer.ensures.fault
