@@ -101,9 +101,6 @@ module _ (v : Parts) (kept : FitTogether v) where
   pub border_is : (b : ℕ) → b < length v.items → border_at (machine_of v) b ≡ border_state v b
   border_is b lt = get_or-map-range_with_len (border_state v) 0 (length v.items) b b no_messages lt (omega arith)
 
-  pub before_is : border_before (length (machine_of v).segments) ≡ border_before (length v.items)
-  before_is = ap border_before count_is
-
   pub left_border_is : (s : ℕ) → s < length v.items →
       left_border (machine_of v) s ≡ border_state v (border_before (length v.items) s)
   left_border_is s lt =

@@ -1,8 +1,4 @@
-use Rattle.std.proofs.Common.{◌∙◌, ap, sym}
 use Rattle.std.proofs.lemmas.Option.{IfSome_then}
-use Rattle.ring_segments.specs.Segments.{RingSegment}
-use Rattle.ring_core.specs.MachinePromises.{segment_after_rounds}
-use Rattle.ring_core.specs.Parts.{headings_of, sent_to}
 use Rattle.ring_core.proofs.Readings.{came_is, if_none}
 use Rattle.ring_core.proofs.world.World.came.Goals as goal
 
@@ -17,12 +13,3 @@ returns-clause-some c =
     let size = came_is c.args.side c.args.self.now c.args.index c.sender-sender.result c.part.result.now c.requires
     c.sender-sender.ensures.value c.part.ensures.rightward c.part.ensures.leftward in
     IfSome_then c.sent_in.result c.sent_in.ensures.some (λ m sent. rw (← size) sent.0)
-
-pub returns-clause-needed : goal.returns-clause-needed
-returns-clause-needed c =
-    let side = c.args.side in
-    let r = c.args.round in
-    IfSome_then c.sent_in.result c.sent_in.ensures.some
-    (λ m sent. sent.1 ∙ ap (λ (a : RingSegment). headings_of a side r) c.part.ensures.segment
-    ∙ ap (λ b. sent_to side (segment_after_rounds c.args.self.now b r)) c.sender-sender.ensures.value
-    ∙ c.neighbours.ensures side c.args.index r c.requires)
