@@ -16,13 +16,13 @@ use Rattle.node_lang.specs.declared.token.Token.{Token}
 use Rattle.node_lang.specs.declared.token.Token.TheVariants as token
 use Rattle.node_program.specs.Term.{ProgramTree, size, terms}
 use Rattle.node_program.specs.Limits.{IsWithinLimits}
-use Rattle.node_lang.specs.Lexemes.{Lexeme, tokens_in, lexemes_of}
+use Rattle.node_lang.specs.Lexemes.{Lexeme, tokens_in, lexemes_of, lexemes_from}
 use Rattle.node_lang.specs.Grammar.{spelling, Reads}
 use Rattle.node_lang.specs.Reading.{Read, Got, Fault, expression, program}
 use Rattle.node_lang.specs.Viable.{Stands, FirstFault, Mark, node, one_at, nodes_at}
 use Rattle.node_lang.specs.Faults.{FaultsAt, IsFirstHighByte, too_long, not_ascii, in_lexemes}
 use Rattle.node_lang.specs.Laws.{ReadingStopsAtFirstFault, FirstFaultStopsReading, OneReading, OneTextFault, ReadableTextsAreRead, ReadableTextsHaveNoFault, ReadTextsAreReadable}
-use Rattle.node_lang.specs.Parsing.{Gives, lexemes_from}
+use Rattle.node_lang.specs.Parsing.{Gives}
 use Rattle.node_lang.proofs.Rest.{Rest, Nothing, AnExpression, ANumber, depth_next, counted, Met, Stops, Goes, limited, checked, meets, step, a_program, read, went, read_next, program_read}
 use Rattle.node_lang.proofs.SmallTokens.{is_small, small_tokens}
 use Rattle.node_lang.proofs.Marks.{Shallow, shallow_at, Fine, fine, program_matches}

@@ -6,9 +6,9 @@ use Rattle.node_lang.specs.declared.fault.TextFault.{TextFault}
 use Rattle.node_lang.specs.declared.parser.Parser.{Parser}
 use Rattle.node_lang.specs.declared.token.Token.{Token}
 use Rattle.node_lang.specs.declared.token.Token.TheVariants as token
-use Rattle.node_lang.specs.Lexemes.{Lexeme}
+use Rattle.node_lang.specs.Lexemes.{Lexeme, lexemes_from}
 use Rattle.node_lang.specs.Reading.{Read, Reader, Got, Fault, ◌>>=◌, ◌>>◌, after, assigns, done, each, exactly, expression, go_on, header, next, node, number, operand, round, same_token}
-use Rattle.node_lang.specs.Parsing.{Gives, expression_after, field, lexemes_from, opened}
+use Rattle.node_lang.specs.Parsing.{Gives, expression_after, field, opened}
 use Rattle.node_program.specs.declared.limits.TheConstants.{MAX_CHANNELS, MAX_DEPTH, MAX_REGISTERS, MAX_ROUNDS}
 use Rattle.node_program.specs.declared.tree.Expr.{Expr}
 use Rattle.node_program.specs.Term.{Term, term_of}

@@ -1,5 +1,6 @@
 -- The tokens of a text, each with its place. Blanks and comments only separate tokens.
-use Rattle.std.specs.Prelude.{ℕ, ◌+◌, ◌==◌, Bool, true, false, List, [], ◌∷◌, map, length, if◌then◌else◌}
+use Rattle.std.specs.Prelude.{ℕ, ◌+◌, ◌==◌, Bool, true, false, List, [], ◌∷◌, map, length, drop, max, if◌then◌else◌}
+use Rattle.std.specs.List.{prefix_len}
 use Rattle.node_lang.specs.declared.token.Token.{Token}
 use Rattle.node_lang.specs.Words.{is_blank, is_word_byte, word_token, mark_token}
 
@@ -45,6 +46,14 @@ split_of (b ∷ bs) = put_before b (length bs) (split_of bs)
 -- the lexemes of a text
 unfoldable pub lexemes_of : List ℕ → List Lexeme
 lexemes_of text = joined (length text) (split_of (blanked false text)).word (split_of (blanked false text)).rest
+
+-- the lexemes of a text from the byte `at` on
+abbrev pub lexemes_from : List ℕ → ℕ → List Lexeme
+lexemes_from text at = lexemes_of (drop at text)
+
+-- the number of bytes of the token at the start of a text: those of the word there, or 1
+abbrev pub token_len : List ℕ → ℕ
+token_len text = max 1 (prefix_len is_word_byte text)
 
 abbrev pub tokens_in : List Lexeme → List Token
 tokens_in lexemes = map (λ l. l.token) lexemes

@@ -1,10 +1,10 @@
 -- The private contracts of the parser: what is left of its text, and what its methods return.
-use Rattle.std.specs.Prelude.{◌≡◌, ◌≢◌, ◌-◌, ◌≤◌, ℕ, List, Result, Ok, Err, Box, box_value, length, drop}
+use Rattle.std.specs.Prelude.{◌≡◌, ◌≢◌, ◌-◌, ◌≤◌, ℕ, List, Result, Ok, Err, Box, box_value, length}
 use Rattle.std.specs.Global.{Global}
 use Rattle.node_lang.specs.declared.fault.FaultKind.TheVariants as kind
 use Rattle.node_lang.specs.declared.fault.TextFault.{TextFault}
 use Rattle.node_lang.specs.declared.parser.Parser.{Parser}
-use Rattle.node_lang.specs.Lexemes.{Lexeme, lexemes_of}
+use Rattle.node_lang.specs.Lexemes.{Lexeme, lexemes_from}
 use Rattle.node_lang.specs.Reading.{Read, Reader, Got, Fault, ◌>>=◌, ◌>>◌, done, exactly, expression, node, number, operand}
 use Rattle.node_lang.specs.declared.token.Token.{Token}
 use Rattle.node_lang.specs.declared.token.Token.TheVariants as token
@@ -13,10 +13,6 @@ use Rattle.node_program.specs.declared.tree.UnOp.{UnOp}
 use Rattle.node_program.specs.declared.tree.BinOp.{BinOp}
 use Rattle.node_program.specs.declared.tree.Expr.{Expr}
 use Rattle.node_program.specs.Term.{Term, One, Two, Choose, term_of}
-
--- the lexemes of a text from the byte `at` on
-abbrev pub lexemes_from : List ℕ → ℕ → List Lexeme
-lexemes_from text at = lexemes_of (drop at text)
 
 -- A method of the parser behaves as this reader: it returns the tree and moves the parser past the nodes and lexemes
 -- read, or it returns the reader's fault. For want of memory only the offset 0 is stated.

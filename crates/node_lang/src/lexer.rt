@@ -1,9 +1,8 @@
 //! The tokens of a text, with their places.
-ghost use Rattle.std.specs.Prelude.{◌≡◌, ◌==◌, not, ◌-◌, ◌<◌, ◌≤◌, [], ◌∷◌, length, slice_index, drop, false, IfSome, IfNone};
+ghost use Rattle.std.specs.Prelude.{◌≡◌, ◌==◌, not, ◌+◌, ◌-◌, ◌<◌, ◌≤◌, [], ◌∷◌, length, slice_index, drop, false, IfSome, IfNone};
 ghost use Rattle.std.specs.List.{prefix_len};
 ghost use Rattle.node_lang.specs.Words.{is_blank as blank, is_word_byte as word_byte};
-ghost use Rattle.node_lang.specs.Lexemes.{lexemes_of};
-ghost use Rattle.node_lang.specs.Parsing.{lexemes_from};
+ghost use Rattle.node_lang.specs.Lexemes.{lexemes_of, lexemes_from, token_len};
 
 use crate::token::Token;
 use crate::words::{is_blank, is_word_byte, mark_token, token_of};
@@ -61,7 +60,8 @@ fn token_at(text: &[u8]) -> (Token, usize)
     requires no_blank { blank (slice_index text.now 0) ≡ false }
     requires no_comment { slice_index text.now 0 ≡ 35 → ⊥ }
     ensures token { lexemes_of text.now ≡ record { from = length text.now; token = result.0 } ∷ lexemes_of (drop result.1 text.now) }
-    ensures len { (0 < result.1) × (result.1 ≤ length text.now) }
+    ensures len { result.1 ≡ token_len text.now }
+    ensures within { result.1 ≤ length text.now }
 {
     let len = word_len(text);
     if len == 0 {
@@ -75,7 +75,7 @@ fn token_at(text: &[u8]) -> (Token, usize)
 fn first_token(text: &[u8]) -> Option<Placed>
     ensures token { IfSome result (λ f. lexemes_of text.now
         ≡ record { from = length text.now - f.start; token = f.token } ∷ lexemes_of (drop f.end text.now)) }
-    ensures order { IfSome result (λ f. f.start < f.end) }
+    ensures end { IfSome result (λ f. f.end ≡ f.start + token_len (drop f.start text.now)) }
     ensures within { IfSome result (λ f. f.end ≤ length text.now) }
     ensures none { IfNone result (lexemes_of text.now ≡ []) }
 {
@@ -99,6 +99,7 @@ pub fn token_from(text: &[u8], at: usize) -> Option<Placed>
     ensures token { IfSome result (λ f. lexemes_from text.now at
         ≡ record { from = length text.now - f.start; token = f.token } ∷ lexemes_from text.now f.end) }
     ensures place { IfSome result (λ f. (at ≤ f.start) × (f.start < f.end) × (f.end ≤ length text.now)) }
+    ensures end { IfSome result (λ f. f.end ≡ f.start + token_len (drop f.start text.now)) }
     ensures none { IfNone result (lexemes_from text.now at ≡ []) }
 {
     let placed = first_token(&text[at..])?;

@@ -1,5 +1,5 @@
 use Rattle.std.proofs.Common.{◌≡◌, ◌≤◌, ◌-◌, length}
-use Rattle.node_lang.specs.Parsing.{lexemes_from}
+use Rattle.node_lang.specs.Lexemes.{lexemes_from}
 use Rattle.fault_notes.specs.FaultTokens.{place_of_cause}
 use Rattle.fault_notes.specs.CausePlaces.{cause_from, offset_from}
 use Rattle.fault_notes.proofs.scanning.place_of.Given as goal

@@ -1,7 +1,7 @@
 use Rattle.std.proofs.Common.{◌≡◌, drop, rules}
 use Rattle.node_program.specs.Term.{program_tree}
 use Rattle.node_lang.specs.Reading.{Got, program}
-use Rattle.node_lang.specs.Parsing.{lexemes_from}
+use Rattle.node_lang.specs.Lexemes.{lexemes_from}
 use Rattle.node_lang.proofs.SmallTokens.{small_tokens}
 use Rattle.node_lang.proofs.Judging.{read_is_spelt}
 use Rattle.node_lang.proofs.parser.Parser.whole.Goals as goal
