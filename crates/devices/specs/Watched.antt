@@ -1,5 +1,6 @@
--- A reader or a writer with the count of its calls, and a note of a failed one.
-use Rattle.std.specs.Prelude.{◌≡◌, ℕ, ◌+◌, ◌-◌, ◌^◌, min, ◌↔◌, Bool, true, Result, IfErr, IsErrOf, IsTrue, MatchResult}
+-- A reader or a writer with the count of its calls, and a note of the failure of one.
+use Rattle.std.specs.Prelude.{◌≡◌, ℕ, ◌+◌, ◌-◌, ◌^◌, min, ◌↔◌, Bool, true, Option, is_some, Result, IfErr, IsErrOf, IsTrue, MatchResult}
+use Rattle.std.specs.declared.io.ErrorKind.{ErrorKind}
 use Rattle.devices.specs.declared.fault.EngineFault.{EngineFault}
 use Rattle.devices.specs.declared.fault.EngineFault.TheVariants.{Write}
 use Rattle.devices.specs.declared.watched.Watched.{Watched}
@@ -8,9 +9,13 @@ use Rattle.devices.specs.declared.watched.Watched.{Watched}
 abbrev pub device_of : {D : Type 0} → Watched D → D
 device_of watched = watched.device
 
+-- the kind of the error with which a read or a write of it failed, if one did
+abbrev pub failure_of : {D : Type 0} → Watched D → Option ErrorKind
+failure_of watched = watched.failure
+
 -- whether a read or a write of it failed
 abbrev pub has_failed : {D : Type 0} → Watched D → Bool
-has_failed watched = watched.failed
+has_failed watched = is_some (failure_of watched)
 
 -- how many reads and writes it was asked for; the count stops at the greatest `usize`
 abbrev pub calls_of : {D : Type 0} → Watched D → ℕ

@@ -1,18 +1,18 @@
-//! Readers and writers that count their calls and note a failed one.
+//! Readers and writers that count their calls and note the failure of one.
 
 ghost use Rattle.std.specs.Prelude.{◌≡◌, ◌<◌, false, length, IfOk};
 ghost use Rattle.std.specs.Io.{ReadsAtMost, WritesAtMost};
 ghost use Rattle.std.specs.Io.KnownBytes.{ReadConsumes, WriteAppends};
-ghost use Rattle.devices.specs.Watched.{device_of, has_failed, calls_of, IsCall};
+ghost use Rattle.devices.specs.Watched.{device_of, failure_of, has_failed, calls_of, IsCall};
 
 use crate::fault::EngineFault;
-use std::io::{Read, Write};
+use std::io::{ErrorKind, Read, Write};
 
-/// A reader or a writer that counts its reads and writes, and notes whether one of them failed.
+/// A reader or a writer that counts its reads and writes, and notes the failure of one of them.
 #[derive(Drop)]
 pub struct Watched<D> {
     device: D,
-    failed: bool,
+    failure: Option<ErrorKind>,
     calls: usize,
 }
 
@@ -25,7 +25,7 @@ impl<D> Watched<D> {
     {
         Watched {
             device,
-            failed: false,
+            failure: None,
             calls: 0,
         }
     }
@@ -34,7 +34,15 @@ impl<D> Watched<D> {
     pub fn failed(&self) -> bool
         ensures { result ≡ has_failed self.now }
     {
-        self.failed
+        self.failure.is_some()
+    }
+
+    /// Returns the kind of the error with which a read or a write of the device failed, if one did:
+    /// `WriteZero` if a write took no byte.
+    pub fn failure(&self) -> Option<ErrorKind>
+        ensures { result ≡ failure_of self.now }
+    {
+        self.failure
     }
 
     /// Returns the number of reads and writes of the device. The count stops at `usize::MAX`.
@@ -50,7 +58,7 @@ impl<D> Watched<D> {
     {
         let Watched {
             device,
-            failed: _,
+            failure: _,
             calls: _,
         } = self;
         device
@@ -61,7 +69,7 @@ impl<R: Read> Watched<R> {
     /// Reads into `buffer` once and returns the number of bytes read: 0 only at the end of what the
     /// device has, or if `buffer` is empty.
     ///
-    /// An error of the device is noted, and returned as `Read`. No call may have failed before.
+    /// An error of the device is noted by its kind, and returned as `Read`. No call may have failed before.
     pub fn read(&mut self, buffer: &mut [u8]) -> Result<usize, EngineFault>
         requires working { has_failed self.old ≡ false }
         ensures bound { ReadsAtMost result buffer.new }
@@ -72,8 +80,8 @@ impl<R: Read> Watched<R> {
         self.calls = self.calls.saturating_add(1);
         match self.device.read(buffer) {
             Ok(count) => Ok(count),
-            Err(_) => {
-                self.failed = true;
+            Err(error) => {
+                self.failure = Some(error.kind());
                 Err(EngineFault::Read)
             }
         }
@@ -84,8 +92,8 @@ impl<W: Write> Watched<W> {
     /// Writes from the start of `bytes` once and returns the number of bytes taken: 0 only if
     /// `bytes` is empty.
     ///
-    /// An error of the device is noted and returned as `Write`, and so is an answer of 0 to bytes
-    /// that are not empty; nothing was written then. No call may have failed before.
+    /// An error of the device is noted by its kind and returned as `Write`, and so is an answer of 0
+    /// to bytes that are not empty; nothing was written then. No call may have failed before.
     pub fn write(&mut self, bytes: &[u8]) -> Result<usize, EngineFault>
         requires working { has_failed self.old ≡ false }
         ensures bound { WritesAtMost result bytes.now }
@@ -97,8 +105,12 @@ impl<W: Write> Watched<W> {
         self.calls = self.calls.saturating_add(1);
         match self.device.write(bytes) {
             Ok(taken) if taken > 0 || bytes.is_empty() => Ok(taken),
-            _ => {
-                self.failed = true;
+            Ok(_) => {
+                self.failure = Some(ErrorKind::WriteZero);
+                Err(EngineFault::Write)
+            }
+            Err(error) => {
+                self.failure = Some(error.kind());
                 Err(EngineFault::Write)
             }
         }
