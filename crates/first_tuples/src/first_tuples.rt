@@ -29,7 +29,7 @@ ghost use Rattle.win_index.specs.Windows.{IsWindow};
 ghost use Rattle.channel_tables.specs.Tables.{channel_of};
 ghost use Rattle.bad_tuples.specs.Apart.{extra, tuples, AreClose, IsBad, IsApartEverywhere, NoneIsBad, IsLeastBad};
 ghost use Rattle.bad_tuples.specs.Witnesses.{IsWitness};
-ghost use Rattle.first_tuples.specs.FirstTuples.{plan_table, first_count};
+ghost use Rattle.first_tuples.specs.FirstTuples.{plan_table, first_count, IsFirstBad};
 
 /// Judges the first `FIRST_TUPLES` tuples of the table of a plan's program, in order, by rounds on
 /// their windows. Returns the witness of the judge's no if one of them breaks the separation, else
@@ -43,6 +43,7 @@ pub fn first_witness(
 ) -> Result<Option<Witness>, OutOfMemory>
     ensures witness { IfOk result (λ found. IfSome found (λ witness. IsWitness (plan_table plan.now) separation
         witness.ring.items witness.places witness.channels)) }
+    ensures first { IfOk result (λ found. IfSome found (λ witness. IsFirstBad plan.now separation witness.ring.items)) }
     ensures none { IfOk result (λ found. IfNone found (NoneIsBad (plan_table plan.now) separation 0 (first_count plan.now separation))) }
     ensures memory { OnErr result (¬ IsApartEverywhere (plan_table plan.now) separation) }
 {
@@ -73,6 +74,7 @@ impl<'a> Tuples<'a> {
     fn least_bad(self) -> Option<u64>
         ensures none { IfNone result (NoneIsBad (plan_table self.entry.plan.now) self.entry.separation 0 (first_count self.entry.plan.now self.entry.separation)) }
         ensures bad { IfSome result (λ number. (tuple : List ℕ) × IsLeastBad (plan_table self.entry.plan.now) self.entry.separation 0 number tuple) }
+        ensures first { IfSome result (λ number. number < first_count self.entry.plan.now self.entry.separation) }
     {
         let mut cells = [0; MAX_TUPLE_LEN];
         let tuple = &mut cells[..self.len()];
@@ -150,6 +152,7 @@ impl<'a> Tuples<'a> {
     #[tactic(auto, unfolding(table_entries::specs::ProgramTables::table_of))]
     fn witness(self, alloc: Global, number: u64) -> Result<Witness, OutOfMemory>
         requires { (tuple : List ℕ) × IsLeastBad (plan_table self.plan.now) self.separation 0 number tuple }
+        ensures ring { IfOk result (λ witness. IsLeastBad (plan_table self.entry.plan.now) self.entry.separation 0 number witness.ring.items) }
         ensures witness { IfOk result (λ witness. IsWitness (plan_table self.entry.plan.now) self.entry.separation
             witness.ring.items witness.places witness.channels) }
         ensures memory { OnErr result (¬ IsApartEverywhere (plan_table self.entry.plan.now) self.entry.separation) }

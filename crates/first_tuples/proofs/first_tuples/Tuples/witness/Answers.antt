@@ -13,6 +13,12 @@ least_at :
     → slice_get (tuples t s) number ≡ Some ring → IsLeastBad t s 0 number ring
 least_at t s number ring bad item = subst (IsLeastBad t s 0 number) (same_Some bad.0 ring (sym bad.1.item ∙ item)) bad.1
 
+pub returns-clause-ring : goal.returns-clause-ring
+unfolding table_of
+returns-clause-ring c =
+    rw (c.in_ok-to_vec.ensures.items_if_clones_equal (λ x y same. same))
+    (least_at (plan_table c.args.self.plan.now) c.args.self.separation c.args.number c.write.new.out c.requires c.write.ensures.item)
+
 pub returns-clause-witness : goal.returns-clause-witness
 unfolding table_of
 returns-clause-witness c =
