@@ -1,6 +1,7 @@
 //! Advice on the second line of a table text.
 
 use decimal_texts::field;
+use node_program::MAX_CHANNELS;
 use win_index::MAX_ROUNDS;
 
 const CHANNELS: &str = "; `channels` is 1 to 4096";
@@ -54,10 +55,10 @@ fn second_advice(rest: &[u8]) -> &'static str {
     let Some((far, _)) = field(rest, b"far ", b'\n') else {
         return "; `far` and a number come last";
     };
-    if near == 0 || near > 4096 {
+    if near == 0 || near > MAX_CHANNELS {
         return "; `near` is 1 to 4096";
     }
-    if far > 4096 {
+    if far > MAX_CHANNELS {
         return "; `far` is 0 to 4096";
     }
     channels_advice(channels)
@@ -65,7 +66,7 @@ fn second_advice(rest: &[u8]) -> &'static str {
 
 // Returns advice on a line that has its words, by its number of channels.
 fn channels_advice(channels: u32) -> &'static str {
-    if channels == 0 || channels > 4096 {
+    if channels == 0 || channels > MAX_CHANNELS {
         return CHANNELS;
     }
     MISFIT
