@@ -53,7 +53,8 @@ pub(crate) fn group_masks(alloc: Global, table: &Table, len: usize, distance: u3
     }
     let entries = table.entries();
     let groups = (entries.len() / len).min(MAX_MASKS);
-    if is_full(mask_of(&entries[..len.min(entries.len())], 1)) {
+    let first = &entries[..len.min(entries.len())];
+    if is_full(mask_of(first, 1), table.channels()) {
         return Vec::new(alloc);
     }
     let Ok(mut masks) = vec![in alloc; 0u64; groups] else {
@@ -63,9 +64,9 @@ pub(crate) fn group_masks(alloc: Global, table: &Table, len: usize, distance: u3
     masks
 }
 
-// Estimates whether a mask has nearly all bits up to the greatest one, so that it hardly helps.
-fn is_full(mask: u64) -> bool {
-    mask.count_ones() * 16 > (64 - mask.leading_zeros()) * 15
+// Estimates whether a mask has the bits of nearly all channels, so that it hardly helps.
+fn is_full(mask: u64, channels: u32) -> bool {
+    mask.count_ones() * 16 > channels.min(64) * 15
 }
 
 // Makes the masks of the first groups.
@@ -99,6 +100,10 @@ fn near_bits(channel: u16, distance: u32) -> u64
 {
     let channel = u32::from(channel);
     let mut bits = 0;
+    if distance == 1 {
+        bits |= 1 << (channel % 64);
+        return bits;
+    }
     for near in (channel + 1).saturating_sub(distance)..channel + distance {
         bits |= 1 << (near % 64);
     }

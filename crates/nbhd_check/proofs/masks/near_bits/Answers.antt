@@ -20,3 +20,9 @@ loop-near-preserved c x from below =
     (cases_lt x near) in
     bit_at_set_other w64 old (near % 64) small (x % 64) other ∙ c.loop-near.invariant x from before)
     (cases_eq (x % 64) (near % 64))
+
+pub returns-then-distance-eq1 : goal.returns-then-distance-eq1
+returns-then-distance-eq1 c x close =
+    let channel : ℕ = c.from-channel.result in
+    let own : x ≡ channel = omega (arith, close, c.if-distance-eq1.true, c.from-channel.ensures) in
+    rw own (bit_at_set_same w64 0 (channel % 64) (mod-lt channel (omega arith)))
