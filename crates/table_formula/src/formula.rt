@@ -1,8 +1,8 @@
 //! The formula of all tables of a shape that keep a separation.
-ghost use Rattle.std.specs.Prelude.{◌≡◌, ◌+◌, ◌*◌, ◌<◌, ◌≤◌, IfOk, IfErr, OnOk, MatchOption, length};
+ghost use Rattle.std.specs.Prelude.{◌≡◌, ◌+◌, ◌*◌, ◌<◌, ◌≤◌, [], IfOk, IfErr, OnOk, MatchOption, length};
 ghost use Rattle.bad_tuples.specs.Apart.{extra};
 ghost use Rattle.table_formula.specs.declared.limits.TheConstants.{MAX_CLAUSES};
-ghost use Rattle.table_formula.specs.Formula.{close_in, formula};
+ghost use Rattle.table_formula.specs.Formula.{close_in, formula, tuples_of};
 ghost use Rattle.table_formula.specs.Problems.{problem_of};
 ghost use Rattle.table_formula.specs.Limits.{IsWithinLimits};
 ghost use Rattle.table_formula.specs.FormulaFaults.{IsFormulaFault};
@@ -76,8 +76,7 @@ impl Formula {
         ensures err { IfErr result (IsFormulaFault (problem_of shape channels separation)) }
     {
         let clauses = clauses_of(shape, channels, separation)?;
-        let tuples = shape.tuples(extra_of(separation));
-        let Ok(conflicts) = conflicts_for(alloc, tuples, channels, separation) else {
+        let Ok(conflicts) = conflicts_for(alloc, shape, channels, separation) else {
             return Err(FormulaFault::OutOfMemory);
         };
         Ok(Formula {
@@ -285,16 +284,20 @@ fn clause_count(windows: u64, tuples: u64, conflicts: u64) -> Option<u64>
     Some(count)
 }
 
-// Returns the pairs of channels that a separation forbids, or none if there are no tuples.
+// Returns the pairs of channels that a formula keeps: those that the separation forbids, or none if
+// there are no tuples. So within the limits there are no more pairs than clauses.
 fn conflicts_for(
     alloc: Global,
-    tuples: u64,
+    shape: Shape,
     channels: u32,
     separation: Separation,
 ) -> Result<Vec<Conflict>, AllocError>
-    ensures { 0 < tuples → IfOk result (λ pairs. pairs.items ≡ close_in channels separation) }
+    requires { IsWithinLimits (problem_of shape channels separation) }
+    ensures some { 0 < length (tuples_of (problem_of shape channels separation)) →
+        IfOk result (λ pairs. pairs.items ≡ close_in channels separation) }
+    ensures none { length (tuples_of (problem_of shape channels separation)) ≡ 0 → IfOk result (λ pairs. pairs.items ≡ []) }
 {
-    if tuples == 0 {
+    if shape.tuples(extra_of(separation)) == 0 {
         return Ok(Vec::new(alloc));
     }
     conflicts_in(alloc, channels, separation)
