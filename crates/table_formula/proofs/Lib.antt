@@ -8,3 +8,4 @@ pub mod Numbered
 pub mod Models
 pub mod Exact
 pub mod FormulaText
+pub mod Reading

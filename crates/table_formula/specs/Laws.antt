@@ -1,12 +1,16 @@
 -- The statements of the laws of this crate.
-use Rattle.std.specs.Prelude.{◌↔◌, ℕ, ◌≤◌, Bool, All}
+use Rattle.std.specs.Prelude.{◌≡◌, ◌↔◌, ℕ, ◌≤◌, Bool, List, All}
 use Rattle.node_program.specs.declared.limits.TheConstants.{MAX_CHANNELS}
 use Rattle.win_index.specs.declared.limits.TheConstants.{MAX_ROUNDS}
 use Rattle.win_index.specs.ShapeRange.{IsShape}
 use Rattle.channel_tables.specs.Tables.{ChannelTable}
 use Rattle.clause_check.specs.Clauses.{Holds}
+use Rattle.clause_check.specs.declared.literal.Literal.{Literal}
 use Rattle.table_formula.specs.Problems.{Problem, IsSolution, IsImpossible}
-use Rattle.table_formula.specs.Formula.{formula, values_of}
+use Rattle.table_formula.specs.Formula.{formula, values_of, variable_count}
+use Rattle.table_formula.specs.Limits.{IsWithinLimits}
+use Rattle.table_formula.specs.Texts.{formula_text}
+use Rattle.table_formula.specs.Dimacs.{ReadsAs}
 
 -- each table that is asked for makes all clauses hold
 abbrev pub SolutionsSatisfy : Type 0
@@ -29,3 +33,12 @@ ModelsGiveSolutions =
 -- there is no such table exactly if no values make all clauses hold
 abbrev pub FormulaIsExact : Type 0
 FormulaIsExact = (p : Problem) → HasTables p → IsImpossible p ↔ ((values : ℕ → Bool) → ¬ All (Holds values) (formula p))
+
+-- the text of a formula, read as DIMACS, states exactly the formula: the number of its variables, and its clauses in order
+abbrev pub FormulaTextIsRead : Type 0
+FormulaTextIsRead = (p : Problem) → IsWithinLimits p → ReadsAs (formula_text p) (variable_count p) (formula p)
+
+-- a text states at most one formula
+abbrev pub OneReading : Type 0
+OneReading =
+    (text : List ℕ) (m n : ℕ) (a b : List (List Literal)) → ReadsAs text m a → ReadsAs text n b → (m ≡ n) × (a ≡ b)

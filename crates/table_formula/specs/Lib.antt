@@ -1,8 +1,9 @@
 -- The definitions that the contracts cite: problems, the tables that answer them, the formula of a problem, the limits
--- of formulas and their faults, the text of a formula, and the laws.
+-- of formulas and their faults, the text of a formula, how it is read, and the laws.
 pub mod Problems
 pub mod Formula
 pub mod Limits
 pub mod FormulaFaults
 pub mod Texts
+pub mod Dimacs
 pub mod Laws

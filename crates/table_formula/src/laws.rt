@@ -1,9 +1,10 @@
-//! Laws of the formula: it has a model exactly where there is such a table.
+//! Laws of the formula: it has a model exactly where there is such a table, and its text states it.
 ghost use Rattle.table_formula.specs.Laws as law;
 
 use bad_tuples::tuples_suffice;
 use win_index::{
-    number_of_window, rings_have_windows, tuples_are_rings, window_of_number, windows_have_numbers,
+    number_of_window, prefixes_have_numbers, rings_have_windows, tuples_are_rings,
+    window_of_number, windows_have_numbers,
 };
 
 /// Each table that is asked for makes all clauses of the formula hold.
@@ -35,4 +36,14 @@ pub fn formula_is_exact()
 {
     solutions_satisfy();
     models_give_solutions();
+}
+
+/// The text of a formula, read as DIMACS, states exactly the formula: the number of its variables,
+/// and its clauses in order. No text states two formulas.
+pub fn formula_text_is_read()
+    ensures read { law.FormulaTextIsRead }
+    ensures one { law.OneReading }
+{
+    prefixes_have_numbers();
+    window_of_number();
 }

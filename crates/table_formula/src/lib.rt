@@ -10,6 +10,6 @@ mod text;
 pub use channel_tables::Separation;
 pub use conflict::Conflict;
 pub use formula::{Formula, FormulaFault};
-pub use laws::{formula_is_exact, models_give_solutions, solutions_satisfy};
+pub use laws::{formula_is_exact, formula_text_is_read, models_give_solutions, solutions_satisfy};
 pub use limits::{MAX_CLAUSES, MAX_VARIABLES};
 pub use text::write_formula;
