@@ -26,7 +26,7 @@ pub struct Marks {
 ghost use Rattle.std.specs.Prelude.{◌≡◌, ◌≤◌, length, All};
 
 impl Marks {
-    ghost use Rattle.std.specs.Prelude.{ℕ, ◌<◌, ◌||◌, Bool, false, IfOk};
+    ghost use Rattle.std.specs.Prelude.{ℕ, ◌+◌, ◌<◌, ◌||◌, Bool, false, IfOk};
     ghost use Rattle.clause_check.specs.Clauses.{is_same, has_literal};
     ghost use Rattle.clause_check.specs.Hints.{remaining_of, left_of};
     ghost use Rattle.clause_check.specs.Marked.{is_marked, variables_of, IsOneBelow};
@@ -103,10 +103,12 @@ impl Marks {
         }
     }
 
-    // Removes all marks.
+    // Removes all marks. The stamps are written anew only once the newest one is the greatest.
     fn clear(&mut self)
         ensures marked { (k : Lit) → is_marked self.new k ≡ false }
         ensures variables { variables_of self.new ≡ variables_of self.old }
+        ensures newest { self.old.newest < u32.MAX → self.new.newest ≡ self.old.newest + 1 }
+        ensures stamps { self.old.newest < u32.MAX → (self.new.positive ≡ self.old.positive) × (self.new.negative ≡ self.old.negative) }
     {
         if self.newest == u32::MAX {
             self.positive.fill(0);
