@@ -11,8 +11,8 @@ use Rattle.refutation.specs.Words.{lines_of}
 use Rattle.refutation.specs.Lines.{line_in}
 use Rattle.refutation.specs.Derivations.{Derivation, opening, line_fault, after_line, adds_empty}
 use Rattle.refutation.specs.Refutations.{Leads, IsRefutation, IsFault}
-use Rattle.refutation.specs.FirstFaults.{fault_or, first_fault, fault_in, IsFirstFault}
-use Rattle.refutation.specs.Laws.{RefutationsAreRight, OneRefutationFault, EachTextHasAVerdict}
+use Rattle.refutation.specs.FirstFaults.{fault_or, first_fault, fault_in}
+use Rattle.refutation.specs.Laws.{RefutationsAreRight, OneRefutationFault, LongTextsHaveOneFault, EachTextHasAVerdict}
 
 -- how the lines from a derivation on end
 data Ends (p : Problem) (d : Derivation) (count : ℕ) (lines : List (List ℕ)) (r : Option RefuteError) : Type 0 where
@@ -86,11 +86,6 @@ module _ (p : Problem) where
           inr ((short, later, leads), faults, omega (arith, lines))
     ]
 
-    pub first_told : (f : RefuteError) → length text ≤ LONGEST_REFUTATION → IsFirstFault (fault_in p text) f → IsFault p text f
-    first_told TooLong short told = fault_told TooLong short told
-    first_told (At line fault) short told = fault_told (At line fault) short told
-    first_told OutOfMemory short told = short
-
     right_known : IsRefutation p text → fault_in p text ≡ None
     right_known (before, here, d, reaches, right, empty) =
         ap (first_fault p (opening p) 0) reaches.lines ∙ led (opening p) 0 before (here ∷ reaches.after) d reaches.right
@@ -124,6 +119,11 @@ one_fault p text TooLong (At line fault) other other' h k = let short = is_short
 one_fault p text (At line fault) TooLong other other' h k = let short = is_short p text line fault h in absurd (omega (arith, short, k))
 one_fault p text (At line fault) (At line' fault') other other' h k =
     let same : Some (At line fault) ≡ Some (At line' fault') = sym (fault_known p text line fault h) ∙ fault_known p text line' fault' k in cc
+
+pub long_fault : LongTextsHaveOneFault
+long_fault p text TooLong long = ((λ f. refl), (λ is. long))
+long_fault p text OutOfMemory long = ((λ short. absurd (omega (arith, long, short))), (λ is. cc))
+long_fault p text (At line fault) long = ((λ f. let short = is_short p text line fault f in absurd (omega (arith, long, short))), (λ is. cc))
 
 short_verdict : (p : Problem) (text : List ℕ) → length text ≤ LONGEST_REFUTATION
     → IsRefutation p text ⊎ ((f : RefuteError) × (f ≢ OutOfMemory) × IsFault p text f)

@@ -1,10 +1,10 @@
 -- The first fault of lines, as the program finds it. No public contract cites this file.
-use Rattle.std.specs.Prelude.{◌≡◌, ℕ, ◌+◌, Bool, List, [], ◌∷◌, Option, None, Some, if◌then◌else◌}
+use Rattle.std.specs.Prelude.{ℕ, ◌+◌, Bool, List, [], ◌∷◌, Option, None, Some, if◌then◌else◌}
 use Rattle.table_formula.specs.Problems.{Problem}
 use Rattle.refutation.specs.declared.fault.LineFault.{LineFault}
 use Rattle.refutation.specs.declared.fault.LineFault.TheVariants.{NoEmptyClause}
 use Rattle.refutation.specs.declared.fault.RefuteError.{RefuteError}
-use Rattle.refutation.specs.declared.fault.RefuteError.TheVariants.{TooLong, At, OutOfMemory}
+use Rattle.refutation.specs.declared.fault.RefuteError.TheVariants.{At}
 use Rattle.refutation.specs.Words.{lines_of}
 use Rattle.refutation.specs.Lines.{line_in}
 use Rattle.refutation.specs.Derivations.{Derivation, opening, line_fault, after_line, adds_empty}
@@ -24,9 +24,3 @@ first_fault p d count (line ∷ lines) =
 -- the first fault of the lines of a text, from the formula on
 abbrev pub fault_in : Problem → List ℕ → Option RefuteError
 fault_in p text = first_fault p (opening p) 0 (lines_of text)
-
--- the error is the first fault, or memory was refused
-abbrev pub IsFirstFault : Option RefuteError → RefuteError → Type 0
-IsFirstFault found TooLong = found ≡ Some TooLong
-IsFirstFault found (At line fault) = found ≡ Some (At line fault)
-IsFirstFault found OutOfMemory = Unit {0}

@@ -1,8 +1,9 @@
 -- The statements of the laws of this crate.
-use Rattle.std.specs.Prelude.{◌≡◌, ◌≢◌, ◌⊎◌, ℕ, List}
+use Rattle.std.specs.Prelude.{◌≡◌, ◌≢◌, ◌⊎◌, ◌↔◌, ℕ, ◌<◌, List, length}
 use Rattle.table_formula.specs.Problems.{Problem, IsImpossible}
 use Rattle.refutation.specs.declared.fault.RefuteError.{RefuteError}
-use Rattle.refutation.specs.declared.fault.RefuteError.TheVariants.{OutOfMemory}
+use Rattle.refutation.specs.declared.fault.RefuteError.TheVariants.{TooLong, OutOfMemory}
+use Rattle.refutation.specs.declared.limits.TheConstants.{LONGEST_REFUTATION}
 use Rattle.refutation.specs.Refutations.{IsRefutation, IsFault}
 
 -- where the formula of a problem has a refutation, no table solves the problem
@@ -17,6 +18,11 @@ RefutationsAreRight = (p : Problem) (text : List ℕ) (f : RefuteError) → IsRe
 abbrev pub OneRefutationFault : Type 0
 OneRefutationFault =
     (p : Problem) (text : List ℕ) (f g : RefuteError) → f ≢ OutOfMemory → g ≢ OutOfMemory → IsFault p text f → IsFault p text g → f ≡ g
+
+-- a text that is too long has that fault alone, and even refused memory does not replace it
+abbrev pub LongTextsHaveOneFault : Type 0
+LongTextsHaveOneFault =
+    (p : Problem) (text : List ℕ) (f : RefuteError) → LONGEST_REFUTATION < length text → IsFault p text f ↔ (f ≡ TooLong)
 
 -- each text is a refutation or has a fault besides OutOfMemory
 abbrev pub EachTextHasAVerdict : Type 0

@@ -4,7 +4,7 @@ ghost use Rattle.clause_check.specs.Marked.{variables_of};
 ghost use Rattle.table_formula.specs.Formula.{variable_count, longest_len, formula as clauses_of};
 
 use crate::clauses::Clauses;
-use crate::fault::{LineFault, StepError};
+use crate::fault::LineFault;
 use crate::forms::Form;
 use crate::hints::outcome_of_hints;
 use clause_check::{Literal, Marks, Outcome};
@@ -32,7 +32,7 @@ impl<'f> Checker<'f> {
     ghost use Rattle.refutation.specs.Derivations.{opening, hints_fault, is_known, step_fault, line_fault, with_clause, after_line};
     ghost use Rattle.refutation.specs.Forms.{line_of};
     ghost use Rattle.refutation.specs.Stored.{clause_of};
-    ghost use Rattle.refutation.specs.Checked.{problem_of, derivation_of, IsStepError};
+    ghost use Rattle.refutation.specs.Checked.{problem_of, derivation_of};
 
     /// Returns the refutation that has no step.
     pub(crate) fn new(alloc: Global, formula: &'f Formula) -> Result<Checker<'f>, AllocError>
@@ -54,47 +54,58 @@ impl<'f> Checker<'f> {
         })
     }
 
-    /// Makes the step of a line of this form with this clause and these numbers.
+    /// Returns what is wrong with a line of this form with this clause and these numbers.
+    pub(crate) fn fault_of_line(
+        &mut self,
+        form: Form,
+        clause: &[Literal],
+        numbers: &[u64],
+    ) -> Option<LineFault>
+        ensures problem { problem_of self.new ≡ problem_of self.old }
+        ensures derivation { derivation_of self.new ≡ derivation_of self.old }
+        ensures value { result ≡ line_fault (problem_of self.old) (derivation_of self.old) (line_of form clause.now numbers.now) }
+    {
+        match form {
+            Form::Malformed => Some(LineFault::Form),
+            Form::Comment | Form::Deletion => None,
+            Form::Addition(number) => self.fault_of_step(number, clause, numbers),
+        }
+    }
+
+    /// Makes the step of a line that is right. Fails if memory was refused.
     pub(crate) fn step(
         &mut self,
         form: Form,
         clause: &[Literal],
         numbers: &[u64],
-    ) -> Result<(), StepError>
+    ) -> Result<(), AllocError>
+        requires { line_fault (problem_of self.old) (derivation_of self.old) (line_of form clause.now numbers.now) ≡ None }
         ensures problem { problem_of self.new ≡ problem_of self.old }
-        ensures right { OnOk result (line_fault (problem_of self.old) (derivation_of self.old) (line_of form clause.now numbers.now) ≡ None) }
         ensures after { OnOk result (derivation_of self.new ≡ after_line (derivation_of self.old) (line_of form clause.now numbers.now)) }
-        ensures fault { IfErr result (IsStepError (line_fault (problem_of self.old) (derivation_of self.old) (line_of form clause.now numbers.now))) }
     {
         match form {
-            Form::Malformed => Err(StepError::Fault(LineFault::Form)),
-            Form::Comment => Ok(()),
+            Form::Malformed | Form::Comment => Ok(()),
             Form::Deletion => {
                 self.clauses.delete(numbers);
                 Ok(())
             }
-            Form::Addition(number) => self.add(number, clause, numbers),
+            Form::Addition(number) => self.insert(number, clause),
         }
     }
 
-    // Adds a clause that follows from those of the hints.
-    fn add(&mut self, number: u64, clause: &[Literal], hints: &[u64]) -> Result<(), StepError>
+    // Returns what is wrong with the step that adds a clause.
+    fn fault_of_step(&mut self, number: u64, clause: &[Literal], hints: &[u64]) -> Option<LineFault>
         ensures problem { problem_of self.new ≡ problem_of self.old }
-        ensures right { OnOk result (step_fault (problem_of self.old) (derivation_of self.old) number clause.now hints.now ≡ None) }
-        ensures after { OnOk result (derivation_of self.new ≡ with_clause (derivation_of self.old) number clause.now) }
-        ensures fault { IfErr result (IsStepError (step_fault (problem_of self.old) (derivation_of self.old) number clause.now hints.now)) }
+        ensures derivation { derivation_of self.new ≡ derivation_of self.old }
+        ensures value { result ≡ step_fault (problem_of self.old) (derivation_of self.old) number clause.now hints.now }
     {
         if number <= self.newest {
-            return Err(StepError::Fault(LineFault::NumberNotAscending));
+            return Some(LineFault::NumberNotAscending);
         }
         if !are_below(clause, self.variables) {
-            return Err(StepError::Fault(LineFault::UnknownVariable));
+            return Some(LineFault::UnknownVariable);
         }
-        if let Some(fault) = self.fault_of_hints(clause, hints) {
-            return Err(StepError::Fault(fault));
-        }
-        self.insert(number, clause)?;
-        Ok(())
+        self.fault_of_hints(clause, hints)
     }
 
     // Returns what is wrong with the hints of a clause.

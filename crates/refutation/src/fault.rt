@@ -33,20 +33,13 @@ pub enum LineFault {
     NoEmptyClause,
 }
 
-// Why a step was not made.
-#[derive(Clone, Copy, Debug, PartialEq, Eq)]
-pub(crate) enum StepError {
-    Fault(LineFault),
-    OutOfMemory,
-}
-
-impl From<AllocError> for StepError {
+impl From<AllocError> for RefuteError {
     ghost use Rattle.std.specs.Prelude.{◌≡◌};
-    ghost use Rattle.refutation.specs.declared.fault.StepError.TheVariants.{OutOfMemory};
+    ghost use Rattle.refutation.specs.declared.fault.RefuteError.TheVariants.{OutOfMemory};
 
-    ghost from_gives = { λ _ e. e ≡ OutOfMemory };
+    ghost from_gives = { λ _ fault. fault ≡ OutOfMemory };
 
-    fn from(_error: AllocError) -> StepError {
-        StepError::OutOfMemory
+    fn from(_refused: AllocError) -> RefuteError {
+        RefuteError::OutOfMemory
     }
 }

@@ -12,11 +12,13 @@ pub fn refutations_are_sound()
     steps_are_sound();
 }
 
-/// A text is not both a refutation and faulty, and has at most one fault besides `OutOfMemory`.
-#[tactic(auto, using(crate::proofs::Verdicts::right, crate::proofs::Verdicts::one_fault))]
+/// A text is not both a refutation and faulty, and has at most one fault besides `OutOfMemory`. A text
+/// longer than `LONGEST_REFUTATION` bytes has that of its length alone.
+#[tactic(auto, using(crate::proofs::Verdicts::right, crate::proofs::Verdicts::one_fault, crate::proofs::Verdicts::long_fault))]
 pub fn one_refutation_verdict()
     ensures right { law.RefutationsAreRight }
     ensures one { law.OneRefutationFault }
+    ensures long { law.LongTextsHaveOneFault }
 {}
 
 /// Each text is a refutation or has a fault besides `OutOfMemory`.

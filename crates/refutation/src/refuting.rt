@@ -1,21 +1,19 @@
 //! Checks a text line by line.
-ghost use Rattle.std.specs.Prelude.{◌≡◌, ℕ, ◌≤◌, List, None, length, IfOk, IfErr, OnOk};
+ghost use Rattle.std.specs.Prelude.{◌≡◌, ℕ, ◌≤◌, List, None, Some, length, IfOk, IfErr, OnOk};
 ghost use Rattle.table_formula.specs.Problems.{IsImpossible};
-ghost use Rattle.refutation.specs.Lines.{line_in};
-ghost use Rattle.refutation.specs.Derivations.{line_fault, after_line, adds_empty};
+ghost use Rattle.refutation.specs.Derivations.{adds_empty};
 ghost use Rattle.refutation.specs.Refutations.{IsRefutation, IsFault};
-ghost use Rattle.refutation.specs.FirstFaults.{fault_in, IsFirstFault};
+ghost use Rattle.refutation.specs.FirstFaults.{fault_in};
 ghost use Rattle.refutation.specs.Forms.{line_of};
-ghost use Rattle.refutation.specs.Checked.{problem_of, derivation_of, IsStepError};
 
 use crate::checker::Checker;
-use crate::fault::{LineFault, RefuteError, StepError};
+use crate::fault::{LineFault, RefuteError};
 use crate::forms::{Form, read_line};
 use crate::laws::refutations_are_sound;
 use crate::limits::LONGEST_REFUTATION;
 use crate::parts::Parts;
 use clause_check::Literal;
-use std::alloc::Global;
+use std::alloc::{AllocError, Global};
 use table_formula::Formula;
 
 /// Checks that a text is a refutation of a formula, so that no table solves its problem. The text
@@ -36,7 +34,7 @@ use table_formula::Formula;
 ///
 /// Fails with `TooLong` if the text is longer than `LONGEST_REFUTATION` bytes, else with the first
 /// line that is wrong and its fault, or with `OutOfMemory` if memory was refused.
-#[tactic(auto, using(crate::proofs::Verdicts::right_told, crate::proofs::Verdicts::first_told))]
+#[tactic(auto, using(crate::proofs::Verdicts::right_told, crate::proofs::Verdicts::fault_told))]
 pub fn refute(alloc: Global, formula: &Formula, text: &[u8]) -> Result<(), RefuteError>
     ensures ok { OnOk result (IsRefutation formula.now text.now) }
     ensures impossible { OnOk result (IsImpossible formula.now) }
@@ -46,54 +44,50 @@ pub fn refute(alloc: Global, formula: &Formula, text: &[u8]) -> Result<(), Refut
         return Err(RefuteError::TooLong);
     }
     refutations_are_sound();
-    check_lines(alloc, formula, text)
+    let fault = first_fault(alloc, formula, text)?;
+    verdict_of(fault)
 }
 
-// Checks the lines of a text up to the one that adds the empty clause.
-fn check_lines(alloc: Global, formula: &Formula, text: &[u8]) -> Result<(), RefuteError>
-    requires { length text.now ≤ LONGEST_REFUTATION }
-    ensures ok { OnOk result (fault_in formula.now text.now ≡ None) }
-    ensures fault { IfErr result (IsFirstFault (fault_in formula.now text.now)) }
+// Returns the result of `refute` where this is the first fault of the text, if it has one.
+fn verdict_of(fault: Option<RefuteError>) -> Result<(), RefuteError>
+    ensures ok { OnOk result (fault ≡ None) }
+    ensures fault { IfErr result (λ told. fault ≡ Some told) }
 {
-    let mut checker = match Checker::new(alloc, formula) {
-        Ok(checker) => checker,
-        Err(_) => return Err(RefuteError::OutOfMemory),
-    };
+    match fault {
+        None => Ok(()),
+        Some(fault) => Err(fault),
+    }
+}
+
+// Returns the first fault of the lines of a text up to the one that adds the empty clause.
+fn first_fault(
+    alloc: Global,
+    formula: &Formula,
+    text: &[u8],
+) -> Result<Option<RefuteError>, AllocError>
+    requires { length text.now ≤ LONGEST_REFUTATION }
+    ensures { IfOk result (λ fault. fault ≡ fault_in formula.now text.now) }
+{
+    let mut checker = Checker::new(alloc, formula)?;
     let mut clause = Vec::new(alloc);
     let mut numbers = Vec::new(alloc);
     let mut lines = Parts::new(text, b'\n');
     let mut count: u64 = 0;
     while let Some(line) = lines.next() {
         count += 1;
-        match check_line(&mut checker, line, &mut clause, &mut numbers) {
-            Ok(true) => return Ok(()),
-            Ok(false) => {}
-            Err(StepError::Fault(fault)) => return Err(RefuteError::At { line: count, fault }),
-            Err(StepError::OutOfMemory) => return Err(RefuteError::OutOfMemory),
+        let form = read_line(line, &mut clause, &mut numbers)?;
+        if let Some(fault) = checker.fault_of_line(form, &clause, &numbers) {
+            return Ok(Some(RefuteError::At { line: count, fault }));
         }
+        if adds_empty_clause(form, &clause) {
+            return Ok(None);
+        }
+        checker.step(form, &clause, &numbers)?;
     }
-    Err(RefuteError::At {
+    Ok(Some(RefuteError::At {
         line: count,
         fault: LineFault::NoEmptyClause,
-    })
-}
-
-// Checks a line, and returns whether it adds the empty clause.
-fn check_line(
-    checker: &mut Checker,
-    line: &[u8],
-    clause: &mut Vec<Literal>,
-    numbers: &mut Vec<u64>,
-) -> Result<bool, StepError>
-    ensures problem { problem_of checker.new ≡ problem_of checker.old }
-    ensures right { OnOk result (line_fault (problem_of checker.old) (derivation_of checker.old) (line_in line.now) ≡ None) }
-    ensures after { OnOk result (derivation_of checker.new ≡ after_line (derivation_of checker.old) (line_in line.now)) }
-    ensures empty { IfOk result (λ is_last. is_last ≡ adds_empty (line_in line.now)) }
-    ensures fault { IfErr result (IsStepError (line_fault (problem_of checker.old) (derivation_of checker.old) (line_in line.now))) }
-{
-    let form = read_line(line, clause, numbers)?;
-    checker.step(form, clause, numbers)?;
-    Ok(adds_empty_clause(form, clause))
+    }))
 }
 
 // Returns whether a line of this form with this clause adds the empty clause.

@@ -1,10 +1,11 @@
-use Rattle.std.proofs.Common.{arith}
+use Rattle.std.proofs.Common.{sym, ◌∙◌, arith}
 use Rattle.std.proofs.lemmas.Result.{IfOk-weaker}
 use Rattle.refutation.proofs.Verdicts.{right_told}
 use Rattle.refutation.proofs.refuting.refute.Goals as goal
 
 pub returns-clause-impossible : goal.returns-clause-impossible
 returns-clause-impossible c =
-    IfOk-weaker c.check_lines.result _ _
-    (λ _ told. c.refutations_are_sound.ensures c.args.formula.now c.args.text.now (right_told c.args.formula.now c.args.text.now (omega arith) told))
-    c.check_lines.ensures.ok
+    IfOk-weaker c.verdict_of.result _ _
+    (λ _ none. c.refutations_are_sound.ensures c.args.formula.now c.args.text.now
+    (right_told c.args.formula.now c.args.text.now (omega arith) (sym c.in_ok-fault.ensures ∙ none)))
+    c.verdict_of.ensures.ok

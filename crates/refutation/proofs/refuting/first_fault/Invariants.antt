@@ -2,7 +2,7 @@ use Rattle.std.proofs.Common.{◌≡◌, ◌+◌, ◌≤◌, length}
 use Rattle.refutation.specs.FirstFaults.{first_fault, fault_in}
 use Rattle.refutation.specs.Parts.{remaining_parts}
 use Rattle.refutation.specs.Checked.{problem_of, derivation_of}
-use Rattle.refutation.proofs.refuting.check_lines.Given as goal
+use Rattle.refutation.proofs.refuting.first_fault.Given as goal
 
 abbrev pub invariant-loop-line : goal.invariant-loop-line
 invariant-loop-line l = record {
