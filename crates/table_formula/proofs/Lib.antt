@@ -6,6 +6,8 @@ pub mod ClauseLengths
 pub mod Satisfied
 pub mod Numbered
 pub mod Models
+pub mod Mapped
+pub mod Exchanged
 pub mod Exact
 pub mod FormulaText
 pub mod Reading

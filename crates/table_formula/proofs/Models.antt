@@ -130,7 +130,7 @@ some_any q r h start (suc n) e = or_step (q start) (r start) _ _ (h start) (some
     or_step false false x y f g k = g k
 
 -- far is not 0 if channels are closer than far
-two_of_far : (s : Separation) (a b : Option ℕ) → AreClose s.far a b → 2 ≤ extra s
+pub two_of_far : (s : Separation) (a b : Option ℕ) → AreClose s.far a b → 2 ≤ extra s
 two_of_far s None b close = absurd close
 two_of_far s (Some c) None close = absurd close
 two_of_far s (Some c) (Some d) close = omega (arith, close)

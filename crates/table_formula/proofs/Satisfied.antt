@@ -21,7 +21,7 @@ use Rattle.table_formula.specs.Laws.{SolutionsSatisfy}
 use Rattle.table_formula.proofs.Clauses.{all_flat, all_kept, all_below, some_value, any_map, any_in_range}
 
 -- the value of a variable
-value_at : (p : Problem) (t : ChannelTable) (w c : ℕ) → c < p.channels →
+pub value_at : (p : Problem) (t : ChannelTable) (w c : ℕ) → c < p.channels →
     values_of p t (variable_of p w c) ≡ (get_or t.entries w 0 == c)
 value_at p t w c lt = λ i. get_or t.entries (div-mul-add w p.channels c lt i) 0 == mod-mul-add w p.channels c lt i
 

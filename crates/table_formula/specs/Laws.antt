@@ -1,16 +1,18 @@
 -- The statements of the laws of this crate.
-use Rattle.std.specs.Prelude.{◌≡◌, ◌↔◌, ℕ, ◌≤◌, Bool, List, All}
+use Rattle.std.specs.Prelude.{◌≡◌, ◌↔◌, ℕ, ◌<◌, ◌≤◌, Bool, true, List, All}
 use Rattle.node_program.specs.declared.limits.TheConstants.{MAX_CHANNELS}
 use Rattle.win_index.specs.declared.limits.TheConstants.{MAX_ROUNDS}
 use Rattle.win_index.specs.ShapeRange.{IsShape}
 use Rattle.channel_tables.specs.Tables.{ChannelTable}
-use Rattle.clause_check.specs.Clauses.{Holds}
+use Rattle.clause_check.specs.Clauses.{is_true_literal, Holds}
 use Rattle.clause_check.specs.declared.literal.Literal.{Literal}
 use Rattle.table_formula.specs.Problems.{Problem, IsSolution, IsImpossible}
 use Rattle.table_formula.specs.Formula.{formula, values_of, variable_count}
 use Rattle.table_formula.specs.Limits.{IsWithinLimits}
 use Rattle.table_formula.specs.Texts.{formula_text}
 use Rattle.table_formula.specs.Dimacs.{ReadsAs}
+use Rattle.table_formula.specs.Exchanges.{can_exchange, exchanged_literal}
+use Rattle.table_formula.specs.declared.exchange.Exchange.{Exchange}
 
 -- each table that is asked for makes all clauses hold
 abbrev pub SolutionsSatisfy : Type 0
@@ -42,3 +44,12 @@ FormulaTextIsRead = (p : Problem) → IsWithinLimits p → ReadsAs (formula_text
 abbrev pub OneReading : Type 0
 OneReading =
     (text : List ℕ) (m n : ℕ) (a b : List (List Literal)) → ReadsAs text m a → ReadsAs text n b → (m ≡ n) × (a ≡ b)
+
+-- an exchange makes of each table that is asked for another one, in which each literal says after the exchange what it said
+-- before
+abbrev pub ExchangesKeepSolutions : Type 0
+ExchangesKeepSolutions =
+    (p : Problem) (t : ChannelTable) (x : Exchange) → can_exchange p x ≡ true → IsSolution p t
+    → (u : ChannelTable) × IsSolution p u
+    × ((l : Literal) → l.variable < variable_count p
+    → is_true_literal (values_of p u) (exchanged_literal p x l) ≡ is_true_literal (values_of p t) l)

@@ -2,6 +2,7 @@
 -- of formulas and their faults, the text of a formula, how it is read, and the laws.
 pub mod Problems
 pub mod Formula
+pub mod Exchanges
 pub mod Limits
 pub mod FormulaFaults
 pub mod Texts

@@ -8,9 +8,11 @@ ghost use Rattle.table_formula.specs.Limits.{IsWithinLimits};
 ghost use Rattle.table_formula.specs.FormulaFaults.{IsFormulaFault};
 
 use crate::conflict::{Conflict, conflict_count, conflicts_in};
+use crate::exchange::{Exchange, exchanged_number, other_of};
 use crate::limits::{MAX_CLAUSES, MAX_VARIABLES};
 use channel_tables::Separation;
 use clause_check::Literal;
+use node_program::MAX_CHANNELS;
 use std::alloc::{AllocError, Global};
 use std::marker::Model;
 use win_index::{MAX_TUPLE_LEN, Shape, rings_have_windows, tuples_are_rings};
@@ -52,12 +54,13 @@ impl Model for Formula {
 }
 
 impl Formula {
-    ghost use Rattle.std.specs.Prelude.{◌≡◌, ◌+◌, ◌*◌, ◌<◌, ◌≤◌, IfOk, IfErr, OnOk, Some, length, take, All, slice_get, slice_index_or};
+    ghost use Rattle.std.specs.Prelude.{◌≡◌, ◌+◌, ◌*◌, ◌<◌, ◌≤◌, IfOk, IfErr, OnOk, Some, length, take, true, All, slice_get, slice_index_or};
     ghost use Rattle.win_index.specs.declared.limits.TheConstants.{MAX_TUPLE_LEN};
     ghost use Rattle.win_index.specs.Windows.{IsWindow};
     ghost use Rattle.bad_tuples.specs.Apart.{extra};
     ghost use Rattle.table_formula.specs.declared.limits.TheConstants.{MAX_CLAUSES, MAX_VARIABLES};
     ghost use Rattle.table_formula.specs.Formula.{windows_of, tuples_of, variable_of, variable_count, conflicts_of, window_in, some_channel, not_both, IsPair, formula, longest_len};
+    ghost use Rattle.table_formula.specs.Exchanges.{can_exchange, exchanged_window, exchanged_literal};
     ghost use Rattle.table_formula.specs.Problems.{problem_of};
     ghost use Rattle.table_formula.specs.Limits.{IsWithinLimits};
     ghost use Rattle.table_formula.specs.FormulaFaults.{IsFormulaFault};
@@ -102,6 +105,64 @@ impl Formula {
         ensures few { result ≤ MAX_VARIABLES }
     {
         self.windows() * self.channels
+    }
+
+    /// Returns whether tables that are asked for stay so after an exchange: it is one of identifiers
+    /// of the shape; or of channels, and the separation only tells which channels differ; or the
+    /// mirror. Of channels there must be at most `MAX_CHANNELS`.
+    pub fn can_exchange(&self, exchange: Exchange) -> bool
+        ensures { result ≡ can_exchange self.now exchange }
+    {
+        match exchange {
+            Exchange::Identifiers(first, second) => {
+                let ids = u64::from(self.shape.ids());
+                first < ids && second < ids
+            }
+            Exchange::Channels(first, second) => {
+                let channels = u64::from(self.channels);
+                first < channels
+                    && second < channels
+                    && self.channels <= MAX_CHANNELS
+                    && self.separation.near <= 1
+                    && self.separation.far <= 1
+            }
+            Exchange::Mirror => self.channels <= MAX_CHANNELS,
+        }
+    }
+
+    /// Returns the literal that says after an exchange what this one says.
+    pub fn exchanged(&self, exchange: Exchange, l: Literal) -> Literal
+        requires can { can_exchange self.now exchange ≡ true }
+        requires known { l.variable < variable_count self.now }
+        ensures value { result ≡ exchanged_literal self.now exchange l }
+        ensures known { result.variable < variable_count self.now }
+    {
+        let window = l.variable() / self.channels;
+        let channel = l.variable() % self.channels;
+        match exchange {
+            Exchange::Identifiers(first, second) => {
+                let other = self.exchanged_window(window, first as u32, second as u32);
+                self.known_literal(other, channel, l.is_positive())
+            }
+            Exchange::Channels(first, second) => {
+                let other = other_of(channel, first as u32, second as u32);
+                self.known_literal(window, other, l.is_positive())
+            }
+            Exchange::Mirror => {
+                self.known_literal(window, self.channels - 1 - channel, l.is_positive())
+            }
+        }
+    }
+
+    // Returns the number of the window that has two identifiers of this one exchanged.
+    fn exchanged_window(&self, number: u32, first: u32, second: u32) -> u32
+        requires number { number < length (windows_of self.now) }
+        requires first { first < self.now.ids }
+        requires second { second < self.now.ids }
+        ensures value { result ≡ exchanged_window self.now first second number }
+        ensures below { result < length (windows_of self.now) }
+    {
+        exchanged_number(self.shape, number, first, second)
     }
 
     /// Returns the number of literals of the longest clause, at least 1.
@@ -234,6 +295,18 @@ impl Formula {
         ensures few { result ≤ MAX_TUPLE_LEN }
     {
         2 * self.shape.rounds() as usize + 1 + extra_of(self.separation) as usize
+    }
+
+    // Returns the literal that a window has a channel, or that it does not; its variable is one of
+    // the formula.
+    #[tactic(auto, using(crate::proofs::Numbered::variable_below))]
+    fn known_literal(&self, window: u32, channel: u32, is_positive: bool) -> Literal
+        requires window { window < length (windows_of self.now) }
+        requires channel { channel < self.now.channels }
+        ensures value { result ≡ record { variable = variable_of self.now window channel; is_positive = is_positive } }
+        ensures known { result.variable < variable_count self.now }
+    {
+        self.literal(window, channel, is_positive)
     }
 
     // Returns the literal that a window has a channel, or that it does not.

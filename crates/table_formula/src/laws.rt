@@ -47,3 +47,15 @@ pub fn formula_text_is_read()
     prefixes_have_numbers();
     window_of_number();
 }
+
+/// An exchange makes of each table that is asked for another one.
+pub fn exchanges_keep_solutions()
+    ensures { law.ExchangesKeepSolutions }
+{
+    tuples_suffice();
+    tuples_are_rings();
+    rings_have_windows();
+    windows_have_numbers();
+    number_of_window();
+    window_of_number();
+}
