@@ -7,6 +7,8 @@ use Rattle.clause_check.specs.declared.outcome.Outcome.{Outcome}
 use Rattle.clause_check.specs.declared.outcome.Outcome.TheVariants as outcome
 use Rattle.table_formula.specs.Problems.{Problem}
 use Rattle.table_formula.specs.Formula.{variable_count, formula}
+use Rattle.table_formula.specs.Exchanges.{can_exchange, exchanged_literal}
+use Rattle.table_formula.specs.declared.exchange.Exchange.{Exchange}
 use Rattle.refutation.specs.declared.fault.LineFault.{LineFault}
 use Rattle.refutation.specs.declared.fault.LineFault.TheVariants as fault
 use Rattle.refutation.specs.Lines.{Line, Comment, Deletion, Addition}
@@ -48,25 +50,39 @@ hints_fault outcome.UnknownHint = Some fault.UnknownHint
 hints_fault outcome.HintNotUnit = Some fault.HintNotUnit
 hints_fault outcome.NoConflict = Some fault.NoConflict
 
--- what is wrong with the step that adds a clause: its number, else its variables, else its hints
-abbrev pub step_fault : Problem → Derivation → ℕ → List Literal → List ℕ → Option LineFault
-step_fault p d number clause hints =
+-- whether a step may be after this exchange: there is none, or tables that solve the problem do so after it
+abbrev pub may_exchange : Problem → Option Exchange → Bool
+may_exchange p None = true
+may_exchange p (Some exchange) = can_exchange p exchange
+
+-- what a clause is after the exchange, if there is one
+abbrev pub after_exchange : Problem → Option Exchange → List Literal → List Literal
+after_exchange p None clause = clause
+after_exchange p (Some exchange) clause = map (exchanged_literal p exchange) clause
+
+-- what is wrong with the step that adds a clause: its number, else its variables, else the exchange, else the hints, which
+-- have to show what the clause is after the exchange
+abbrev pub step_fault : Problem → Derivation → Option Exchange → ℕ → List Literal → List ℕ → Option LineFault
+step_fault p d exchange number clause hints =
     if nat_le number d.newest then Some fault.NumberNotAscending
-    else (if is_known p clause then hints_fault (step_outcome clause (map d.clauses hints)) else Some fault.UnknownVariable)
+    else if is_known p clause then
+    (if may_exchange p exchange then hints_fault (step_outcome (after_exchange p exchange clause) (map d.clauses hints))
+    else Some fault.Exchange)
+    else Some fault.UnknownVariable
 
 -- what is wrong with a line that says this, or that has none of the forms
 abbrev pub line_fault : Problem → Derivation → Option Line → Option LineFault
 line_fault p d None = Some fault.Form
 line_fault p d (Some Comment) = None
 line_fault p d (Some (Deletion numbers)) = None
-line_fault p d (Some (Addition number clause hints)) = step_fault p d number clause hints
+line_fault p d (Some (Addition exchange number clause hints)) = step_fault p d exchange number clause hints
 
 -- the derivation after a line that says this
 abbrev pub after_line : Derivation → Option Line → Derivation
 after_line d None = d
 after_line d (Some Comment) = d
 after_line d (Some (Deletion numbers)) = without d numbers
-after_line d (Some (Addition number clause hints)) = with_clause d number clause
+after_line d (Some (Addition exchange number clause hints)) = with_clause d number clause
 
 abbrev pub is_empty : List Literal → Bool
 is_empty [] = true
@@ -77,4 +93,4 @@ abbrev pub adds_empty : Option Line → Bool
 adds_empty None = false
 adds_empty (Some Comment) = false
 adds_empty (Some (Deletion numbers)) = false
-adds_empty (Some (Addition number clause hints)) = is_empty clause
+adds_empty (Some (Addition exchange number clause hints)) = is_empty clause

@@ -10,4 +10,4 @@ abbrev pub line_of : Form → List Literal → List ℕ → Option Line
 line_of form.Malformed clause numbers = None
 line_of form.Comment clause numbers = Some Comment
 line_of form.Deletion clause numbers = Some (Deletion numbers)
-line_of (form.Addition number) clause numbers = Some (Addition number clause numbers)
+line_of (form.Addition exchange number) clause numbers = Some (Addition exchange number clause numbers)

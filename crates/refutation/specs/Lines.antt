@@ -1,13 +1,17 @@
--- The forms of a line: a comment, a deletion or an addition.
+-- The forms of a line: a comment, a deletion, or an addition, which may be after an exchange.
 use Rattle.std.specs.Prelude.{◌==◌, ℕ, Bool, true, false, List, [], ◌∷◌, Option, None, Some, option_map, if◌then◌else◌}
 use Rattle.clause_check.specs.declared.literal.Literal.{Literal}
+use Rattle.table_formula.specs.declared.exchange.Exchange.{Exchange}
+use Rattle.table_formula.specs.declared.exchange.Exchange.TheVariants as exchange
+use Rattle.refutation.specs.declared.forms.Letter.{Letter}
+use Rattle.refutation.specs.declared.forms.Letter.TheVariants as letter
 use Rattle.refutation.specs.Words.{words_of, number_in, literal_in, is_end}
 
--- what a line says: nothing, which clauses it deletes, or which clause it adds with which hints
+-- what a line says: nothing, which clauses it deletes, or which clause it adds, after which exchange if any, with which hints
 pub data Line : Type 0 where
   Comment : Line
   Deletion : List ℕ → Line
-  Addition : ℕ → List Literal → List ℕ → Line
+  Addition : Option Exchange → ℕ → List Literal → List ℕ → Line
 
 -- an item in front of a list and of the words after it
 abbrev pub with_item : {X : Type 0} → Option X → Option (List X × List (List ℕ)) → Option (List X × List (List ℕ))
@@ -31,21 +35,57 @@ abbrev pub numbers_in : List (List ℕ) → Option (List ℕ)
 numbers_in words = whole_list (list_in number_in words)
 
 -- an addition with this number: the literals are read, and the words after them are the hints
-abbrev pub addition_of : ℕ → Option (List Literal × List (List ℕ)) → Option Line
-addition_of number None = None
-addition_of number (Some (clause, words)) = option_map (Addition number clause) (numbers_in words)
+abbrev pub addition_of : Option Exchange → ℕ → Option (List Literal × List (List ℕ)) → Option Line
+addition_of by number None = None
+addition_of by number (Some (clause, words)) = option_map (Addition by number clause) (numbers_in words)
 
--- whether a word is the letter d (byte 100)
-abbrev pub is_d : List ℕ → Bool
-is_d (byte ∷ []) = byte == 100
-is_d _ = false
+-- the letter that a word is: d (byte 100), i (105), c (99) or m (109)
+abbrev pub letter_of : List ℕ → Option Letter
+letter_of (byte ∷ []) =
+    if byte == 100 then Some letter.Deletion
+    else if byte == 105 then Some letter.Identifiers
+    else if byte == 99 then Some letter.Channels
+    else if byte == 109 then Some letter.Mirror
+    else None
+letter_of _ = None
+
+-- the two numbers that the first two words spell, and the words after these
+abbrev pub both : Option ℕ → Option ℕ → List (List ℕ) → Option ((ℕ × ℕ) × List (List ℕ))
+both None second words = None
+both (Some first) None words = None
+both (Some first) (Some second) words = Some ((first, second), words)
+
+abbrev pub two_numbers : List (List ℕ) → Option ((ℕ × ℕ) × List (List ℕ))
+two_numbers (first ∷ second ∷ words) = both (number_in first) (number_in second) words
+two_numbers _ = None
+
+-- the exchange that a letter and the words after it spell, and the words after these
+abbrev pub exchange_in : Letter → List (List ℕ) → Option (Exchange × List (List ℕ))
+exchange_in letter.Deletion words = None
+exchange_in letter.Identifiers words = option_map (λ r. (exchange.Identifiers r.0.0 r.0.1, r.1)) (two_numbers words)
+exchange_in letter.Channels words = option_map (λ r. (exchange.Channels r.0.0 r.0.1, r.1)) (two_numbers words)
+exchange_in letter.Mirror words = Some (exchange.Mirror, words)
+
+-- an addition after an exchange, if that is there
+abbrev pub exchanging : ℕ → Option (Exchange × List (List ℕ)) → Option Line
+exchanging number None = None
+exchanging number (Some (by, words)) = addition_of (Some by) number (list_in literal_in words)
+
+-- what words say after a number and this letter
+abbrev pub lettered_line : Letter → ℕ → List (List ℕ) → Option Line
+lettered_line letter.Deletion number words = option_map Deletion (numbers_in words)
+lettered_line l number words = exchanging number (exchange_in l words)
+
+-- what words say after a number, the first of which may be a letter
+abbrev pub line_with : Option Letter → ℕ → List ℕ → List (List ℕ) → Option Line
+line_with None number word words = addition_of None number (list_in literal_in (word ∷ words))
+line_with (Some l) number word words = lettered_line l number words
 
 -- what the words after the first say, which is this number
 abbrev pub numbered_line : Option ℕ → List (List ℕ) → Option Line
 numbered_line None words = None
 numbered_line (Some number) [] = None
-numbered_line (Some number) (word ∷ words) =
-    if is_d word then option_map Deletion (numbers_in words) else addition_of number (list_in literal_in (word ∷ words))
+numbered_line (Some number) (word ∷ words) = line_with (letter_of word) number word words
 
 -- what the words of a line say
 abbrev pub line_of_words : List (List ℕ) → Option Line

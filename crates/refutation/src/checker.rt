@@ -9,7 +9,7 @@ use crate::forms::Form;
 use crate::hints::outcome_of_hints;
 use clause_check::{Literal, Marks, Outcome};
 use std::alloc::{AllocError, Global};
-use table_formula::Formula;
+use table_formula::{Exchange, Formula};
 
 /// A refutation so far.
 #[derive(Drop)]
@@ -28,7 +28,8 @@ pub(crate) struct Checker<'f> {
 
 impl<'f> Checker<'f> {
     ghost use Rattle.std.specs.Prelude.{◌<◌, None, IsTrue, IfOk, IfErr, OnOk, map};
-    ghost use Rattle.clause_check.specs.Hints.{step_outcome};
+    ghost use Rattle.clause_check.specs.Hints.{outcome_of};
+    ghost use Rattle.clause_check.specs.Marked.{is_marked};
     ghost use Rattle.refutation.specs.Derivations.{opening, hints_fault, is_known, step_fault, line_fault, with_clause, after_line};
     ghost use Rattle.refutation.specs.Forms.{line_of};
     ghost use Rattle.refutation.specs.Stored.{clause_of};
@@ -68,7 +69,9 @@ impl<'f> Checker<'f> {
         match form {
             Form::Malformed => Some(LineFault::Form),
             Form::Comment | Form::Deletion => None,
-            Form::Addition(number) => self.fault_of_step(number, clause, numbers),
+            Form::Addition(exchange, number) => {
+                self.fault_of_step(exchange, number, clause, numbers)
+            }
         }
     }
 
@@ -89,15 +92,21 @@ impl<'f> Checker<'f> {
                 self.clauses.delete(numbers);
                 Ok(())
             }
-            Form::Addition(number) => self.insert(number, clause),
+            Form::Addition(_, number) => self.insert(number, clause),
         }
     }
 
-    // Returns what is wrong with the step that adds a clause.
-    fn fault_of_step(&mut self, number: u64, clause: &[Literal], hints: &[u64]) -> Option<LineFault>
+    // Returns what is wrong with the step that adds a clause, after an exchange if there is one.
+    fn fault_of_step(
+        &mut self,
+        exchange: Option<Exchange>,
+        number: u64,
+        clause: &[Literal],
+        hints: &[u64],
+    ) -> Option<LineFault>
         ensures problem { problem_of self.new ≡ problem_of self.old }
         ensures derivation { derivation_of self.new ≡ derivation_of self.old }
-        ensures value { result ≡ step_fault (problem_of self.old) (derivation_of self.old) number clause.now hints.now }
+        ensures value { result ≡ step_fault (problem_of self.old) (derivation_of self.old) exchange number clause.now hints.now }
     {
         if number <= self.newest {
             return Some(LineFault::NumberNotAscending);
@@ -105,17 +114,19 @@ impl<'f> Checker<'f> {
         if !are_below(clause, self.variables) {
             return Some(LineFault::UnknownVariable);
         }
-        self.fault_of_hints(clause, hints)
+        if !self.clauses.may_exchange(exchange) {
+            return Some(LineFault::Exchange);
+        }
+        self.clauses.mark(&mut self.marks, exchange, clause);
+        self.fault_of_hints(hints)
     }
 
-    // Returns what is wrong with the hints of a clause.
-    fn fault_of_hints(&mut self, clause: &[Literal], hints: &[u64]) -> Option<LineFault>
-        requires { IsTrue (is_known (problem_of self.old) clause.now) }
+    // Returns what is wrong with the hints of a step, whose marked literals are taken to be false.
+    fn fault_of_hints(&mut self, hints: &[u64]) -> Option<LineFault>
         ensures problem { problem_of self.new ≡ problem_of self.old }
         ensures derivation { derivation_of self.new ≡ derivation_of self.old }
-        ensures value { result ≡ hints_fault (step_outcome clause.now (map (clause_of self.old.clauses) hints.now)) }
+        ensures value { result ≡ hints_fault (outcome_of (is_marked self.old.marks) (map (clause_of self.old.clauses) hints.now)) }
     {
-        self.marks.take_clause(clause);
         match outcome_of_hints(&self.clauses, &mut self.marks, &mut self.room, hints) {
             Outcome::Follows => None,
             Outcome::UnknownHint => Some(LineFault::UnknownHint),

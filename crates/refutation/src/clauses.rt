@@ -7,7 +7,7 @@ use crate::added::{delete_clause, insert_clause};
 use clause_check::{Literal, Marks, Remaining};
 use std::alloc::{AllocError, Global};
 use std::collections::BTreeMap;
-use table_formula::Formula;
+use table_formula::{Exchange, Formula};
 
 /// The clauses that a hint can name: those of a formula and those that were added, without the
 /// deleted ones.
@@ -22,12 +22,15 @@ pub(crate) struct Clauses<'f> {
 }
 
 impl<'f> Clauses<'f> {
-    ghost use Rattle.std.specs.Prelude.{ℕ, ◌==◌, ◌<◌, ◌≤◌, None, Some, IfOk, IfSome, OnOk, All, option_map, if◌then◌else◌};
+    ghost use Rattle.std.specs.Prelude.{ℕ, ◌==◌, ◌<◌, ◌≤◌, None, Some, IfOk, IfSome, OnOk, All, IsTrue, map, option_map, if◌then◌else◌};
     ghost use Rattle.std.specs.List.{list_any};
     ghost use Rattle.clause_check.specs.Hints.{left_of, remaining_of};
     ghost use Rattle.clause_check.specs.Marked.{is_marked, variables_of, IsOneBelow};
     ghost use Rattle.table_formula.specs.Formula.{longest_len};
-    ghost use Rattle.refutation.specs.Derivations.{opening};
+    ghost use Rattle.table_formula.specs.Exchanges.{can_exchange, exchanged_literal};
+    ghost use Rattle.clause_check.specs.Clauses.{has_literal};
+    ghost use Rattle.clause_check.specs.declared.literal.Literal.{Literal as Lit};
+    ghost use Rattle.refutation.specs.Derivations.{opening, is_known, may_exchange, after_exchange};
     ghost use Rattle.refutation.specs.Stored.{clause_of};
 
     /// Returns the clauses of a formula.
@@ -65,6 +68,44 @@ impl<'f> Clauses<'f> {
         }
         let len = self.formula.write_clause(number - 1, room);
         Some(marks.remaining(&room[..len]))
+    }
+
+    /// Returns whether a step may be after this exchange, if there is one.
+    pub(crate) fn may_exchange(&self, exchange: Option<Exchange>) -> bool
+        ensures { result ≡ may_exchange self.now.formula.now exchange }
+    {
+        match exchange {
+            Some(exchange) => self.formula.can_exchange(exchange),
+            None => true,
+        }
+    }
+
+    /// Removes all marks, and marks the literals of a clause after the exchange, if there is one.
+    pub(crate) fn mark(&self, marks: &mut Marks, exchange: Option<Exchange>, clause: &[Literal])
+        requires may { IsTrue (may_exchange self.now.formula.now exchange) }
+        requires known { IsTrue (is_known self.now.formula.now clause.now) }
+        requires variables { variables_of marks.old ≡ variable_count self.now.formula.now }
+        ensures marked { (k : Lit) → is_marked marks.new k ≡ has_literal (after_exchange self.now.formula.now exchange clause.now) k }
+        ensures variables { variables_of marks.new ≡ variables_of marks.old }
+    {
+        match exchange {
+            Some(exchange) => self.mark_exchanged(marks, exchange, clause),
+            None => marks.take_clause(clause),
+        }
+    }
+
+    // Removes all marks, and marks the literals of a clause after an exchange.
+    fn mark_exchanged(&self, marks: &mut Marks, exchange: Exchange, clause: &[Literal])
+        requires can { IsTrue (can_exchange self.now.formula.now exchange) }
+        requires known { IsTrue (is_known self.now.formula.now clause.now) }
+        requires variables { variables_of marks.old ≡ variable_count self.now.formula.now }
+        ensures marked { (k : Lit) → is_marked marks.new k ≡ has_literal (map (exchanged_literal self.now.formula.now exchange) clause.now) k }
+        ensures variables { variables_of marks.new ≡ variables_of marks.old }
+    {
+        marks.take_clause(&[]);
+        for l in clause {
+            marks.mark(self.formula.exchanged(exchange, *l));
+        }
     }
 
     /// Deletes the clauses with these numbers, as far as there are such.

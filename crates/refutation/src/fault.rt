@@ -22,6 +22,8 @@ pub enum LineFault {
     NumberNotAscending,
     /// The added clause has a literal whose variable is not one of the formula.
     UnknownVariable,
+    /// The tables of the problem do not stay such tables by the exchange.
+    Exchange,
     /// A hint names no clause.
     UnknownHint,
     /// The clause of a hint has several literals that are not known to be false, or it has none and

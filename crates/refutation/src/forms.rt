@@ -11,6 +11,7 @@ use crate::parts::Parts;
 use crate::words::{Spelled, is_end, number_in};
 use clause_check::Literal;
 use std::alloc::AllocError;
+use table_formula::Exchange;
 
 /// The form of a line. The clause, and the hints or the deleted numbers, stand beside it.
 #[derive(Clone, Copy, Debug, PartialEq, Eq)]
@@ -18,7 +19,17 @@ pub(crate) enum Form {
     Malformed,
     Comment,
     Deletion,
-    Addition(u64),
+    Addition(Option<Exchange>, u64),
+}
+
+// The letter that can follow the number of a line: it is a deletion, or an addition after an
+// exchange.
+#[derive(Clone, Copy, Debug, PartialEq, Eq)]
+pub(crate) enum Letter {
+    Deletion,
+    Identifiers,
+    Channels,
+    Mirror,
 }
 
 // Returns whether a line is empty or begins with the letter c.
@@ -31,13 +42,16 @@ fn is_comment(line: &[u8]) -> bool
     }
 }
 
-// Returns whether a word is the letter d.
-fn is_d(word: &[u8]) -> bool
-    ensures { result ≡ said.is_d word.now }
+// Returns the letter that a word is.
+fn letter_of(word: &[u8]) -> Option<Letter>
+    ensures { result ≡ said.letter_of word.now }
 {
     match word {
-        [byte] => *byte == b'd',
-        _ => false,
+        [b'd'] => Some(Letter::Deletion),
+        [b'i'] => Some(Letter::Identifiers),
+        [b'c'] => Some(Letter::Channels),
+        [b'm'] => Some(Letter::Mirror),
+        _ => None,
     }
 }
 
@@ -99,10 +113,32 @@ fn read_numbered(
         return Ok(Form::Malformed);
     };
     let mut rest = words;
-    match rest.next() {
+    let Some(word) = rest.next() else {
+        return Ok(Form::Malformed);
+    };
+    match letter_of(word) {
+        Some(letter) => read_lettered(letter, number, rest, clause, numbers),
+        None => read_addition(None, number, words, clause, numbers),
+    }
+}
+
+// Reads the words after a number and this letter.
+fn read_lettered(
+    letter: Letter,
+    number: u64,
+    words: Parts,
+    clause: &mut Vec<Literal>,
+    numbers: &mut Vec<u64>,
+) -> Result<Form, AllocError>
+    ensures { IfOk result (λ form. said.lettered_line letter number (remaining_parts words.entry) ≡ line_of form clause.new.items numbers.new.items) }
+{
+    if letter == Letter::Deletion {
+        return read_deletion(words, numbers);
+    }
+    let mut rest = words;
+    match exchange_in(letter, &mut rest) {
+        Some(exchange) => read_addition(Some(exchange), number, rest, clause, numbers),
         None => Ok(Form::Malformed),
-        Some(word) if is_d(word) => read_deletion(rest, numbers),
-        Some(_) => read_addition(number, words, clause, numbers),
     }
 }
 
@@ -119,17 +155,45 @@ fn read_deletion(words: Parts, numbers: &mut Vec<u64>) -> Result<Form, AllocErro
 
 // Reads the literals and the hints of an addition.
 fn read_addition(
+    exchange: Option<Exchange>,
     number: u64,
     words: Parts,
     clause: &mut Vec<Literal>,
     numbers: &mut Vec<u64>,
 ) -> Result<Form, AllocError>
-    ensures { IfOk result (λ form. said.addition_of number (said.list_in spelled.literal_in (remaining_parts words.entry)) ≡ line_of form clause.new.items numbers.new.items) }
+    ensures { IfOk result (λ form. said.addition_of exchange number (said.list_in spelled.literal_in (remaining_parts words.entry)) ≡ line_of form clause.new.items numbers.new.items) }
 {
     let mut rest = words;
     if read_list(&mut rest, clause)? && read_all_numbers(rest, numbers)? {
-        Ok(Form::Addition(number))
+        Ok(Form::Addition(exchange, number))
     } else {
         Ok(Form::Malformed)
     }
+}
+
+// Takes the words of an exchange with this letter.
+fn exchange_in(letter: Letter, words: &mut Parts) -> Option<Exchange>
+    ensures { said.exchange_in letter (remaining_parts words.old) ≡ option_map (λ exchange. (exchange, remaining_parts words.new)) result }
+{
+    match letter {
+        Letter::Deletion => None,
+        Letter::Identifiers => {
+            let (first, second) = two_numbers(words)?;
+            Some(Exchange::Identifiers(first, second))
+        }
+        Letter::Channels => {
+            let (first, second) = two_numbers(words)?;
+            Some(Exchange::Channels(first, second))
+        }
+        Letter::Mirror => Some(Exchange::Mirror),
+    }
+}
+
+// Takes two words, and returns the numbers that they spell.
+fn two_numbers(words: &mut Parts) -> Option<(u64, u64)>
+    ensures { said.two_numbers (remaining_parts words.old) ≡ option_map (λ two. (two, remaining_parts words.new)) result }
+{
+    let first = words.next()?;
+    let second = words.next()?;
+    Some((number_in(first)?, number_in(second)?))
 }

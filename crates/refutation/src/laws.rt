@@ -2,7 +2,7 @@
 ghost use Rattle.refutation.specs.Laws as law;
 
 use clause_check::steps_are_sound;
-use table_formula::solutions_satisfy;
+use table_formula::{exchanges_keep_solutions, solutions_satisfy};
 
 /// Where the formula of a problem has a refutation, no table solves the problem.
 pub fn refutations_are_sound()
@@ -10,6 +10,7 @@ pub fn refutations_are_sound()
 {
     solutions_satisfy();
     steps_are_sound();
+    exchanges_keep_solutions();
 }
 
 /// A text is not both a refutation and faulty, and has at most one fault besides `OutOfMemory`. A text

@@ -28,6 +28,11 @@ use table_formula::Formula;
 /// - An addition: the number of the clause, which is above those of all clauses before, its
 ///   literals, 0, the numbers of its hints, and 0. A literal is the number of a variable, counted
 ///   from 1, with `-` in front for its negation.
+/// - An addition after an exchange: the number of the clause, the letter `i` and two identifiers, or
+///   `c` and two channels, or `m`, and the rest of an addition. The hints lead to what the clause
+///   becomes if the two take each other's place, or by `m` each channel `c` of `C` and `C - 1 - c`.
+///   The tables of the problem must stay such tables, so that two channels can be exchanged only if
+///   near and far are at most 1. This is the symmetry rule of Krishnamurthy (1985).
 ///
 /// The clauses of the formula have the numbers from 1 on. Numbers are in decimal, leading zeros
 /// allowed, and below 2^64; those of variables are at most 2^31.
@@ -95,7 +100,7 @@ fn adds_empty_clause(form: Form, clause: &[Literal]) -> bool
     ensures { (numbers : List ℕ) → result ≡ adds_empty (line_of form clause.now numbers) }
 {
     match form {
-        Form::Addition(_) => clause.is_empty(),
+        Form::Addition(..) => clause.is_empty(),
         _ => false,
     }
 }
@@ -134,11 +139,26 @@ mod tests {
     }
 
     #[test]
+    fn refutations_by_exchanges(rt: HostRuntime) {
+        for text in [
+            "5 i 0 1 -2 0 2 3 0\n6 0 5 2 0",
+            "5 c 0 0 -2 0 1 3 0\n6 0 5 2 0",
+            "5 m -2 0 1 3 0\n6 0 5 2 0",
+        ] {
+            assert!(rt; refute_one_channel(rt.alloc(), text).is_ok());
+        }
+    }
+
+    #[test]
     fn faults(rt: HostRuntime) {
         for (text, line, fault) in [
             ("5 0 1 2 3", 1, LineFault::Form),
             ("4 0 1 2 3 0", 1, LineFault::NumberNotAscending),
             ("5 -3 0 1 2 3 0", 1, LineFault::UnknownVariable),
+            ("5 i 0 -2 0 2 3 0", 1, LineFault::Form),
+            ("5 i 0 2 -2 0 2 3 0", 1, LineFault::Exchange),
+            ("5 c 0 1 -2 0 2 3 0", 1, LineFault::Exchange),
+            ("5 i 0 1 -2 0 1 3 0", 1, LineFault::NoConflict),
             ("1 d 3 0\n5 0 1 2 3 0", 2, LineFault::UnknownHint),
             ("5 0 1 2 3 4 0", 1, LineFault::HintNotUnit),
             ("5 0 1 2 0", 1, LineFault::NoConflict),

@@ -34,6 +34,7 @@ abbrev pub line_fault_number : LineFault → ℕ
 line_fault_number line_fault.Form = 2
 line_fault_number line_fault.NumberNotAscending = 3
 line_fault_number line_fault.UnknownVariable = 4
+line_fault_number line_fault.Exchange = 9
 line_fault_number line_fault.UnknownHint = 5
 line_fault_number line_fault.HintNotUnit = 6
 line_fault_number line_fault.NoConflict = 7

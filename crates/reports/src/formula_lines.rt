@@ -56,6 +56,7 @@ fn number_of(fault: LineFault) -> u32
         LineFault::Form => 2,
         LineFault::NumberNotAscending => 3,
         LineFault::UnknownVariable => 4,
+        LineFault::Exchange => 9,
         LineFault::UnknownHint => 5,
         LineFault::HintNotUnit => 6,
         LineFault::NoConflict => 7,

@@ -65,6 +65,9 @@ fn line_cause(fault: LineFault) -> &'static str
         LineFault::UnknownVariable => {
             "this clause has a variable that the formula lacks; the numbers may be those of another formula"
         }
+        LineFault::Exchange => {
+            "tables need not stay right by this exchange: identifiers are below `--ids` and channels below `--channels`, and two channels are exchanged only if near and far are at most 1"
+        }
         LineFault::UnknownHint => {
             "a hint names no clause: there is none of its number yet, or it was deleted"
         }
