@@ -1,24 +1,13 @@
 -- The value of a whole expression is what a trace and a run show.
-use Rattle.std.proofs.Common.{◌≡◌, ℕ, zero, suc, List, [], ◌∷◌, length, get_or, map, refl, sym, ap, ◌∙◌, add-one, arith}
+use Rattle.std.proofs.Common.{◌≡◌, ℕ, zero, suc, List, [], ◌∷◌, length, get_or, map, sym, ap, ◌∙◌, add-one, arith}
 use Rattle.std.specs.Prelude.{Some, slice_get}
 use Rattle.std.proofs.lemmas.Option.{none-some, same_Some}
 use Rattle.std.proofs.lemmas.List.FromFn.{get_or-map-range_with_len}
-use Rattle.node_program.specs.Term.{Term, Literal, Identifier, LeftMessage, RightMessage, RegisterValue, One, Two, Choose}
+use Rattle.node_program.specs.Term.{Term}
 use Rattle.node_program.specs.Value.{value}
 use Rattle.node_program.specs.Node.{reading_messages, left_sent, right_sent, assigned_values, to_left, to_right, next, channel}
 use Rattle.node_program.specs.GlobalRounds.{left_of, right_of, state, channel_at}
-use Rattle.value_trees.specs.Laws.{RootsAreFirst, StartsAreHeld, AssignedAreHeld, LeftIsSent, RightIsSent, FinishIsChannel}
-use Rattle.std.proofs.Common.{append-nil}
-
-pub first : RootsAreFirst
-first b env (Literal n) = record { others = []; whole = sym (append-nil _) }
-first b env Identifier = record { others = []; whole = sym (append-nil _) }
-first b env LeftMessage = record { others = []; whole = sym (append-nil _) }
-first b env RightMessage = record { others = []; whole = sym (append-nil _) }
-first b env (RegisterValue j) = record { others = []; whole = sym (append-nil _) }
-first b env (One o x) = record { others = _; whole = refl }
-first b env (Two o x y) = record { others = _; whole = refl }
-first b env (Choose c x y) = record { others = _; whole = refl }
+use Rattle.value_trees.specs.Laws.{StartsAreHeld, AssignedAreHeld, LeftIsSent, RightIsSent, FinishIsChannel}
 
 -- the item of a list of values
 mapped : (f : Term → ℕ) (es : List Term) (j : ℕ) (e : Term) → slice_get es j ≡ Some e → f e ≡ get_or (map f es) j 0

@@ -1,5 +1,5 @@
 -- An explanation has the tree of each expression, with its value at the root.
-use Rattle.std.proofs.Common.{◌≡◌, ℕ, zero, suc, ◌+◌, ◌<◌, List, [], ◌∷◌, ◌++◌, codes, length, refl, sym, ap, subst, ◌∙◌, append_assoc, append-nil, arith}
+use Rattle.std.proofs.Common.{◌≡◌, ℕ, zero, suc, ◌+◌, ◌<◌, List, [], ◌∷◌, ◌++◌, codes, length, sym, ap, subst, ◌∙◌, append_assoc, append-nil, arith}
 use Rattle.std.specs.Prelude.{Some, slice_get, slice_index}
 use Rattle.std.specs.Fmt.{decimal}
 use Rattle.std.proofs.lemmas.Option.{none-some, same_Some}
@@ -7,13 +7,12 @@ use Rattle.node_program.specs.Term.{Term, Round, ProgramTree}
 use Rattle.node_program.specs.Node.{knowing_id, to_left, to_right}
 use Rattle.node_program.specs.GlobalRounds.{state, channels_of}
 use Rattle.node_program.specs.Value.{Env, value}
-use Rattle.numerals.specs.Numerals.{padded}
 use Rattle.numerals.specs.declared.base.Base.{Base}
-use Rattle.node_lang.specs.Printed.{own_word}
-use Rattle.value_trees.specs.Trees.{form_in, tree_lines}
+use Rattle.value_trees.specs.Trees.{tree_lines}
 use Rattle.value_trees.specs.Explanation.{headed, phase, assigned_lines, round_trees, rounds_trees, explanation, before_messages, with_messages}
 use Rattle.value_trees.specs.Laws.{Shows, ExplanationsShowTraces}
-use Rattle.value_trees.proofs.Roots.{first, starts, assigned, left_is_sent, right_is_sent, finished}
+use Rattle.value_trees.proofs.PartLines.{trees_show}
+use Rattle.value_trees.proofs.Roots.{starts, assigned, left_is_sent, right_is_sent, finished}
 
 -- a text with a piece in it
 record Has (piece text : List ℕ) : Type 0 where
@@ -43,23 +42,17 @@ inside piece t u own has =
     let more : Has piece (t ++ has.after) = on_left piece t has.after own in
     subst (Has piece) (sym has.whole) (on_right piece has.before (t ++ has.after) more)
 
--- what stands below a heading begins with the value of the whole expression
-shown : (b : Base) (env : Env) (heading : List ℕ) (e : Term) (n : ℕ) (text : List ℕ) → value e env ≡ n → Has (headed heading b env e) text → Shows b heading e n text
-shown b env heading e n text is has =
-    let root = first b env e in
-    let form = form_in b env e in
-    let rest : List ℕ = root.others ++ has.after in
-    let number : List ℕ = padded form (value e env) in
-    let tree : tree_lines b env e ++ has.after ≡ 32 ∷ (own_word e ++ (codes " " ++ (number ++ (codes "\n" ++ rest)))) =
-    ap (λ l. l ++ has.after) root.whole ∙ simp append_assoc refl in
-    record {
-      form = form;
-      in_base = refl;
-      before = has.before;
-      others = rest;
-      whole = has.whole ∙ ap (λ l. has.before ++ l) (append_assoc heading (10 ∷ tree_lines b env e) has.after ∙ ap (λ l. heading ++ (10 ∷ l)) tree)
-          ∙ ap (λ m. has.before ++ (heading ++ (codes "\n " ++ (own_word e ++ (codes " " ++ (padded form m ++ (codes "\n" ++ rest))))))) is;
-    }
+-- what stands below a heading is the tree of the expression
+shown : (b : Base) (heading : List ℕ) (env : Env) (e : Term) (n : ℕ) (text : List ℕ) → value e env ≡ n →
+    Has (headed heading b env e) text → Shows b heading env e n text
+shown b heading env e n text is has = record {
+  value_is = is;
+  tree = tree_lines b env e;
+  is_tree = trees_show b env e;
+  before = has.before;
+  others = has.after;
+  whole = has.whole ∙ ap (λ l. has.before ++ l) (append_assoc heading (10 ∷ tree_lines b env e) has.after);
+}
 
 assigned_has : (r : ℕ) (b : Base) (env : Env) (k : ℕ) (es : List Term) (j : ℕ) (e : Term) → slice_get es j ≡ Some e
     → Has (headed (phase r ++ (codes " r" ++ decimal (k + j))) b env e) (assigned_lines r b env k es)
@@ -127,41 +120,41 @@ module _ (b : Base) (p : ProgramTree) (x : List ℕ) (i : ℕ) where
   round_has r s is = on_right _ begin (middle ++ end) (on_left _ middle end (step_has b p x i p.steps r s is))
 
   start_shown : (j : ℕ) (e : Term) → slice_get p.start j ≡ Some e
-      → Shows b (phase 0 ++ (codes " r" ++ decimal j)) e (slice_index (state p x 0 i) j) (explanation b p x i)
+      → Shows b (phase 0 ++ (codes " r" ++ decimal j)) (knowing_id (slice_index x i)) e (slice_index (state p x 0 i) j) (explanation b p x i)
   start_shown j e is =
-      shown b (knowing_id (slice_index x i)) _ e _ _ (starts p x i j e is)
+      shown b _ (knowing_id (slice_index x i)) e _ _ (starts p x i j e is)
       (on_left _ begin (middle ++ end) (register_has 0 b (knowing_id (slice_index x i)) p.start j e is))
 
   -- what stands in the trees of a round
   in_round : (r : ℕ) (s : Round) (env : Env) (heading : List ℕ) (e : Term) (n : ℕ) → slice_get p.steps r ≡ Some s → value e env ≡ n
-      → Has (headed heading b env e) (round_trees b p x i r s) → Shows b heading e n (explanation b p x i)
+      → Has (headed heading b env e) (round_trees b p x i r s) → Shows b heading env e n (explanation b p x i)
   in_round r s env heading e n round is has =
-      shown b env heading e n _ is
+      shown b heading env e n _ is
       (inside _ (round_trees b p x i r s) (explanation b p x i) has (round_has r s round))
 
   register_shown : (r j : ℕ) (s : Round) (e : Term) → slice_get p.steps r ≡ Some s → slice_get s.next j ≡ Some e
-      → Shows b (phase (r + 1) ++ (codes " r" ++ decimal j)) e (slice_index (state p x (r + 1) i) j) (explanation b p x i)
+      → Shows b (phase (r + 1) ++ (codes " r" ++ decimal j)) (with_messages p x i r) e (slice_index (state p x (r + 1) i) j) (explanation b p x i)
   register_shown r j s e round is =
       in_round r s (with_messages p x i r) _ e _ round (assigned p x i r j s e round is)
       (on_right _ (left_tree r s) (right_tree r s ++ next_trees r s)
       (on_right _ (right_tree r s) (next_trees r s) (register_has (r + 1) b (with_messages p x i r) s.next j e is)))
 
   left_shown : (r : ℕ) (s : Round) → slice_get p.steps r ≡ Some s
-      → Shows b (phase (r + 1) ++ codes " left") s.left (to_left p r (state p x r i)) (explanation b p x i)
+      → Shows b (phase (r + 1) ++ codes " left") (before_messages p x i r) s.left (to_left p r (state p x r i)) (explanation b p x i)
   left_shown r s round =
       in_round r s (before_messages p x i r) _ s.left _ round (left_is_sent p x i r s round)
       (on_left (left_tree r s) (left_tree r s) (right_tree r s ++ next_trees r s) (itself (left_tree r s)))
 
   right_shown : (r : ℕ) (s : Round) → slice_get p.steps r ≡ Some s
-      → Shows b (phase (r + 1) ++ codes " right") s.right (to_right p r (state p x r i)) (explanation b p x i)
+      → Shows b (phase (r + 1) ++ codes " right") (before_messages p x i r) s.right (to_right p r (state p x r i)) (explanation b p x i)
   right_shown r s round =
       in_round r s (before_messages p x i r) _ s.right _ round (right_is_sent p x i r s round)
       (on_right (right_tree r s) (left_tree r s) (right_tree r s ++ next_trees r s)
       (on_left (right_tree r s) (right_tree r s) (next_trees r s) (itself (right_tree r s))))
 
-  channel_shown : i < length x → Shows b (codes "finish") p.finish (slice_index (channels_of p x) i) (explanation b p x i)
+  channel_shown : i < length x → Shows b (codes "finish") (before_messages p x i (length p.steps)) p.finish (slice_index (channels_of p x) i) (explanation b p x i)
   channel_shown within =
-      shown b (before_messages p x i (length p.steps)) _ p.finish _ _ (finished p x i within)
+      shown b _ (before_messages p x i (length p.steps)) p.finish _ _ (finished p x i within)
       (on_right end begin (middle ++ end) (on_right end middle end (itself end)))
 
 pub traces_shown : ExplanationsShowTraces

@@ -1,25 +1,18 @@
--- The laws of this crate: the value at the root of each tree is what a trace and a run show.
+-- The laws of this crate: a tree shows each part of an expression, and the value at its root is what a trace and a run show.
 use Rattle.std.specs.Prelude.{◌≡◌, ℕ, ◌+◌, ◌<◌, List, ◌++◌, codes, length, slice_get, slice_index, Some}
 use Rattle.std.specs.Fmt.{decimal}
 use Rattle.node_program.specs.Term.{Term, Round, ProgramTree}
 use Rattle.node_program.specs.Value.{Env, value}
 use Rattle.node_program.specs.Node.{knowing_id, to_left, to_right}
 use Rattle.node_program.specs.GlobalRounds.{state, channels_of}
-use Rattle.node_lang.specs.Printed.{own_word}
-use Rattle.numerals.specs.Numerals.{padded}
-use Rattle.numerals.specs.declared.rows.Form.{Form}
-use Rattle.value_trees.specs.Trees.{form_in, part_line, tree_lines}
+use Rattle.value_trees.specs.Trees.{tree_lines}
+use Rattle.value_trees.specs.Parts.{IsTree}
 use Rattle.value_trees.specs.Explanation.{before_messages, explanation, phase, with_messages}
 use Rattle.numerals.specs.declared.base.Base.{Base}
 
--- lines that begin with the line of an expression itself
-pub record BeginsWithPart (b : Base) (env : Env) (e : Term) (lines : List ℕ) : Type 0 where
-  pub others : List ℕ
-  pub whole : lines ≡ part_line (form_in b env e) env 1 e ++ others
-
--- the first line of a tree has the value of the whole expression
-abbrev pub RootsAreFirst : Type 0
-RootsAreFirst = (b : Base) (env : Env) (e : Term) → BeginsWithPart b env e (tree_lines b env e)
+-- the tree of an expression shows each of its parts
+abbrev pub TreesShowParts : Type 0
+TreesShowParts = (b : Base) (env : Env) (e : Term) → IsTree b env e (tree_lines b env e)
 
 -- the value of the expression of a register is the register before the first round, and after a round
 abbrev pub StartsAreHeld : Type 0
@@ -49,23 +42,27 @@ FinishIsChannel =
     (p : ProgramTree) (x : List ℕ) (i : ℕ) → i < length x
     → value p.finish (before_messages p x i (length p.steps)) ≡ slice_index (channels_of p x) i
 
--- the text has this heading, and below it a tree of the expression whose first line has this number, in this base
-pub record Shows (b : Base) (heading : List ℕ) (e : Term) (number : ℕ) (text : List ℕ) : Type 0 where
-  pub form : Form
-  pub in_base : form.base ≡ b
+-- the text has this heading, and below it a tree of the expression in this environment; there its value is this number
+pub record Shows (b : Base) (heading : List ℕ) (env : Env) (e : Term) (number : ℕ) (text : List ℕ) : Type 0 where
+  pub value_is : value e env ≡ number
+  pub tree : List ℕ
+  pub is_tree : IsTree b env e tree
   pub before : List ℕ
   pub others : List ℕ
-  pub whole : text ≡ before ++ (heading ++ (codes "\n " ++ (own_word e ++ (codes " " ++ (padded form number ++ (codes "\n" ++ others))))))
+  pub whole : text ≡ before ++ (heading ++ (codes "\n" ++ (tree ++ others)))
 
 -- The text shows what the node at place i of the ring x gets and sends in global rounds, below the headings that the lines of
 -- a trace have: its registers before the first round and after each, its messages, and its channel.
 pub record ShowsTrace (b : Base) (p : ProgramTree) (x : List ℕ) (i : ℕ) (text : List ℕ) : Type 0 where
-  pub starts : (j : ℕ) (e : Term) → slice_get p.start j ≡ Some e → Shows b (phase 0 ++ (codes " r" ++ decimal j)) e (slice_index (state p x 0 i) j) text
+  pub starts : (j : ℕ) (e : Term) → slice_get p.start j ≡ Some e
+      → Shows b (phase 0 ++ (codes " r" ++ decimal j)) (knowing_id (slice_index x i)) e (slice_index (state p x 0 i) j) text
   pub registers : (r j : ℕ) (s : Round) (e : Term) → slice_get p.steps r ≡ Some s → slice_get s.next j ≡ Some e
-      → Shows b (phase (r + 1) ++ (codes " r" ++ decimal j)) e (slice_index (state p x (r + 1) i) j) text
-  pub left : (r : ℕ) (s : Round) → slice_get p.steps r ≡ Some s → Shows b (phase (r + 1) ++ codes " left") s.left (to_left p r (state p x r i)) text
-  pub right : (r : ℕ) (s : Round) → slice_get p.steps r ≡ Some s → Shows b (phase (r + 1) ++ codes " right") s.right (to_right p r (state p x r i)) text
-  pub channel : Shows b (codes "finish") p.finish (slice_index (channels_of p x) i) text
+      → Shows b (phase (r + 1) ++ (codes " r" ++ decimal j)) (with_messages p x i r) e (slice_index (state p x (r + 1) i) j) text
+  pub left : (r : ℕ) (s : Round) → slice_get p.steps r ≡ Some s
+      → Shows b (phase (r + 1) ++ codes " left") (before_messages p x i r) s.left (to_left p r (state p x r i)) text
+  pub right : (r : ℕ) (s : Round) → slice_get p.steps r ≡ Some s
+      → Shows b (phase (r + 1) ++ codes " right") (before_messages p x i r) s.right (to_right p r (state p x r i)) text
+  pub channel : Shows b (codes "finish") (before_messages p x i (length p.steps)) p.finish (slice_index (channels_of p x) i) text
 
 -- an explanation shows what a trace and a run do
 abbrev pub ExplanationsShowTraces : Type 0

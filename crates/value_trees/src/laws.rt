@@ -1,11 +1,12 @@
 //! Laws of explanations and traces.
 ghost use Rattle.value_trees.specs.Laws as law;
 
-/// The first line of a tree has the value of its whole expression. That is the register which is
-/// traced, the message which is sent, and the channel which a run prints.
-#[tactic(auto, using(crate::proofs::Roots::first, crate::proofs::Roots::starts, crate::proofs::Roots::assigned, crate::proofs::Roots::left_is_sent, crate::proofs::Roots::right_is_sent, crate::proofs::Roots::finished))]
+/// A tree has a line for each part of its expression, as deep as the part is, with its value. That
+/// of the whole expression is the register which is traced, the message which is sent, or the
+/// channel which a run prints.
+#[tactic(auto, using(crate::proofs::PartLines::trees_show, crate::proofs::Roots::starts, crate::proofs::Roots::assigned, crate::proofs::Roots::left_is_sent, crate::proofs::Roots::right_is_sent, crate::proofs::Roots::finished))]
 pub fn roots_are_traced()
-    ensures first { law.RootsAreFirst }
+    ensures trees { law.TreesShowParts }
     ensures starts { law.StartsAreHeld }
     ensures assigned { law.AssignedAreHeld }
     ensures left { law.LeftIsSent }
