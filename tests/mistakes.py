@@ -163,6 +163,11 @@ INFIX = [
         "finish r0 != 1",
         "line 10, column 11: unknown word `!`; write `ne(a, b)`, or `eq(x, 0)` where x is to be 0",
     ),
+    (
+        "finish r0",
+        "finish if(r0, 1, r0 = 1)",
+        "line 10, column 21: unexpected `=`; expected `)`; write `eq(a, b)` to compare",
+    ),
     ("finish r0", "finish r0 <= 5", "line 10, column 11: unknown word `<`; write `le(a, b)` for a <= b"),
     ("finish r0", "finish r0 >= 5", "line 10, column 11: unknown word `>`; write `le(b, a)` for a >= b"),
     (
@@ -267,6 +272,12 @@ FILES = [
     (b"p cnf 360 1200\n1 2 3 0\n", "line 1, column 1: unknown word `p`; this is a formula for a solver"),
 ]
 
+# The advice on a second line that has its words, and whose numbers are each in their range.
+MISFIT = (
+    "the numbers of this line do not fit one another: 0 rounds take 2 to 1024 `ids`, "
+    "1 round 4 to 162, 2 rounds 6 to 23, 3 rounds 8 to 12, and 4 rounds 10"
+)
+
 # Texts that are no tables, the lines at fault, and the advice.
 TABLES = [
     (b"nbhd-table 3\nrounds 0 ids 2 channels 2\n0 : 0\n1 : 1\nend\n", 1, "its first line is `nbhd-table 2`, or `nbhd-table 1`"),
@@ -287,6 +298,8 @@ TABLES = [
     (b"nbhd-table 1\nrounds 0 ids 2 channels 0\n0 : 0\n", 2, "`channels` is 1 to 4096"),
     (b"nbhd-table 1\nrounds 0 ids 2 channels 5000\n0 : 0\n", 2, "`channels` is 1 to 4096"),
     (b"nbhd-table 1\nrounds 5 ids 12 channels 2\n", 2, "`rounds` is 0 to 4"),
+    (b"nbhd-table 1\nrounds 4 ids 9 channels 2\n", 2, MISFIT),
+    (b"nbhd-table 2\nrounds 0 ids 1 channels 2 near 1 far 0\n", 2, MISFIT),
     (
         b"nbhd-table 1\nrounds 0 ids 2 channels 2 near 1 far 0\n0 : 0\n",
         2,
@@ -294,6 +307,7 @@ TABLES = [
     ),
     (b"nbhd-table 2\nrounds 0 ids 2 channels 2\n0 : 0\n", 2, "version 2 has `near` and `far` in this line"),
     (b"nbhd-table 2\nrounds 0 ids 2 channels 2 near 0 far 0\n0 : 0\n", 2, "`near` is 1 to 4096"),
+    (b"nbhd-table 2\nrounds 0 ids 2 channels 2 near 1 far 4097\n0 : 0\n", 2, "`far` is 0 to 4096"),
     (b"nbhd-table 2\nrounds 0 ids 2 channels 2 far 0 near 1\n0 : 0\n", 2, "`near` and a number come fourth"),
     (b"nbhd-table 1\nrounds 0 ids 2 channels 2\n0 = 0\n", 3, "a line is the identifiers of a window, ` : ` and a channel"),
     (b"nbhd-table 1\nrounds 0 ids 2 channels 2\n0: 0\n", 3, "a line is the identifiers of a window, ` : ` and a channel"),

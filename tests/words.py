@@ -70,6 +70,104 @@ Exit status:
 """,
     ),
     (
+        "check --help",
+        """Tells whether a program is accepted for M identifiers
+
+Usage: nbhd check --ids <M>
+
+Options:
+      --ids <M>  How many identifiers there are; they are 0 to M-1
+  -h, --help     Print help
+
+Standard input:  a program text
+Standard output: one line: the program is accepted, or what is refused
+
+M is 2 to 1024 for 0 rounds, 4 to 162 for 1 round, 6 to 23 for 2, 8 to 12 for 3, 10 for 4 rounds.
+
+Exit status:
+  0  the program is accepted
+  2  the words are refused
+  3  the program is refused
+  5  reading or writing failed
+  6  memory was refused
+""",
+    ),
+    (
+        "table --help",
+        """Prints the table of a program, one channel per window
+
+Usage: nbhd table [OPTIONS] --ids <M>
+
+Options:
+      --ids <M>      How many identifiers there are; they are 0 to M-1
+      --workers <W>  How many threads work on the table, 1 to 64 [default: 1]
+      --near <P>     By how much neighbours' channels have to differ, 1 to 4096 [default: 1]
+      --far <Q>      By how much the channels at distance two have to differ, 0 to 4096 [default: 0]
+  -h, --help         Print help
+
+Standard input:  a program text
+Standard output: the table text, or one line: what is refused
+
+M is 2 to 1024 for 0 rounds, 4 to 162 for 1 round, 6 to 23 for 2, 8 to 12 for 3, 10 for 4 rounds.
+The text also tells near and far, by which `nbhd audit` judges the table.
+
+Exit status:
+  0  the table is printed
+  2  the words are refused
+  3  the program is refused
+  5  reading or writing failed
+  6  memory or a thread was refused
+""",
+    ),
+    (
+        "plan --help",
+        """Prints the channels of a ring's places, looked up in the table
+
+Usage: nbhd plan [OPTIONS] --ids <M> --ring <A,B,..>
+
+Options:
+      --ids <M>        How many identifiers there are; they are 0 to M-1
+      --ring <A,B,..>  The ring's identifiers, each followed by its right neighbour's
+      --workers <W>    How many threads work on the table, 1 to 64 [default: 1]
+  -h, --help           Print help
+
+Standard input:  a program text
+Standard output: one line for each place of the ring: the place, its identifier and its channel;
+                 or one line: what is refused
+
+M is 2 to 1024 for 0 rounds, 4 to 162 for 1 round, 6 to 23 for 2, 8 to 12 for 3, 10 for 4 rounds.
+The ring has at least 2, 4, 6, 8 or 10 identifiers for 0 to 4 rounds, below M, no two the same.
+
+Exit status:
+  0  the channels are printed
+  2  the words are refused
+  3  the program is refused
+  4  the ring is refused
+  5  reading or writing failed
+  6  memory or a thread was refused
+""",
+    ),
+    (
+        "migrate --help",
+        """Prints a table text of any version in the newest one
+
+Usage: nbhd migrate
+
+Options:
+  -h, --help  Print help
+
+Standard input:  a table text of version 1 or 2
+Standard output: the text of the same table, near and far in version 2, or one line: what is refused
+
+Exit status:
+  0  the text is printed
+  2  the words are refused
+  3  the table text is refused
+  5  reading or writing failed
+  6  memory was refused
+""",
+    ),
+    (
         "print --help",
         """Prints a program text in its one printed form
 
