@@ -1,5 +1,4 @@
 -- The numbers of a problem, and why there is no formula of them.
-use Rattle.std.specs.Prelude.{⊤}
 use Rattle.win_index.specs.ShapeRange.{IsShape}
 use Rattle.win_index.specs.ShapeFaults.{IsFirstShapeFault}
 use Rattle.win_index.specs.declared.shape.ShapeFault.TheVariants as shape
@@ -29,7 +28,7 @@ IsProblemFault p TooManyWindows = IsFirstShapeFault p.ids p.rounds shape.TooMany
 IsProblemFault p TooManyVariables = IsShape p.ids p.rounds × IsFormulaFault p formula.TooManyVariables
 IsProblemFault p TooManyClauses = IsShape p.ids p.rounds × IsFormulaFault p formula.TooManyClauses
 
--- why there is no formula of the problem, unless memory was refused
+-- why there is no formula of the problem: memory is refused only for a formula that there is
 abbrev pub IsNoFormula : Problem → NoFormula → Type 0
 IsNoFormula p (none.Fault fault) = IsProblemFault p fault
-IsNoFormula p none.OutOfMemory = ⊤
+IsNoFormula p none.OutOfMemory = HasFormula p

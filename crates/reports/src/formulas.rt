@@ -13,8 +13,9 @@ use crate::formula_lines::{formula_fault_line, refutation_fault_line, refuted_li
 use crate::problem::{ProblemFault, ProblemNumbers};
 use crate::refusal::Refusal;
 use crate::status::Status;
+use crate::told::ensure_refutation_told;
 use node_program::OutOfMemory;
-use refutation::{RefuteError, refute};
+use refutation::refute;
 use std::alloc::Global;
 use table_formula::{Formula, FormulaFault};
 use win_index::{Shape, ShapeFault};
@@ -58,8 +59,8 @@ fn refute_answer(
 {
     match refute(alloc, formula, input) {
         Ok(()) => Ok(Answer::Text(refuted_line(alloc, numbers)?, Status::Done)),
-        Err(RefuteError::OutOfMemory) => Err(OutOfMemory),
         Err(fault) => {
+            ensure_refutation_told(fault)?;
             let line = refutation_fault_line(alloc, fault)?;
             Ok(Answer::WithCause(line, Status::Refused, Cause::Refutation(fault)))
         }

@@ -16,4 +16,5 @@ pub mod refusal;
 pub mod rings;
 pub mod status;
 pub mod texts;
+mod told;
 pub mod writing;

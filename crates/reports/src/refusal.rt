@@ -30,6 +30,14 @@ impl Refusal {
     }
 }
 
+impl From<OutOfMemory> for Refusal {
+    ghost from_gives = { λ _ refusal. refusal ≡ NoMemory };
+
+    fn from(_refused: OutOfMemory) -> Refusal {
+        Refusal::OutOfMemory
+    }
+}
+
 impl From<AllocError> for Refusal {
     ghost from_gives = { λ _ refusal. refusal ≡ NoMemory };
 

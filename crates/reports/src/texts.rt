@@ -16,14 +16,15 @@ use crate::judgement::audit_report;
 use crate::lines::{accepted_line, check_fault_line, table_fault_line, text_fault_line};
 use crate::refusal::Refusal;
 use crate::status::Status;
+use crate::told::{ensure_table_told, ensure_text_told};
 use channel_tables::Table;
 use lang_check::{Plan, accept};
 use nbhd_check::Separation;
-use node_lang::{FaultKind, Program, TextFault, parse, print};
+use node_lang::{Program, parse, print};
 use node_program::OutOfMemory;
 use std::alloc::Global;
 use std::thread::Threads;
-use table_text::{TableFault, read_table};
+use table_text::read_table;
 
 /// Returns the report of a check. Fails if memory was refused.
 pub fn check_answer(alloc: Global, plan: &Plan) -> Result<Answer, OutOfMemory>
@@ -104,13 +105,8 @@ fn program_in(alloc: Global, input: &[u8]) -> Result<Program, Refusal>
 {
     match parse(alloc, input) {
         Ok(program) => Ok(program),
-        Err(
-            TextFault {
-                kind: FaultKind::OutOfMemory,
-                ..
-            },
-        ) => Err(Refusal::OutOfMemory),
         Err(fault) => {
+            ensure_text_told(fault)?;
             let line = text_fault_line(alloc, fault)?;
             let told = Answer::WithCause(line, Status::Refused, Cause::Text(fault));
             Err(Refusal::Report(told))
@@ -126,8 +122,8 @@ fn table_in(alloc: Global, input: &[u8]) -> Result<(Table, Separation), Refusal>
 {
     match read_table(alloc, input) {
         Ok(read) => Ok(read),
-        Err(TableFault::OutOfMemory) => Err(Refusal::OutOfMemory),
         Err(fault) => {
+            ensure_table_told(fault)?;
             let line = table_fault_line(alloc, fault)?;
             let told = Answer::WithCause(line, Status::Refused, Cause::TableText(fault));
             Err(Refusal::Report(told))
