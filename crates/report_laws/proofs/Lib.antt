@@ -9,5 +9,6 @@ mod FormulaAnswers
 mod EachReport
 mod SeenTables
 mod Refuted
+mod RoundsNeeded
 mod ReadBack
 pub mod OneNote

@@ -1,4 +1,4 @@
--- What a refuted formula says of tables and programs.
+-- What a refuted formula and the lower bound say of tables and programs.
 use Rattle.std.proofs.Common.{◌≡◌, ◌⊎◌, ℕ, ◌+◌, ◌*◌, ◌≤◌, List, length, refl, sym, ◌∙◌, inl, inr, arith}
 use Rattle.node_program.specs.Term.{ProgramTree}
 use Rattle.win_index.specs.Laws.{NumberOfWindow, WindowOfNumber, WindowsHaveNumbers, RingsHaveWindows, CountOfWindows, LengthOfArcs, ItemsOfArcs}
@@ -9,6 +9,7 @@ use Rattle.lang_check.specs.Laws.{AcceptedProgramsHaveNoRefusal}
 use Rattle.bad_tuples.specs.Apart.{extra, IsApartEverywhere}
 use Rattle.bad_tuples.specs.Laws.{ApartTablesHaveNoWitness, LessIsApart}
 use Rattle.node_lang.specs.Laws.{OneReading}
+use Rattle.lower_bound.specs.Laws.{TablesNeedChannels, TablesNeedThree}
 use Rattle.table_entries.specs.Laws.{ProgramTablesAreTables}
 use Rattle.table_entries.specs.ProgramTables.{table_of}
 use Rattle.headline.specs.Laws.{ProgramTablesAreApart}
@@ -18,7 +19,7 @@ use Rattle.reports.specs.FormulaReports.{IsRefuteReport, not_asked, refuted, not
 use Rattle.reports.specs.Report.{Report}
 use Rattle.reports.specs.declared.status.Status.TheVariants.{Done}
 use Rattle.plan_print.specs.TaskReport.{problem}
-use Rattle.report_laws.specs.Laws.{AsksForAsMuch, IsRefuted, NoTableIfRefuted, NoProgramIfRefuted, FailsOnARing}
+use Rattle.report_laws.specs.Laws.{AsksForAsMuch, IsAcceptedText, IsRefuted, NoTableIfRefuted, NoProgramIfRefuted, ProgramsNeedChannels, ProgramsNeedThree, Fails, FailsOnARing}
 use Rattle.report_laws.proofs.JudgeAnswers.{JudgeAnswer, apart, not_apart}
 use Rattle.report_laws.proofs.SeenTables.{seen_table, seen_is_table, seen_is_apart}
 use Rattle.report_laws.proofs.ToldRounds.{judge_tells}
@@ -56,20 +57,48 @@ no_table sound less number item have rings count arcs items m t channels s own t
           (less table own s asks.near_more asks.far_more enough are);
     })
 
+-- a program fails if the channels of its table are not apart everywhere
+pub program_fails : OneReading → AcceptedProgramsHaveNoRefusal → ApartTablesHaveNoWitness → ProgramTablesAreApart
+    → ((t : ChannelTable) (s : Separation) → JudgeAnswer t s) → (ids : ℕ) (s : Separation) (text : List ℕ) (p : ProgramTree)
+    → IsAcceptedText text ids p → ¬ IsApartEverywhere (table_of p ids) s → Fails ids s text p
+program_fails one_reading no_refusal no_witness apart_tables judged ids s text p accepted none =
+    record {
+      rounds = λ are. none ((apart_tables p ids s).1 are);
+      ring = fails (table_of p ids) s none (judged (table_of p ids) s);
+      judged =
+          λ workers r report. (judge_tells one_reading no_refusal no_witness apart_tables ids workers s.near s.far
+          text p r accepted report).1.1
+          (λ are. none ((apart_tables p ids s).1 are));
+    }
+
 pub no_program : NoTableIfRefuted → OneReading → AcceptedProgramsHaveNoRefusal → ApartTablesHaveNoWitness
     → ProgramTablesAreTables → ProgramTablesAreApart
     → ((t : ChannelTable) (s : Separation) → JudgeAnswer t s) → NoProgramIfRefuted
 unfolding table_of
 no_program refuted_has_none one_reading no_refusal no_witness tables apart_tables judged m t channels ids s own text p is accepted
     more rounds few asks =
-    let none : ¬ IsApartEverywhere (table_of p ids) own =
-    refuted_has_none m t channels s own (table_of p ids) is (tables p ids accepted.0.limits accepted.1) more
-    rounds few asks in
-    record {
-      rounds = λ are. none ((apart_tables p ids own).1 are);
-      ring = fails (table_of p ids) own none (judged (table_of p ids) own);
-      judged =
-          λ workers r report. (judge_tells one_reading no_refusal no_witness apart_tables ids workers own.near own.far
-          text p r accepted report).1.1
-          (λ are. none ((apart_tables p ids own).1 are));
-    }
+    program_fails one_reading no_refusal no_witness apart_tables judged ids own text p accepted
+    (refuted_has_none m t channels s own (table_of p ids) is (tables p ids accepted.0.limits accepted.1) more
+    rounds few asks)
+
+pub programs_need : TablesNeedChannels → OneReading → AcceptedProgramsHaveNoRefusal → ApartTablesHaveNoWitness
+    → ProgramTablesAreTables → ProgramTablesAreApart
+    → ((t : ChannelTable) (s : Separation) → JudgeAnswer t s) → ProgramsNeedChannels
+unfolding table_of
+programs_need need one_reading no_refusal no_witness tables apart_tables judged ids s text p accepted near far more =
+    program_fails one_reading no_refusal no_witness apart_tables judged ids s text p accepted
+    (λ are.
+    let table = tables p ids accepted.0.limits accepted.1 in
+    let most = need (table_of p ids) s (record { size = table.size; below = table.begun.below }) near far are in
+    omega (arith, most, more))
+
+pub programs_need_three : TablesNeedThree → OneReading → AcceptedProgramsHaveNoRefusal → ApartTablesHaveNoWitness
+    → ProgramTablesAreTables → ProgramTablesAreApart
+    → ((t : ChannelTable) (s : Separation) → JudgeAnswer t s) → ProgramsNeedThree
+unfolding table_of
+programs_need_three need one_reading no_refusal no_witness tables apart_tables judged ids s text p accepted near long few =
+    program_fails one_reading no_refusal no_witness apart_tables judged ids s text p accepted
+    (λ are.
+    let table = tables p ids accepted.0.limits accepted.1 in
+    let most = need (table_of p ids) s (record { size = table.size; below = table.begun.below }) near long are in
+    omega (arith, most, few))

@@ -14,6 +14,7 @@ use Rattle.channel_tables.specs.Tables.{IsTable, ChannelTable, channel_of}
 use Rattle.channel_tables.specs.declared.separation.Separation.{Separation}
 use Rattle.bad_tuples.specs.Apart.{extra, IsApartEverywhere}
 use Rattle.bad_tuples.specs.Witnesses.{IsWitness}
+use Rattle.lower_bound.specs.Towers.{tower, spread}
 use Rattle.table_entries.specs.ProgramTables.{table_of}
 use Rattle.numerals.specs.declared.base.Base.{Base}
 use Rattle.numerals.specs.declared.base.Base.TheVariants.{Ten}
@@ -224,3 +225,32 @@ NoProgramIfRefuted =
     (m t channels ids : ℕ) (s own : Separation) (text : List ℕ) (p : ProgramTree) → IsRefuted m t channels s →
     IsAcceptedText text ids p → m ≤ ids
     → length p.steps ≤ t → p.channels ≤ channels → AsksForAsMuch ids t own s → Fails ids own text p
+
+-- an accepted program fails if it has more identifiers than the tower over those of its channels that are apart by near
+abbrev pub ProgramsNeedChannels : Type 0
+ProgramsNeedChannels =
+    (ids : ℕ) (s : Separation) (text : List ℕ) (p : ProgramTree) → IsAcceptedText text ids p → 1 ≤ s.near
+    → (s.far ≡ 0) ⊎ (2 * length p.steps + 3 ≤ ids) → tower (2 * length p.steps) (spread p.channels s.near) < ids → Fails ids s text p
+
+-- on every ring the channels of global rounds are below c
+abbrev pub ChannelsAreBelow : ProgramTree → ℕ → ℕ → Type 0
+ChannelsAreBelow p m c =
+    (ring : List ℕ) (place : ℕ) → IsRing m (length p.steps) ring → place < length ring → channel_at p ring place < c
+
+-- Linial's lower bound for programs, which need not be accepted and so have no limits: if on every ring of identifiers
+-- below m the channels of global rounds are below c and apart, m is at most the tower over those of the c channels that
+-- are apart by near
+abbrev pub RoundsNeedChannels : Type 0
+RoundsNeedChannels =
+    (p : ProgramTree) (m c : ℕ) (s : Separation) → 2 * length p.steps + 2 ≤ m → ChannelsAreBelow p m c → 1 ≤ s.near
+    → (s.far ≡ 0) ⊎ (2 * length p.steps + 3 ≤ m) → ChannelsAreApart p m s → m ≤ tower (2 * length p.steps) (spread c s.near)
+
+-- with identifiers for a ring of 2t+3 nodes a program has more channels than twice near, or fails
+abbrev pub RoundsNeedThree : Type 0
+RoundsNeedThree =
+    (p : ProgramTree) (m c : ℕ) (s : Separation) → 2 * length p.steps + 3 ≤ m → ChannelsAreBelow p m c → 1 ≤ s.near → ChannelsAreApart p m s → 2 * s.near < c
+
+abbrev pub ProgramsNeedThree : Type 0
+ProgramsNeedThree =
+    (ids : ℕ) (s : Separation) (text : List ℕ) (p : ProgramTree) → IsAcceptedText text ids p → 1 ≤ s.near → 2 * length p.steps + 3 ≤ ids
+    → p.channels ≤ 2 * s.near → Fails ids s text p

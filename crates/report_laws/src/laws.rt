@@ -6,14 +6,17 @@ ghost use Rattle.report_laws.specs.Laws as law;
 use bad_tuples::{less_is_apart, one_witness, tuples_suffice};
 use headline::program_tables_are_apart;
 use lang_check::one_refusal;
+use lower_bound::{odd_rings_need_three, tables_need_channels};
 use node_lang::{first_fault, one_reading, one_text_fault, printed_is_read_back, reading_is_exact};
 use refutation::{each_text_has_a_verdict, one_refutation_verdict, refutations_are_sound};
-use table_entries::{program_tables_are_tables, table_has_the_channels_of_rounds};
+use table_entries::{
+    program_tables_are_tables, table_has_the_channels_of_rounds, table_has_the_channels_of_windows,
+};
 use table_text::{one_table_fault, table_texts_are_apart, table_texts_are_read};
 use value_trees::explanations_show_traces;
 use win_index::{
     count_of_windows, number_of_window, one_ring_fault, places_of_arcs, rings_have_windows,
-    window_of_number, windows_have_numbers,
+    tuples_are_rings, window_of_number, windows_have_numbers,
 };
 
 /// A task has at most one report on an input. The report is the same for every number of workers,
@@ -110,6 +113,48 @@ pub fn refuted_is_impossible()
     windows_have_numbers();
     count_of_windows();
     places_of_arcs();
+}
+
+/// Linial's lower bound (1992): if on every ring of identifiers below `m` the channels of `t` rounds
+/// of a program are below `c` and apart, `m` is at most the tower of height `2t` over those of the
+/// `c` channels that are apart by near. The program need not be accepted, and so has no limits.
+/// An accepted one with fewer channels fails on some ring, and the judge says no.
+pub fn programs_need_channels()
+    ensures rounds { law.RoundsNeedChannels }
+    ensures judged { law.ProgramsNeedChannels }
+{
+    tables_need_channels();
+    table_has_the_channels_of_rounds();
+    table_has_the_channels_of_windows();
+    tuples_are_rings();
+    one_reading();
+    one_refusal();
+    one_witness();
+    program_tables_are_tables();
+    program_tables_are_apart();
+    tuples_suffice();
+    number_of_window();
+    windows_have_numbers();
+}
+
+/// From `2t+3` identifiers on there is a ring of an odd number of nodes, so that a program of `t`
+/// rounds has more channels than twice near, or fails.
+pub fn programs_need_three()
+    ensures rounds { law.RoundsNeedThree }
+    ensures judged { law.ProgramsNeedThree }
+{
+    odd_rings_need_three();
+    table_has_the_channels_of_rounds();
+    table_has_the_channels_of_windows();
+    tuples_are_rings();
+    one_reading();
+    one_refusal();
+    one_witness();
+    program_tables_are_tables();
+    program_tables_are_apart();
+    tuples_suffice();
+    number_of_window();
+    windows_have_numbers();
 }
 
 /// The note on a list that is no ring, on a place that a ring has not, on a number of segments, on

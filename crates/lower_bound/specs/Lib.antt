@@ -1,0 +1,3 @@
+-- Linial's lower bound.
+pub mod Towers
+pub mod Laws

@@ -1,0 +1,8 @@
+//! Linial's lower bound (1992): how few channels no table can do with.
+#![tactic(auto)]
+
+mod laws;
+mod least;
+
+pub use laws::{odd_rings_need_three, tables_need_channels, windows_need_channels};
+pub use least::linial_bound;
