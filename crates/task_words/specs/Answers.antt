@@ -1,11 +1,12 @@
 -- The answers to the words of the process, and the tips on them.
-use Rattle.std.specs.Prelude.{◌≡◌, ◌↔◌, ◌⊎◌, Option, None, List, Result, Err, String, IfOk, IfSome, IfNone, IsSome, IsOk, IsErrOf, MatchOption, string_bytes}
+use Rattle.std.specs.Prelude.{◌≡◌, ◌↔◌, ◌⊎◌, Option, None, List, Result, Err, String, IfOk, IfSome, IfNone, IsOk, IsErrOf, MatchOption, string_bytes}
+use Rattle.std.specs.Option.{option_map}
 use Rattle.std.specs.declared.alloc.Global.{Global}
 use Rattle.clap.specs.Words.{Text}
 use Rattle.task_words.specs.RingText.{IsRingText}
 use Rattle.task_words.specs.RingTips.{IsRingTip, ring_word}
 use Rattle.task_words.specs.Task.{IsInRange}
-use Rattle.task_words.specs.Tips.{usage_tip}
+use Rattle.task_words.specs.Tips.{tip_line, usage_tip}
 use Rattle.task_words.specs.Words.{IsCommand, AsksForHelp, IsRefused, HasBadRing, IsTaskOf}
 use Rattle.task_words.specs.WordsFault.{MemoryAside, IsUsage, IsHelp, IsNotUtf8}
 use Rattle.task_words.specs.declared.task.Task.{Task}
@@ -30,11 +31,11 @@ IsUnread fault = IsNotUtf8 fault ⊎ (fault ≡ OutOfMemory)
 abbrev pub IsParsed : Result Task WordsFault → Type 0
 IsParsed result = ((words : List Text) × IsAnswer words result) ⊎ ((fault : WordsFault) × (result ≡ Err fault) × IsUnread fault)
 
--- The tip on words with this fault: on a bad ring text that of the text; on words that `clap` refuses there is one
--- exactly if `usage_tip` has one; on others none.
+-- The tip on words with this fault: on a bad ring text that of the text; on words that `clap` refuses the line of the tip
+-- that `usage_tip` has, if it has one; on others none.
 abbrev pub IsTipFor : List Text → WordsFault → Option (String Global) → Type 0
 IsTipFor words BadRing tip =
     MatchOption (ring_word words) (tip ≡ None) (λ text. IfSome tip (λ line. IsRingTip text (string_bytes line)) × IfNone tip (IsRingText text))
-IsTipFor words (Usage text) tip = IsSome tip ↔ IsSome (usage_tip words)
+IsTipFor words (Usage text) tip = option_map string_bytes tip ≡ option_map tip_line (usage_tip words)
 IsTipFor words (Help text) tip = tip ≡ None
 IsTipFor words OutOfMemory tip = tip ≡ None

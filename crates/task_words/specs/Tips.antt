@@ -5,6 +5,19 @@ use Rattle.std.specs.Option.{option_or}
 use Rattle.task_words.specs.declared.tips.Tip.{Tip}
 use Rattle.task_words.specs.declared.tips.Tip.TheVariants as tip
 
+-- the line on a mistake for standard error
+abbrev pub tip_line : Tip → List ℕ
+tip_line tip.RingForIds = codes "nbhd: `--ids` takes the number of identifiers; a ring is given by `--ring`"
+tip_line tip.RingInWords = codes "nbhd: a ring is one word with commas, as in `--ring 5,1,3,7`"
+tip_line tip.Negative = codes "nbhd: numbers are 0 to 4294967295, without a sign"
+tip_line tip.FileName = codes "nbhd: a text is read from standard input, as in `nbhd judge --ids 8 < FILE`"
+tip_line tip.TableName = codes "nbhd: a table is read from standard input, as in `nbhd audit < FILE`"
+tip_line tip.OneMinus = codes "nbhd: the name of an option has two minus signs before it, as in `--ids 8`"
+tip_line tip.Dash = codes "nbhd: the name of an option has two minus signs before it, and no dash, as in `--ids 8`"
+tip_line tip.Capital = codes "nbhd: the names of options have small letters, as in `--ids 8`"
+tip_line tip.OtherIds = codes "nbhd: the number of identifiers is given by `--ids`"
+tip_line tip.NoNumber = codes "nbhd: numbers are in digits: `--ids` 2 to 1024, `--rounds` 0 to 4, `--channels` and `--near` 1 to 4096, `--far` 0 to 4096, `--workers` and `--segments` 1 to 64, `--place` from 0 on, `--base` 2 to 10"
+
 abbrev pub is_digit : ℕ → Bool
 is_digit byte = nat_le 48 byte && nat_le byte 57
 

@@ -85,7 +85,7 @@ fn tip_for(
             None => Ok(None),
         },
         WordsFault::Usage(_) => match usage_tip(words) {
-            Some(tip) => Ok(Some(format!(in alloc; "{tip}")?)),
+            Some(tip) => Ok(Some(String::from_str(alloc, tip.line())?)),
             None => Ok(None),
         },
         WordsFault::Help(_) | WordsFault::OutOfMemory => Ok(None),

@@ -4,41 +4,58 @@ ghost use Rattle.std.specs.Prelude.{◌≡◌, ◌≤◌, ◌==◌, length, map,
 ghost use Rattle.std.specs.List.{list_any};
 ghost use Rattle.task_words.specs.Tips as tips;
 
-use thiserror::Error;
-
-/// A common mistake in words of the command line. It is displayed as a line for standard error.
-#[derive(Clone, Copy, Debug, PartialEq, Eq, Error)]
+/// A common mistake in words of the command line.
+#[derive(Clone, Copy, Debug, PartialEq, Eq)]
 pub enum Tip {
     /// A list of identifiers in place of the value of `--ids`.
-    #[error("nbhd: `--ids` takes the number of identifiers; a ring is given by `--ring`")]
     RingForIds,
     /// A ring in several words.
-    #[error("nbhd: a ring is one word with commas, as in `--ring 5,1,3,7`")]
     RingInWords,
     /// A number below 0.
-    #[error("nbhd: numbers are 0 to 4294967295, without a sign")]
     Negative,
     /// The name of a file.
-    #[error("nbhd: a text is read from standard input, as in `nbhd judge --ids 8 < FILE`")]
     FileName,
     /// The name of a file, at a command that reads a table.
-    #[error("nbhd: a table is read from standard input, as in `nbhd audit < FILE`")]
     TableName,
     /// An option with one minus sign.
-    #[error("nbhd: the name of an option has two minus signs before it, as in `--ids 8`")]
     OneMinus,
     /// An option with a dash in place of minus signs.
-    #[error("nbhd: the name of an option has two minus signs before it, and no dash, as in `--ids 8`")]
     Dash,
     /// An option in capitals.
-    #[error("nbhd: the names of options have small letters, as in `--ids 8`")]
     Capital,
     /// Another name for the number of identifiers.
-    #[error("nbhd: the number of identifiers is given by `--ids`")]
     OtherIds,
     /// A word that is not a number, as the value of an option that takes one.
-    #[error("nbhd: numbers are in digits: `--ids` 2 to 1024, `--rounds` 0 to 4, `--channels` and `--near` 1 to 4096, `--far` 0 to 4096, `--workers` and `--segments` 1 to 64, `--place` from 0 on, `--base` 2 to 10")]
     NoNumber,
+}
+
+impl Tip {
+    ghost use Rattle.std.specs.Prelude.{◌≡◌};
+    ghost use Rattle.task_words.specs.Tips.{tip_line};
+
+    /// Returns the line on this mistake for standard error.
+    pub fn line(self) -> &'static str
+        ensures { result.now ≡ tip_line self }
+    {
+        match self {
+            Tip::RingForIds =>
+                "nbhd: `--ids` takes the number of identifiers; a ring is given by `--ring`",
+            Tip::RingInWords => "nbhd: a ring is one word with commas, as in `--ring 5,1,3,7`",
+            Tip::Negative => "nbhd: numbers are 0 to 4294967295, without a sign",
+            Tip::FileName =>
+                "nbhd: a text is read from standard input, as in `nbhd judge --ids 8 < FILE`",
+            Tip::TableName =>
+                "nbhd: a table is read from standard input, as in `nbhd audit < FILE`",
+            Tip::OneMinus =>
+                "nbhd: the name of an option has two minus signs before it, as in `--ids 8`",
+            Tip::Dash =>
+                "nbhd: the name of an option has two minus signs before it, and no dash, as in `--ids 8`",
+            Tip::Capital => "nbhd: the names of options have small letters, as in `--ids 8`",
+            Tip::OtherIds => "nbhd: the number of identifiers is given by `--ids`",
+            Tip::NoNumber =>
+                "nbhd: numbers are in digits: `--ids` 2 to 1024, `--rounds` 0 to 4, `--channels` and `--near` 1 to 4096, `--far` 0 to 4096, `--workers` and `--segments` 1 to 64, `--place` from 0 on, `--base` 2 to 10",
+        }
+    }
 }
 
 /// Returns the tip on the first of the words after the program's name that has one.
