@@ -163,7 +163,7 @@ no_feed b plain = or_false (b == 32) (is_feed b) plain
     or_false true y h = cc
 
 -- the two numbers of the first line
-pub first_line : ℕ → ℕ → List ℕ
+first_line : ℕ → ℕ → List ℕ
 first_line m n = codes "p cnf " ++ (decimal m ++ 32 ∷ decimal n)
 
 first_line_plain : (m n : ℕ) → m < 2 ^ 64 → n < 2 ^ 64 → All (λ b. is_feed b ≡ false) (first_line m n)
@@ -183,7 +183,7 @@ sizes_read m n m_small n_small =
     ∙ ap (λ ws. decimal m ∷ ws) (last_word (decimal n) (number_word n n_small)))
     ∙ (λ i. number_read m m_small i ∷ number_read n n_small i ∷ [])
 
--- a text is read line by line
+-- a text with such a first line
 text_read : (text body : List ℕ) (m : ℕ) (clauses : List (List Literal)) → m < 2 ^ 64 → length clauses < 2 ^ 64 →
     text ≡ first_line m (length clauses) ++ 10 ∷ body → clauses_in m (words_of body) ≡ Some clauses →
     ReadsAs text m clauses
