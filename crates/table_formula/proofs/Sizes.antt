@@ -1,10 +1,11 @@
 -- The numbers of variables and clauses of a formula.
 use Rattle.std.proofs.Common.{◌≡◌, ℕ, ◌+◌, ◌*◌, ◌<◌, ◌≤◌, length, sym, ap, ◌∙◌, subst, arith}
+use Rattle.std.proofs.lemmas.Nat.{mul-le}
 use Rattle.win_index.specs.Windows.{windows}
 use Rattle.bad_tuples.specs.Apart.{extra}
 use Rattle.table_formula.specs.Problems.{Problem}
 use Rattle.table_formula.specs.Formula.{windows_of, tuples_of, conflicts_of, formula}
-use Rattle.table_formula.specs.Limits.{HasFewVariables, HasFewClauses}
+use Rattle.table_formula.specs.Limits.{HasFewVariables, HasFewClauses, IsWithinLimits}
 use Rattle.table_formula.specs.declared.limits.TheConstants.{MAX_VARIABLES, MAX_CLAUSES}
 use Rattle.table_formula.proofs.Clauses.{formula_length}
 
@@ -44,3 +45,9 @@ few_clauses p windows tuples pairs count are is few = omega (arith, clauses_of p
 pub many_clauses : (p : Problem) (windows tuples pairs : ℕ) → AreSizes p windows tuples pairs →
     MAX_CLAUSES < windows + tuples * pairs → ¬ HasFewClauses p
 many_clauses p windows tuples pairs are many = λ few. omega (arith, clauses_of p windows tuples pairs are, many, few)
+
+-- where there are tuples, there are no more pairs of channels than clauses
+pub few_pairs : (p : Problem) → 0 < length (tuples_of p) → IsWithinLimits p → length (conflicts_of p) ≤ MAX_CLAUSES
+few_pairs p some limits =
+    let pairs : ℕ = length (conflicts_of p) in
+    omega (arith, formula_length p, mul-le 1 pairs (length (tuples_of p)) pairs some (omega arith), limits.few_clauses)

@@ -1,7 +1,7 @@
 //! The pairs of channels that a separation forbids.
 ghost use Rattle.std.specs.Prelude.{◌≡◌, ◌+◌, ◌-◌, ◌*◌, ◌^◌, ◌<◌, ◌≤◌, ◌++◌, ℕ, length, min, IfOk, OnOk};
 ghost use Rattle.table_formula.specs.Formula.{close_to, close_pairs, close_in};
-ghost use Rattle.table_formula.specs.declared.limits.TheConstants.{MAX_VARIABLES};
+ghost use Rattle.table_formula.specs.declared.limits.TheConstants.{MAX_CLAUSES, MAX_VARIABLES};
 
 use crate::limits::MAX_VARIABLES;
 use channel_tables::Separation;
@@ -16,12 +16,14 @@ pub struct Conflict {
     pub second: u32,
 }
 
-// Returns the pairs of channels below `channels` that the separation forbids.
+// Returns the pairs of channels below `channels` that the separation forbids, of which there are at
+// most `MAX_CLAUSES`.
 pub(crate) fn conflicts_in(
     alloc: Global,
     channels: u32,
     separation: Separation,
 ) -> Result<Vec<Conflict>, AllocError>
+    requires { length (close_in channels separation) ≤ MAX_CLAUSES }
     ensures { IfOk result (λ pairs. pairs.items ≡ close_in channels separation) }
 {
     let mut pairs = Vec::new(alloc);
