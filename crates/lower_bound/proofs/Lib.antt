@@ -4,5 +4,6 @@ pub mod Steps
 pub mod Bound
 pub mod Windows
 pub mod OddRings
+pub mod Nearby
 pub mod Tables
 pub mod Feet

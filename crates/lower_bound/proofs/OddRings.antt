@@ -23,16 +23,16 @@ in_turn f n (suc k) below differ le =
     ap f end ∙ same ∙ in_turn f n k below differ (omega (arith, le))
 
 -- once around a ring
-once_around : (ring : List ℕ) (t : ℕ) → t ≤ length ring → window_around ring t (length ring) ≡ window_around ring t 0
-once_around ring t le = λ i. map (λ k. get_or ring (same k i) 0) (range_with_len 0 (2 * t + 1))
+pub further_around : (ring : List ℕ) (t i : ℕ) → t ≤ length ring → window_around ring t (length ring + i) ≡ window_around ring t i
+further_around ring t i le = λ j. map (λ k. get_or ring (same k j) 0) (range_with_len 0 (2 * t + 1))
   where
-    same : (k : ℕ) → (length ring + length ring - t + k) % length ring ≡ (0 + length ring - t + k) % length ring
+    same : (k : ℕ) → (length ring + i + length ring - t + k) % length ring ≡ (i + length ring - t + k) % length ring
     same k =
-        let turn : length ring + length ring - t + k ≡ length ring + (0 + length ring - t + k) = omega arith in
-        ap (λ i. i % length ring) turn ∙ add-mod_left (length ring) (0 + length ring - t + k)
+        let turn : length ring + i + length ring - t + k ≡ length ring + (i + length ring - t + k) = omega arith in
+        ap (λ n. n % length ring) turn ∙ add-mod_left (length ring) (i + length ring - t + k)
 
 -- the numbers from 0 on
-rising_ring : (m t n : ℕ) → 2 * t + 2 ≤ n → n ≤ m → IsRing m t (range_with_len 0 n)
+pub rising_ring : (m t n : ℕ) → 2 * t + 2 ≤ n → n ≤ m → IsRing m t (range_with_len 0 n)
 rising_ring m t n long short =
     let size = length-range_with_len 0 n in
     record {
@@ -57,7 +57,7 @@ need_three windows m t c channel long below differ = ⊎_elim (λ (few : c < 3).
         let two = λ (i : ℕ). let own = below (window_around ring t i) (windows m t t i ring is (omega arith)) in
         let lt : at' i < 2 = omega (arith, own, few) in lt in
         let next = λ (i : ℕ) (lt : i < n). differ ring i is (omega (arith, lt, size)) in
-        let last : 2 * suc t + 1 ≡ length ring = omega (arith, size) in
+        let last : 2 * suc t + 1 ≡ length ring + 0 = omega (arith, size) in
         let same = in_turn at' n (suc t) two next (omega arith) in
         differ ring (2 * suc t) is (omega (arith, size))
-        (same ∙ ap channel (sym (once_around ring t (omega (arith, size)))) ∙ ap at' (sym last))
+        (same ∙ ap channel (sym (further_around ring t 0 (omega (arith, size)))) ∙ ap at' (sym last))

@@ -13,7 +13,7 @@ use Rattle.channel_tables.specs.Tables.{ChannelTable, channel_of, windows_of}
 use Rattle.channel_tables.specs.declared.separation.Separation.{Separation}
 use Rattle.bad_tuples.specs.Apart.{extra, AreApart, IsApartEverywhere}
 use Rattle.bad_tuples.specs.Laws.{LessIsApart}
-use Rattle.lower_bound.specs.Laws.{IsFull, WindowsNeedChannels, TablesNeedChannels, OddRingsNeedThree, TablesNeedThree}
+use Rattle.lower_bound.specs.Laws.{IsFull, WindowsNeedChannels, TablesNeedChannels, OddRingsNeedThree, TablesNeedThree, DifferNearby, RingsNeedFour, FiveNeedFive, TablesNeedFour, TablesNeedFive}
 use Rattle.lower_bound.specs.Towers.{spread}
 
 -- channels that are apart by near have different quotients by near, and these are few
@@ -84,3 +84,28 @@ tables_need_three need of_number have less t s is near ids apart =
     (neighbours_differ less t s near (inr ids) apart) in
     let product = (le-div_iff_mul-le {k = s.near} {x = 3} {y = t.channels + s.near - 1} near).0 three in
     omega (arith, product, near)
+
+-- the channels of neighbours differ, and those at distance two
+nearby_differ : LessIsApart → (t : ChannelTable) (s : Separation) → 1 ≤ s.near → 1 ≤ s.far → 2 * t.rounds + 3 ≤ t.ids → IsApartEverywhere t s
+    → DifferNearby t.ids t.rounds (quotient_at t 1)
+nearby_differ less t s near far ids apart ring place own long within =
+    let both = less t s (record { near = 1; far = 1 }) near far (inr ids) apart ring place own (omega (arith, long)) within in
+    (quotients_apart 1 _ _ (omega arith) both.0, quotients_apart 1 _ _ (omega arith) both.1)
+
+-- all channels are apart by 1
+one_apart : (c n : ℕ) → n ≤ spread c 1 → n ≤ c
+one_apart c n few = omega arith
+
+pub tables_need_four : RingsNeedFour → WindowOfNumber → WindowsHaveNumbers → LessIsApart → TablesNeedFour
+tables_need_four need of_number have less t s n is near far long short no_multiple apart =
+    one_apart t.channels 4
+    (need t.ids t.rounds (spread t.channels 1) n (quotient_at t 1) long short no_multiple
+    (λ window own. channel_below of_number have t 1 window is (omega arith) own)
+    (nearby_differ less t s near far (omega (arith, long, short)) apart))
+
+pub tables_need_five : FiveNeedFive → WindowOfNumber → WindowsHaveNumbers → LessIsApart → TablesNeedFive
+tables_need_five need of_number have less t s is near far rounds ids apart =
+    one_apart t.channels 5
+    (need t.ids t.rounds (spread t.channels 1) (quotient_at t 1) rounds ids
+    (λ window own. channel_below of_number have t 1 window is (omega arith) own)
+    (nearby_differ less t s near far (omega (arith, rounds, ids)) apart))

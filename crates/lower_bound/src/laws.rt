@@ -34,3 +34,18 @@ pub fn odd_rings_need_three()
     windows_have_numbers();
     less_is_apart();
 }
+
+/// A ring whose number of nodes is no multiple of three needs four channels if those of places at
+/// distance one and two differ, and a ring of five nodes needs five. So does a table with far above
+/// 0 that has identifiers for such a ring.
+pub fn nearby_places_need_four()
+    ensures four { law.RingsNeedFour }
+    ensures five { law.FiveNeedFive }
+    ensures tables { law.TablesNeedFour }
+    ensures tables_five { law.TablesNeedFive }
+{
+    rings_have_windows();
+    window_of_number();
+    windows_have_numbers();
+    less_is_apart();
+}

@@ -4,5 +4,7 @@
 mod laws;
 mod least;
 
-pub use laws::{odd_rings_need_three, tables_need_channels, windows_need_channels};
+pub use laws::{
+    nearby_places_need_four, odd_rings_need_three, tables_need_channels, windows_need_channels,
+};
 pub use least::linial_bound;

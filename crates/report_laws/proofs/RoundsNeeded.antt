@@ -17,8 +17,8 @@ use Rattle.channel_tables.specs.Tables.{ChannelTable, channel_of}
 use Rattle.table_entries.specs.Laws.{TableHasTheChannelsOfRounds, TableHasTheChannelsOfWindows}
 use Rattle.table_entries.specs.ProgramTables.{table_of, window_channel}
 use Rattle.headline.specs.Laws.{ProgramTablesAreApart}
-use Rattle.lower_bound.specs.Laws.{IsFull, TablesNeedChannels, TablesNeedThree}
-use Rattle.report_laws.specs.Laws.{ChannelsAreBelow, RoundsNeedChannels, RoundsNeedThree}
+use Rattle.lower_bound.specs.Laws.{IsFull, TablesNeedChannels, TablesNeedThree, TablesNeedFour, TablesNeedFive}
+use Rattle.report_laws.specs.Laws.{ChannelsAreBelow, RoundsNeedChannels, RoundsNeedThree, RoundsNeedFour, RoundsNeedFive}
 
 -- a window that has not all identifiers lacks one
 missing : (k m : ℕ) (window : List ℕ) → k < m → IsWindow k m window → (x : ℕ) × IsWindow (suc k) m (window ++ x ∷ [])
@@ -73,3 +73,17 @@ pub rounds_need_three : TablesNeedThree → ProgramTablesAreApart → TableHasTh
 unfolding table_of of_program
 rounds_need_three need apart_tables of_rounds of_windows tuples p m c s long below near apart =
     need (of_program p m c) s (full_table of_rounds of_windows tuples p m c (omega (arith, long)) below) near long ((apart_tables p m s).1 apart)
+
+pub rounds_need_four : TablesNeedFour → ProgramTablesAreApart → TableHasTheChannelsOfRounds → TableHasTheChannelsOfWindows → TuplesAreRings
+    → RoundsNeedFour
+unfolding table_of of_program
+rounds_need_four need apart_tables of_rounds of_windows tuples p m c n s long short no_multiple below near far apart =
+    need (of_program p m c) s n (full_table of_rounds of_windows tuples p m c (omega (arith, long, short)) below) near far long short no_multiple
+    ((apart_tables p m s).1 apart)
+
+pub rounds_need_five : TablesNeedFive → ProgramTablesAreApart → TableHasTheChannelsOfRounds → TableHasTheChannelsOfWindows → TuplesAreRings
+    → RoundsNeedFive
+unfolding table_of of_program
+rounds_need_five need apart_tables of_rounds of_windows tuples p m c s rounds ids below near far apart =
+    need (of_program p m c) s (full_table of_rounds of_windows tuples p m c (omega (arith, rounds, ids)) below) near far rounds ids
+    ((apart_tables p m s).1 apart)

@@ -1,6 +1,6 @@
 -- The laws: a task has one report on an input, reports agree with global rounds, and prints and table texts are read
 -- back.
-use Rattle.std.specs.Prelude.{◌≡◌, ◌↔◌, ◌⊎◌, ℕ, ◌+◌, ◌*◌, ◌<◌, ◌≤◌, List, [], ◌∷◌, ◌++◌, Vec, Some, ⊤, length, codes}
+use Rattle.std.specs.Prelude.{◌≡◌, ◌≢◌, ◌↔◌, ◌⊎◌, ℕ, ◌+◌, ◌*◌, ◌%◌, ◌<◌, ◌≤◌, List, [], ◌∷◌, ◌++◌, Vec, Some, ⊤, length, codes}
 use Rattle.std.specs.declared.alloc.Global.{Global}
 use Rattle.node_program.specs.Term.{ProgramTree}
 use Rattle.node_lang.specs.Grammar.{Reads}
@@ -254,3 +254,15 @@ abbrev pub ProgramsNeedThree : Type 0
 ProgramsNeedThree =
     (ids : ℕ) (s : Separation) (text : List ℕ) (p : ProgramTree) → IsAcceptedText text ids p → 1 ≤ s.near → 2 * length p.steps + 3 ≤ ids
     → p.channels ≤ 2 * s.near → Fails ids s text p
+
+-- with far above 0 they are four or more if a ring can have a number of nodes that is no multiple of three
+abbrev pub RoundsNeedFour : Type 0
+RoundsNeedFour =
+    (p : ProgramTree) (m c n : ℕ) (s : Separation) → 2 * length p.steps + 3 ≤ n → n ≤ m → n % 3 ≢ 0 → ChannelsAreBelow p m c → 1 ≤ s.near → 1 ≤ s.far
+    → ChannelsAreApart p m s → 4 ≤ c
+
+-- and five or more if a ring can have five nodes
+abbrev pub RoundsNeedFive : Type 0
+RoundsNeedFive =
+    (p : ProgramTree) (m c : ℕ) (s : Separation) → length p.steps ≤ 1 → 5 ≤ m → ChannelsAreBelow p m c → 1 ≤ s.near → 1 ≤ s.far → ChannelsAreApart p m s
+    → 5 ≤ c

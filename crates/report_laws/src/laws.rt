@@ -6,7 +6,7 @@ ghost use Rattle.report_laws.specs.Laws as law;
 use bad_tuples::{less_is_apart, one_witness, tuples_suffice};
 use headline::program_tables_are_apart;
 use lang_check::one_refusal;
-use lower_bound::{odd_rings_need_three, tables_need_channels};
+use lower_bound::{nearby_places_need_four, odd_rings_need_three, tables_need_channels};
 use node_lang::{first_fault, one_reading, one_text_fault, printed_is_read_back, reading_is_exact};
 use refutation::{each_text_has_a_verdict, one_refutation_verdict, refutations_are_sound};
 use table_entries::{
@@ -155,6 +155,19 @@ pub fn programs_need_three()
     tuples_suffice();
     number_of_window();
     windows_have_numbers();
+}
+
+/// If far is above 0, a program needs four channels if a ring can have a number of nodes that is no
+/// multiple of three, and five if a ring can have five nodes, whatever it computes.
+pub fn programs_need_four()
+    ensures four { law.RoundsNeedFour }
+    ensures five { law.RoundsNeedFive }
+{
+    nearby_places_need_four();
+    table_has_the_channels_of_rounds();
+    table_has_the_channels_of_windows();
+    tuples_are_rings();
+    program_tables_are_apart();
 }
 
 /// The note on a list that is no ring, on a place that a ring has not, on a number of segments, on
