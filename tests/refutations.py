@@ -2,6 +2,8 @@
 those of examples/least: a row has the words, the input, the standard output and the exit status."""
 
 import re
+from functools import cache
+from itertools import permutations
 from math import perm
 from pathlib import Path
 from random import Random
@@ -13,6 +15,7 @@ COUNT = 500
 MAX_BYTES = 1 << 27
 NUMBER, LITERAL = re.compile(rb"[0-9]+"), re.compile(rb"-?[0-9]+")
 FORM, NOT_ASCENDING, UNKNOWN_VARIABLE, UNKNOWN_HINT, NOT_UNIT, NO_CONFLICT, NO_EMPTY_CLAUSE = "L2", "L3", "L4", "L5", "L6", "L7", "L8"
+NO_EXCHANGE = "L9"
 
 # Identifiers, rounds, channels, near and far of problems without a table.
 PROBLEMS = [
@@ -61,7 +64,7 @@ def listed(words, value):
 
 
 def read(line):
-    """The step of a line: `None` for a comment, the numbers of a deletion, or an addition's number, clause and hints."""
+    """The step of a line: `None` for a comment, the numbers of a deletion, or an addition's number, exchange, clause and hints."""
     if not line or line.startswith(b"c"):
         return None
     first, *words = line.split(b" ")
@@ -70,12 +73,57 @@ def read(line):
         numbers, rest = listed(words[1:], number)
         step = (numbers,)
     else:
+        exchange, words = exchange_in(words)
         clause, words = listed(words, literal)
         hints, rest = listed(words, number)
-        step = (first, clause, hints)
+        step = (first, exchange, clause, hints)
     if rest:
         raise Fault(FORM)
     return step
+
+
+def exchange_in(words):
+    """The exchange at the start of these words, `None` if there is none, and the words after it."""
+    if words[:1] == [b"m"]:
+        return (b"m",), words[1:]
+    if words[:1] in ([b"i"], [b"c"]):
+        if len(words) < 3:
+            raise Fault(FORM)
+        return (words[0], number(words[1]), number(words[2])), words[3:]
+    return None, words
+
+
+def is_allowed(problem, exchange):
+    """Whether the tables that solve a problem do so after an exchange."""
+    ids, _, channels, near, far = problem
+    if exchange[0] == b"i":
+        return max(exchange[1:]) < ids
+    return exchange[0] == b"m" or max(exchange[1:]) < channels and near <= 1 and far <= 1
+
+
+@cache
+def windows(ids, rounds):
+    """The windows in order, and their numbers."""
+    listed = [*permutations(range(ids), 2 * rounds + 1)]
+    return listed, {window: number for number, window in enumerate(listed)}
+
+
+def exchanged(problem, exchange, literal):
+    """What a literal becomes by an exchange."""
+    ids, rounds, channels, *_ = problem
+    letter, *two = exchange
+    window, channel = divmod(abs(literal) - 1, channels)
+
+    def other(it):
+        return sum(two) - it if it in two else it
+
+    if letter == b"i":
+        listed, numbers = windows(ids, rounds)
+        window = numbers[tuple(map(other, listed[window]))]
+    else:
+        channel = channels - 1 - channel if letter == b"m" else other(channel)
+    variable = window * channels + channel + 1
+    return variable if literal > 0 else -variable
 
 
 def follow(clauses, clause, hints):
@@ -105,12 +153,14 @@ def first_fault(problem, text):
                 for it in step[0]:
                     clauses.pop(it, None)
             elif step:
-                name, clause, hints = step
+                name, exchange, clause, hints = step
                 if name <= newest:
                     raise Fault(NOT_ASCENDING)
                 if any(abs(it) > variables for it in clause):
                     raise Fault(UNKNOWN_VARIABLE)
-                follow(clauses, clause, hints)
+                if exchange and not is_allowed(problem, exchange):
+                    raise Fault(NO_EXCHANGE)
+                follow(clauses, [exchanged(problem, exchange, it) for it in clause] if exchange else clause, hints)
                 if not clause:
                     return None
                 clauses[name], newest = clause, name
@@ -187,8 +237,16 @@ def written(word, numbers):
     return f"{word:09}" if isinstance(word, int) and numbers.random() < 0.002 else str(word)
 
 
-def refutation(problem, numbers):
-    """The text of a refutation: numbers with gaps, deletions, comments and leading zeros here and there."""
+def any_exchange(problem, numbers):
+    """An exchange that tables of a problem allow."""
+    ids, _, channels, near, far = problem
+    letter = numbers.choice([b"i", b"m", b"c"] if near <= 1 and far <= 1 else [b"i", b"m"])
+    return (letter, *(numbers.randrange(ids if letter == b"i" else channels) for _ in range(0 if letter == b"m" else 2)))
+
+
+def refutation(problem, numbers, has_exchanges=False):
+    """The text of a refutation: numbers with gaps, deletions, comments and leading zeros here and there. With exchanges some steps add
+    what a clause becomes by an exchange, and from that the clause."""
     steps = Search(problem, numbers).steps
     last_uses = {hint: name for name, _, hints in steps for hint in hints}
     count = formulas.size(*problem)[1]
@@ -196,7 +254,16 @@ def refutation(problem, numbers):
     for name, clause, hints in steps:
         newest += numbers.choice([1, 1, 1, 2, 10])
         names[name] = newest
-        lines.append([newest, *clause, 0, *(names.get(it, it) for it in hints), 0])
+        reasons, words = [names.get(it, it) for it in hints], []
+        if has_exchanges and numbers.random() < 0.4:
+            exchange = any_exchange(problem, numbers)
+            words = [exchange[0].decode(), *exchange[1:]]
+            lines.append([newest, *words, *(exchanged(problem, exchange, it) for it in clause), 0, *reasons, 0])
+            reasons = [newest]
+            newest += 1
+            names[name] = newest
+        if clause or not words:
+            lines.append([newest, *words, *clause, 0, *reasons, 0])
         done = [names.get(hint, hint) for hint in hints if last_uses[hint] == name]
         if done and numbers.random() < 0.3:
             lines.append([newest, "d", *done, 0])
@@ -260,12 +327,20 @@ def deletion_put_in(text, numbers):
 
 def byte_put_in(text, numbers):
     place = numbers.randrange(len(text) + 1)
-    return text[:place] + bytes([numbers.choice(b"0123456789 -+dc\n\r\t\0\xff")]) + text[place:]
+    return text[:place] + bytes([numbers.choice(b"0123456789 -+dcim\n\r\t\0\xff")]) + text[place:]
 
 
 def sign_changed(text, numbers):
     place = numbers.choice([it.start() for it in re.finditer(rb"-?[0-9]+", text)])
     return text[:place] + (text[place + 1 :] if text[place : place + 1] == b"-" else b"-" + text[place:])
+
+
+def other_letter(text, numbers):
+    places = [it.start() for it in re.finditer(rb"(?<= )[icm](?= )", text)]
+    if not places:
+        return byte_put_in(text, numbers)
+    place = numbers.choice(places)
+    return text[:place] + bytes([numbers.choice(b"icmd")]) + text[place + 1 :]
 
 
 DAMAGES = [
@@ -280,6 +355,7 @@ DAMAGES = [
     byte_put_in,
     sign_changed,
 ]
+EXCHANGE_DAMAGES = [other_letter, *DAMAGES[1:]]
 
 # Texts for a problem with 15 clauses and 6 variables. The first clauses are 1 2, 3 4 and 5 6, and the fourth is -1 -3.
 SMALL = (3, 0, 2, 1, 0)
@@ -364,6 +440,47 @@ TEXTS = [
     "16 1 2 0 1 0\n15 1 2 0 1 0",
     "20 1 2 0 1 0\n18 1 2 0 1 0",
     "20 1 2 0 1 0\n21 1 2 0 20 0\n22 1 2 0 19 0",
+    "16 i 0 1 3 4 0 1 0",
+    "16 i 1 0 3 4 0 1 0",
+    "16 i 0 1 4 3 0 01 0",
+    "16 i 0 2 3 4 0 1 0",
+    "16 i 2 2 3 4 0 2 0",
+    "16 i 0 1 -3 -5 0 4 0",
+    "16 i 0 1 3 4 0 2 0",
+    "16 i 0 1 3 4 0 0",
+    "16 i 0 1 3 4 0 99 0",
+    "16 i 0 1 3 4 0 1 1 0",
+    "16 i 0 3 3 4 0 1 0",
+    "16 i 3 0 3 4 0 1 0",
+    "16 i 0 18446744073709551615 3 4 0 1 0",
+    "16 i 0 18446744073709551616 3 4 0 1 0",
+    "16 i 0 1 7 0 1 0",
+    "16 i 0 3 7 0 1 0",
+    "15 i 0 3 7 0 1 0",
+    "16 i",
+    "16 i 0",
+    "16 i 0 1",
+    "16 i 0 1 0",
+    "16 i 0 1 3 4 0 1",
+    "16 i 0 1 3 4 0 1 0 0",
+    "16 i -0 1 3 4 0 1 0",
+    "16 i  0 1 3 4 0 1 0",
+    "16 ii 0 1 3 4 0 1 0",
+    "16 I 0 1 3 4 0 1 0",
+    "i 0 1 3 4 0 1 0",
+    "16 i 0 1 0 0",
+    "16 c 0 1 2 1 0 1 0",
+    "16 c 1 1 1 2 0 1 0",
+    "16 c 0 2 2 1 0 1 0",
+    "16 c 0 2 7 1 0 1 0",
+    "16 c 0 1 -2 -4 0 4 0",
+    "16 c 0 1 -1 -3 0 4 0",
+    "16 m 2 1 0 1 0",
+    "16 m -2 -4 0 4 0",
+    "16 m -1 -3 0 4 0",
+    "16 m 0 1 2 1 0 1 0",
+    "16 m 0 0",
+    "16 m",
 ]
 
 
@@ -405,11 +522,12 @@ def rows():
         yield f"refute {formulas.words(*SMALL)}", text, *report(SMALL, text)
     for text, line in [(MAX_BYTES * b" ", "refutation fault L2 line 1\n"), (MAX_BYTES * b" " + b" ", "refutation fault L1\n")]:
         yield f"refute {formulas.words(*SMALL)}", text, line, 3
-    numbers = Random(20261127)
-    for turn in range(COUNT):
-        problem = PROBLEMS[turn % len(PROBLEMS)]
-        line, right = f"refute {formulas.words(*problem)}", refutation(problem, numbers)
-        yield line, right, refuted(*problem), 0
-        for damage in DAMAGES:
-            text = damage(right, numbers)
-            yield line, text, *report(problem, text)
+    for has_exchanges, damages in [(False, DAMAGES), (True, EXCHANGE_DAMAGES)]:
+        numbers = Random(20261127)
+        for turn in range(COUNT):
+            problem = PROBLEMS[turn % len(PROBLEMS)]
+            line, right = f"refute {formulas.words(*problem)}", refutation(problem, numbers, has_exchanges)
+            yield line, right, refuted(*problem), 0
+            for damage in damages:
+                text = damage(right, numbers)
+                yield line, text, *report(problem, text)
