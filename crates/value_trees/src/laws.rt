@@ -14,8 +14,8 @@ pub fn roots_are_traced()
     ensures finish { law.FinishIsChannel }
 {}
 
-/// An explanation shows them: in the first line of each tree, each register as a trace does, each
-/// message, and the channel as a run does.
+/// An explanation shows them: below each heading the tree of an expression, and in the tree's first
+/// line the register as a trace does, the message, or the channel as a run does.
 pub fn explanations_show_traces()
     ensures { law.ExplanationsShowTraces }
 {}
