@@ -18,7 +18,8 @@ pub fn solutions_satisfy()
     number_of_window();
 }
 
-/// Values of the variables that make all clauses hold describe a table that is asked for.
+/// Values of the variables that make all clauses hold describe a table that is asked for, if the
+/// shape and the number of channels are within the limits of tables.
 pub fn models_give_solutions()
     ensures { law.ModelsGiveSolutions }
 {
@@ -30,7 +31,8 @@ pub fn models_give_solutions()
     window_of_number();
 }
 
-/// There is no table that is asked for exactly if no values make all clauses hold.
+/// There is no table that is asked for exactly if no values make all clauses hold, within the same
+/// limits.
 pub fn formula_is_exact()
     ensures { law.FormulaIsExact }
 {
@@ -48,7 +50,8 @@ pub fn formula_text_is_read()
     window_of_number();
 }
 
-/// An exchange makes of each table that is asked for another one.
+/// An exchange makes of each table that is asked for another one, in which each literal says after
+/// the exchange what it said before.
 pub fn exchanges_keep_solutions()
     ensures { law.ExchangesKeepSolutions }
 {
