@@ -89,7 +89,7 @@ impl<'c, 'p> BlockMaker<'c, 'p> {
     }
 }
 
-ghost use Rattle.std.specs.Prelude.{◌≡◌, ◌<◌, vec_len, IfOk};
+ghost use Rattle.std.specs.Prelude.{◌≡◌, ◌<◌, ◌≤◌, vec_len, IfOk};
 ghost use Rattle.window_states.specs.BlockStates.{IsKey};
 ghost use Rattle.unroll.specs.MakeFaults.{AskedFor, IsMade};
 
@@ -136,7 +136,8 @@ fn zero_lists(alloc: Global, cells: usize, sent: usize) -> Result<BlockLists, Ou
 
 // Returns the number of messages that a block of a level holds; 0 on the last level.
 fn sent_len(shape: Shape, level: u32) -> usize
-    ensures { level < shape.rounds → result ≡ BLOCK_WINDOWS }
+    ensures below { level < shape.rounds → result ≡ BLOCK_WINDOWS }
+    ensures last { shape.rounds ≤ level → result ≡ 0 }
 {
     if level < shape.rounds() {
         BLOCK_WINDOWS as usize
