@@ -166,9 +166,9 @@ pub(crate) fn write_states<'s, S: Source<'s>>(
     requires ready { IsReady code.now scratch.old }
     ensures asked { AskedFor level S.plan S.fixed S.entries source.old source.new }
     ensures ready { IsReady code.now scratch.new }
-    ensures made { OnOk result ((take (block_len code.now.ids level number) scratch.new.made.states
-        ≡ first_states code.now level number (block_len code.now.ids level number))
-        × KnowsAllBelow (S.entries source.new) code.now.ids level number) }
+    ensures states { OnOk result (take (block_len code.now.ids level number) scratch.new.made.states
+        ≡ first_states code.now level number (block_len code.now.ids level number)) }
+    ensures known { OnOk result (KnowsAllBelow (S.entries source.new) code.now.ids level number) }
     ensures missing { IfErr result (IsMissingBelow (S.entries source.new) code.now.ids level number) }
 {
     states_from_parts();

@@ -92,8 +92,8 @@ fn first_part<'s, S: Source<'s>>(
     requires here { IsWindowIn upper index }
     requires given { IfSome given (IsFirstPart upper.plan.now (S.entries source.old) upper.below) }
     ensures asked { Asked S.plan S.fixed S.entries source.old source.new }
-    ensures first { IfOk result (λ first. (slice_get (windows (2 * upper.entry.below + 1) upper.entry.plan.now.ids) first.number ≡ Some (part (window_in upper.entry index) upper.entry.below 0))
-        × IsFirstPart upper.entry.plan.now (S.entries source.new) upper.entry.below first) }
+    ensures number { IfOk result (λ first. slice_get (windows (2 * upper.entry.below + 1) upper.entry.plan.now.ids) first.number ≡ Some (part (window_in upper.entry index) upper.entry.below 0)) }
+    ensures first { IfOk result (IsFirstPart upper.entry.plan.now (S.entries source.new) upper.entry.below) }
     ensures missing { IfErr result (IsMissingBelow (S.entries source.new) upper.entry.plan.now.ids (upper.entry.below + 1) upper.entry.number) }
 {
     let shape = upper.plan.shape();

@@ -16,21 +16,35 @@ abbrev len_in : UpperBlock → ℕ
 len_in block = block_len block.plan.now.ids (block.below + 1) block.number
 
 -- Above it the parts of all windows are known.
-upper_states :
-    (g : Over) (c : In_ok-gather g) (made : List (List ℕ)) → let upper = c.new-upper.result in
-    take (len_in upper) made ≡ first_states upper.plan.now (upper.below + 1) upper.number (len_in upper)
-    → (take (block_len c.args.code.now.ids c.args.level c.args.number) made
-    ≡ first_states c.args.code.now c.args.level c.args.number (block_len c.args.code.now.ids c.args.level c.args.number))
-    × KnowsAllBelow (g.S.Source.entries c.gather.new.source) c.args.code.now.ids c.args.level c.args.number
-upper_states g c made states =
-    let block = c.new-upper.ensures in
-    let above : c.new-upper.result.below + 1 ≡ c.args.level = omega (arith, block.below, c.if-level-eq0.false) in
-    let plan = block.plan ∙ c.plan-plan.ensures in
-    rw (← above, ← block.number, ← plan) (states, knows_all_below _ _ _ _ c.in_ok-gather.ensures.gathered.known)
+module _ (g : Over) (c : In_ok-gather g) where
+  above : c.new-upper.result.below + 1 ≡ c.args.level
+  above = omega (arith, c.new-upper.ensures.below, c.if-level-eq0.false)
 
-pub returns-then-upper-clause-made : goal.returns-then-upper-clause-made
-returns-then-upper-clause-made g c =
-    let d = (goal.at.returns-then-upper-clause-made g c).In_ok-gather in
+  upper_states :
+      (made : List (List ℕ)) → let upper = c.new-upper.result in
+      take (len_in upper) made ≡ first_states upper.plan.now (upper.below + 1) upper.number (len_in upper)
+      → take (block_len c.args.code.now.ids c.args.level c.args.number) made
+      ≡ first_states c.args.code.now c.args.level c.args.number (block_len c.args.code.now.ids c.args.level c.args.number)
+  upper_states made states =
+      let block = c.new-upper.ensures in
+      let plan = block.plan ∙ c.plan-plan.ensures in
+      rw (← above, ← block.number, ← plan) states
+
+  all_known : KnowsAllBelow (g.S.Source.entries c.gather.new.source) c.args.code.now.ids c.args.level c.args.number
+  all_known =
+      let block = c.new-upper.ensures in
+      let plan = block.plan ∙ c.plan-plan.ensures in
+      rw (← above, ← block.number, ← plan) (knows_all_below _ _ _ _ c.in_ok-gather.ensures.gathered.known)
+
+pub returns-then-upper-clause-known : goal.returns-then-upper-clause-known
+returns-then-upper-clause-known g c = all_known g (goal.at.returns-then-upper-clause-known g c).In_ok-gather
+
+pub returns-clause-known : goal.returns-clause-known
+returns-clause-known g c = all_known g (goal.at.returns-clause-known g c).In_ok-gather
+
+pub returns-then-upper-clause-states : goal.returns-then-upper-clause-states
+returns-then-upper-clause-states g c =
+    let d = (goal.at.returns-then-upper-clause-states g c).In_ok-gather in
     let upper = c.new-upper.result in
     let gathered = c.in_ok-gather.ensures.gathered in
     let made = c.gather.new.scratch.made.states in
@@ -38,9 +52,9 @@ returns-then-upper-clause-made g c =
     (take_states (len_in upper) made (state_in upper)
     (omega (arith, c.in_ok-gather.ensures.ready.made_wide.0)) (gathered.fronts.states c.if-upper.true))
 
-pub returns-clause-made : goal.returns-clause-made
-returns-clause-made g c =
-    let d = (goal.at.returns-clause-made g c).In_ok-gather in
+pub returns-clause-states : goal.returns-clause-states
+returns-clause-states g c =
+    let d = (goal.at.returns-clause-states g c).In_ok-gather in
     let upper = c.new-upper.result in
     let gathered = c.in_ok-gather.ensures.gathered in
     let ready = c.in_ok-gather.ensures.ready in

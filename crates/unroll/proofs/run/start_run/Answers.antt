@@ -32,8 +32,8 @@ returns-clause-run g c =
     record {
       start_is = rw (c.shape-shape.ensures.ids, rest_of_prefix low w) at (c.last_run_start.ensures (take (2 * low + 2) w) (rw c.shape-shape.ensures.ids here.has));
       places_are = rw c.shape-shape.ensures.ids at (c.prefix_places.ensures w (rw c.shape-shape.ensures.ids here.is.window) (rw c.shape-shape.ensures.ids here.has));
-      first_number = c.in_ok-first.ensures.first.0;
-      first_is = first_grows plan (entries c.first_part.new.source) (entries c.part_block.new.source) low c.in_ok-middle.ensures.asked.grows c.in_ok-first.first c.in_ok-first.ensures.first.1;
+      first_number = c.in_ok-first.ensures.number;
+      first_is = first_grows plan (entries c.first_part.new.source) (entries c.part_block.new.source) low c.in_ok-middle.ensures.asked.grows c.in_ok-first.first c.in_ok-first.ensures.first;
       middle_is = own_entry plan (entries c.part_block.new.source) low _ block holds.block;
       own_is = state.value ∙ state_held plan (entries c.part_block.new.source) low c.args.prefix.middle c.in_ok-middle.at block (part w low 1) holds at';
       own_cells = state.cells;
