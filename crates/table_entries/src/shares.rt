@@ -40,9 +40,8 @@ pub(crate) fn shares_of(
 // Returns the number of blocks from `first` up to `end`, or of all blocks for the first share.
 fn held_blocks(first: usize, end: usize, blocks: usize) -> usize
     requires { (first ≤ end) × (end ≤ blocks) }
-    ensures own { end - first ≤ result }
-    ensures all { first ≡ 0 → blocks ≤ result }
-    ensures within { result ≤ blocks }
+    ensures first { first ≡ 0 → result ≡ blocks }
+    ensures others { 0 < first → result ≡ end - first }
 {
     if first == 0 { blocks } else { end - first }
 }
