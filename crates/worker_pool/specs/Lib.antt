@@ -1,5 +1,4 @@
--- The definitions that the contracts cite: the number of workers, and their faults; and what private contracts say of
--- their outcomes.
+-- The definitions that the contracts cite: the number of workers, their faults, and what they come to.
 pub mod Workers
 pub mod Faults
 pub mod Outcomes

@@ -1,6 +1,9 @@
--- The outcomes of workers. No public contract cites this file.
+-- The outcomes of workers, one by one and together.
 use Rattle.std.specs.Prelude.{◌≡◌, ℕ, ◌<◌, List, Result, Ok, Err, IsOk, All, Contains, length}
 use Rattle.round_eval.specs.declared.fault.WorkFault.{WorkFault}
+use Rattle.round_eval.specs.declared.fault.WorkFault.TheVariants.{OutOfMemory, Stranger}
+use Rattle.round_eval.specs.declared.fault.ThreadFault.{ThreadFault}
+use Rattle.round_eval.specs.declared.fault.ThreadFault.TheVariants.{Work, NoThread}
 use Rattle.worker_pool.specs.declared.jobs.Outcome.{Outcome}
 use Rattle.shared_memo.specs.Tickets.{worker_of, AreNumbered}
 
@@ -23,3 +26,14 @@ pub record IsLowest (outcomes : List Outcome) (fault : WorkFault) (outcome : Out
 abbrev pub IsLowestFault : List Outcome → Result (Unit {0}) WorkFault → Type 0
 IsLowestFault outcomes (Ok done) = All (λ outcome. IsOk outcome.answer) outcomes
 IsLowestFault outcomes (Err fault) = (outcome : Outcome) × IsLowest outcomes fault outcome
+
+-- so many workers came to this: the fault of the lowest one that has one, or that none has one
+abbrev pub CameTo : ℕ → Result (Unit {0}) WorkFault → Type 0
+CameTo workers answer = (outcomes : List Outcome) × AreOutcomes workers outcomes × IsLowestFault outcomes answer
+
+-- why so many workers did not fill their jobs: the start of a thread was refused, which one worker does not need; memory
+-- was refused; or workers came to a stranger
+abbrev pub IsFaultOf : ℕ → ThreadFault → Type 0
+IsFaultOf workers NoThread = 1 < workers
+IsFaultOf workers (Work OutOfMemory) = Unit {0}
+IsFaultOf workers (Work Stranger) = CameTo workers (Err Stranger)

@@ -1,10 +1,9 @@
 //! A pool of workers, on threads of their own.
 
-ghost use Rattle.std.specs.Prelude.{◌≡◌, ◌<◌, ◌≤◌, ◌↔◌, IfOk, IfErr, IfSome, MatchOption, IsTrue, vec_len};
+ghost use Rattle.std.specs.Prelude.{◌≡◌, ◌<◌, ◌≤◌, ◌↔◌, Ok, Err, IsOk, IfOk, IfSome, MatchOption, MatchResult, IsTrue, vec_len};
 ghost use Rattle.shared_memo.specs.Tickets.{worker_of, numbers_of, IsFreshTicketOf, AreFreshTickets, AreNumbered};
-ghost use Rattle.round_eval.specs.declared.fault.ThreadFault.TheVariants.{NoThread};
 ghost use Rattle.worker_pool.specs.Workers.{HasRoom, IsWorkerCount};
-ghost use Rattle.worker_pool.specs.Outcomes.{outcome_worker, AreOutcomes, IsLowestFault};
+ghost use Rattle.worker_pool.specs.Outcomes.{outcome_worker, AreOutcomes, IsLowestFault, CameTo, IsFaultOf};
 
 use crate::jobs::{Jobs, Outcome};
 use round_eval::{Gate, ThreadFault, WorkFault};
@@ -27,7 +26,7 @@ type Handle = PromisedHandle<Outcome, OutcomeOf>;
 
 /// Fills jobs with `workers` workers, 1 to `MAX_THREADS`, that draw them at one desk. A single
 /// worker runs on the calling thread, and what it knows then is returned; several run on a thread
-/// each.
+/// each. No worker has a fault then, and each was told that all jobs are drawn.
 ///
 /// Fails with `NoThread` if the start of a thread was refused, else with the fault of the lowest
 /// worker that has one. All workers that were started have ended before the call returns. Memory of
@@ -42,15 +41,18 @@ pub fn fill_by_workers<R: Threads + Wait + Sync, J: Jobs + Sync, G: Gate + Sync>
     requires { IsWorkerCount workers }
     ensures one { IfOk result (λ known. MatchOption known (1 < workers) (λ _. workers ≡ 1)) }
     ensures known { IfOk result (λ known. IfSome known (J.IsKnown jobs.now)) }
-    ensures alone { IfErr result (λ fault. fault ≡ NoThread → 1 < workers) }
+    ensures ended { MatchResult result (λ _. CameTo workers (Ok tt)) (IsFaultOf workers) }
 {
     let (desk, mut tickets) = Desk::new(alloc, jobs.count(), workers)?;
     if workers > 1 {
+        let room = Room::new(alloc, workers)?;
         let draws = Draws {
             desk: &desk,
             tickets,
         };
-        let outcomes = run_all(rt, alloc, jobs, draws, gate)?;
+        let Some(outcomes) = run_all(rt, alloc, jobs, draws, room, gate) else {
+            return Err(ThreadFault::NoThread);
+        };
         lowest_fault(&outcomes)?;
         return Ok(None);
     }
@@ -58,6 +60,24 @@ pub fn fill_by_workers<R: Threads + Wait + Sync, J: Jobs + Sync, G: Gate + Sync>
         unreachable!()
     };
     Ok(Some(jobs.fill(alloc, &desk, &mut ticket, gate)?))
+}
+
+// Empty lists with capacity for the threads of workers and for their outcomes.
+#[derive(Drop)]
+struct Room {
+    handles: Vec<Handle>,
+    outcomes: Vec<Outcome>,
+}
+
+impl Room {
+    // Allocates room for this many workers.
+    fn new(alloc: Global, workers: u32) -> Result<Room, AllocError>
+        ensures { IfOk result (λ room. HasRoom workers room.handles × HasRoom workers room.outcomes) }
+    {
+        let handles = Vec::with_capacity(alloc, workers as usize)?;
+        let outcomes = Vec::with_capacity(alloc, workers as usize)?;
+        Ok(Room { handles, outcomes })
+    }
 }
 
 // A desk, and tickets of it that have drawn nothing, one for each worker.
@@ -68,76 +88,83 @@ struct Draws<'d> {
 }
 
 // Runs a worker for each ticket on a thread of its own, until all have ended. Returns what they came
-// to, or that memory or the start of a thread was refused.
+// to, or `None` if the start of a thread was refused.
 fn run_all<R: Threads + Wait + Sync, J: Jobs + Sync, G: Gate + Sync>(
     rt: &R,
     alloc: Global,
     jobs: &J,
     draws: Draws<'_>,
+    room: Room,
     gate: &G,
-) -> Result<Vec<Outcome>, ThreadFault>
+) -> Option<Vec<Outcome>>
     requires tickets { AreFreshTickets draws.desk.now draws.tickets.items }
     requires jobs { numbers_of draws.desk.now ≡ J.jobs jobs.now }
-    ensures outcomes { IfOk result (λ outcomes. AreOutcomes (vec_len draws.entry.tickets) outcomes.items) }
+    requires room { HasRoom (vec_len draws.tickets) room.handles × HasRoom (vec_len draws.tickets) room.outcomes }
+    ensures { IfSome result (λ outcomes. AreOutcomes (vec_len draws.entry.tickets) outcomes.items) }
 {
     let Draws { desk, tickets } = draws;
-    let outcomes: Vec<Outcome> = Vec::with_capacity(alloc, tickets.len())?;
+    let Room { handles, outcomes } = room;
     thread::scope(
         thread::scope_env(),
         rt,
-        |scope| -> Result<Vec<Outcome>, ThreadFault>
+        |scope| -> Option<Vec<Outcome>>
             requires tickets { AreFreshTickets desk.now tickets.items }
             requires jobs { numbers_of desk.now ≡ J.jobs jobs.now }
+            requires handles { HasRoom (vec_len tickets) handles }
             requires outcomes { HasRoom (vec_len tickets) outcomes }
-            ensures { IfOk result (λ outcomes. AreOutcomes (vec_len tickets) outcomes.items) }
+            ensures { IfSome result (λ outcomes. AreOutcomes (vec_len tickets) outcomes.items) }
         {
             let draws = Draws { desk, tickets };
-            let (handles, all_started) = start_all(scope, alloc, jobs, draws, gate)?;
+            let (handles, all_started) = start_all(scope, alloc, jobs, draws, handles, gate);
             let outcomes = join_all(rt, handles, outcomes);
-            if all_started {
-                Ok(outcomes)
-            } else {
-                Err(ThreadFault::NoThread)
-            }
+            if all_started { Some(outcomes) } else { None }
         },
     )
 }
 
-// Starts a worker for each ticket, in their order, until a start is refused. Returns their threads,
-// and whether all were started. Memory is allocated before the first start.
+// Starts a worker for each ticket, in their order, until a start is refused. Returns their threads
+// in `handles`, and whether all were started.
 fn start_all<'s, 'd: 's, E, J: Jobs + Sync + 's, G: Gate + Sync + 's>(
     scope: &Scope<'s, E>,
     alloc: Global,
     jobs: &'d J,
     draws: Draws<'d>,
+    mut handles: Vec<Handle>,
     gate: &'d G,
-) -> Result<(Vec<Handle>, bool), AllocError>
+) -> (Vec<Handle>, bool)
     requires tickets { AreFreshTickets draws.desk.now draws.tickets.items }
     requires jobs { numbers_of draws.desk.now ≡ J.jobs jobs.now }
-    ensures workers { IfOk result (λ r. AreNumbered r.0.items (λ handle. handle.promise.0)) }
-    ensures few { IfOk result (λ r. vec_len r.0 ≤ vec_len draws.entry.tickets) }
-    ensures all { IfOk result (λ r. IsTrue r.1 ↔ (vec_len r.0 ≡ vec_len draws.entry.tickets)) }
+    requires handles { HasRoom (vec_len draws.tickets) handles }
+    ensures workers { AreNumbered result.0.items (λ handle. handle.promise.0) }
+    ensures few { vec_len result.0 ≤ vec_len draws.entry.tickets }
+    ensures all { IsTrue result.1 ↔ (vec_len result.0 ≡ vec_len draws.entry.tickets) }
 {
     let Draws { desk, tickets } = draws;
-    let mut handles: Vec<Handle> = Vec::with_capacity(alloc, tickets.len())?;
     for ticket in tickets {
         let promise = OutcomeOf(ticket.worker());
         let worker = move || -> Outcome
             requires { IsFreshTicketOf desk.now ticket × (numbers_of desk.now ≡ J.jobs jobs.now) }
         {
             let mut ticket = ticket;
-            let answer = match jobs.fill(alloc, desk, &mut ticket, gate) {
-                Ok(_known) => Ok(()),
-                Err(fault) => Err(fault),
-            };
+            let answer = answer_of(jobs.fill(alloc, desk, &mut ticket, gate));
             Outcome { ticket, answer }
         };
         let Ok(handle) = scope.spawn_with(promise, worker) else {
-            return Ok((handles, false));
+            return (handles, false);
         };
         handles.push_reserved(handle);
     }
-    Ok((handles, true))
+    (handles, true)
+}
+
+// Returns the fault of a worker, if it has one, without what it knows.
+fn answer_of<K: Drop>(filled: Result<K, WorkFault>) -> Result<(), WorkFault>
+    ensures { MatchResult filled (λ _. IsOk result) (λ fault. result ≡ Err fault) }
+{
+    match filled {
+        Ok(_known) => Ok(()),
+        Err(fault) => Err(fault),
+    }
 }
 
 // Joins the threads in order, and appends what their workers came to.
