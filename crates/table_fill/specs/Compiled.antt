@@ -1,5 +1,5 @@
--- What a compilation returns.
-use Rattle.std.specs.Prelude.{◌≡◌, ℕ, ◌<◌, List, length, Some}
+-- What a compilation returns: a table, or a fault.
+use Rattle.std.specs.Prelude.{◌≡◌, ℕ, ◌<◌, ◌⊎◌, List, length, Some, Err}
 use Rattle.node_program.specs.GlobalRounds.{channel_at}
 use Rattle.win_index.specs.Arcs.{window_around}
 use Rattle.win_index.specs.Ring.{IsRing}
@@ -8,7 +8,12 @@ use Rattle.channel_tables.specs.Tables.{ChannelTable, channel_of}
 use Rattle.table_entries.specs.ProgramTables.{table_of}
 use Rattle.shared_memo.specs.declared.pass.Pass.{Pass}
 use Rattle.shared_memo.specs.Passes.{known}
-use Rattle.table_fill.specs.Filled.{KnowsAll}
+use Rattle.round_eval.specs.declared.fault.WorkFault.TheVariants as work
+use Rattle.worker_pool.specs.declared.fault.FillFault.{FillFault}
+use Rattle.worker_pool.specs.declared.fault.FillFault.TheVariants.{WorkersOutOfRange, OutOfMemory, Stranger, NoThread}
+use Rattle.worker_pool.specs.Workers.{IsWorkerCount}
+use Rattle.worker_pool.specs.Outcomes.{CameTo}
+use Rattle.table_fill.specs.Filled.{KnowsAll, HasGap}
 
 -- the table of the plan's program, beside a pass that knows all blocks of the plan
 pub record IsCompiled (plan : ProgramForIds) (pass : Pass) (table : ChannelTable) : Type 0 where
@@ -17,3 +22,11 @@ pub record IsCompiled (plan : ProgramForIds) (pass : Pass) (table : ChannelTable
   -- on every ring, its channel at the window of a place is the channel of that place after all rounds
   pub channels : (ring : List ℕ) (place : ℕ) → IsRing plan.ids (length plan.program.steps) ring → place < length ring
       → channel_of table (window_around ring (length plan.program.steps) place) ≡ Some (channel_at plan.program ring place)
+
+-- what a fault says of the workers, and of the caller's pass before and after: the workers came to a stranger, or the pass
+-- found a gap after they had ended; with each other fault the pass is unchanged
+abbrev pub IsCompileFault : ProgramForIds → ℕ → Pass → Pass → FillFault → Type 0
+IsCompileFault plan workers old new WorkersOutOfRange = (¬ IsWorkerCount workers) × (new ≡ old)
+IsCompileFault plan workers old new OutOfMemory = new ≡ old
+IsCompileFault plan workers old new NoThread = (1 < workers) × (new ≡ old)
+IsCompileFault plan workers old new Stranger = (CameTo workers (Err work.Stranger) × (new ≡ old)) ⊎ HasGap plan new

@@ -1,50 +1,47 @@
 //! A worker's view of the cells of a memo: it looks at them, and makes the blocks of empty ones.
 
-ghost use Rattle.std.specs.Prelude.{◌≡◌};
+ghost use Rattle.std.specs.Prelude.{◌≡◌, MatchResult};
 
 use crate::own_reader::OwnReader;
 use node_program::OutOfMemory;
 use round_columns::Code;
 use round_eval::WorkFault;
-use shared_memo::{Installed, Memo, Stranger};
+use shared_memo::{Installed, Memo, Stranger, Ticket};
 use std::alloc::Global;
 use unroll::{BlockMaker, MakeFault};
 use win_index::{MAX_BLOCKS, window_of_number};
 
-// A reader of a memo, and a maker of blocks of the memo's plan, for the worker with this number.
+// A worker's reader of a memo, and its maker of blocks of the memo's plan.
 #[derive(Drop)]
 pub(crate) struct CellMaker<'s, 'a> {
     pub(crate) reader: OwnReader<'s, 'a>,
     pub(crate) blocks: BlockMaker<'s, 'a>,
-    pub(crate) worker: u32,
     pub(crate) ghost one_plan: { blocks ≡ reader.pass.plan.now },
 }
 
 impl<'s, 'a> CellMaker<'s, 'a> {
-    ghost use Rattle.std.specs.Prelude.{None, IfOk, IfErr, OnOk, OnErr, IsSomeAnd, true, false, is_some};
+    ghost use Rattle.std.specs.Prelude.{None, IfOk, IfErr, OnOk, IsSomeAnd, true, false, is_some};
+    ghost use Rattle.round_eval.specs.declared.fault.WorkFault.TheVariants.{Stranger as StrangerMet};
     ghost use Rattle.shared_memo.specs.declared.memo.Installed.TheVariants.{Fresh};
     ghost use Rattle.shared_memo.specs.Passes.{known, seen, memo_plan};
     ghost use Rattle.shared_memo.specs.PlanJobs.{IsKey, IsStranger};
-    ghost use Rattle.table_fill.specs.Cells.{GoesOn, IsMakerOf, NamesLowerBlock};
+    ghost use Rattle.shared_memo.specs.Tickets.{worker_of};
+    ghost use Rattle.table_fill.specs.Filled.{LacksBlock};
+    ghost use Rattle.table_fill.specs.Cells.{GoesOn, NamesLowerBlock};
 
     // Returns a maker for a worker that knows no block of the memo yet. Fails if memory was refused.
     pub(crate) fn new(
         alloc: Global,
         memo: &'s Memo<'a>,
         code: &'s Code<'a>,
-        worker: u32,
     ) -> Result<CellMaker<'s, 'a>, OutOfMemory>
         requires { code.now ≡ memo_plan memo.now }
-        ensures { IfOk result (IsMakerOf memo.entry.now worker) }
+        ensures { IfOk result (λ cells. cells.reader.memo.now ≡ memo.entry.now) }
     {
         let pass = memo.pass(alloc)?;
         let blocks = BlockMaker::new(alloc, code)?;
         let reader = OwnReader { memo, pass };
-        Ok(CellMaker {
-            reader,
-            blocks,
-            worker,
-        })
+        Ok(CellMaker { reader, blocks })
     }
 
     // Looks at the cell of this level and number, and returns whether its block is known then.
@@ -54,7 +51,8 @@ impl<'s, 'a> CellMaker<'s, 'a> {
         ensures goes_on { GoesOn self.old self.new }
         ensures found { IfOk result (λ found. (found ≡ is_some (known self.new.reader.pass level number))
             × (found ≡ false → seen self.new.reader.pass level number ≡ None)) }
-        ensures stranger { OnErr result (IsSomeAnd (seen self.new.reader.pass level number) (IsStranger self.old.reader.pass.plan.now level number)) }
+        ensures stranger { IfErr result (λ fault. (fault ≡ StrangerMet)
+            × IsSomeAnd (seen self.new.reader.pass level number) (IsStranger self.old.reader.pass.plan.now level number)) }
     {
         let OwnReader { memo, pass } = &mut self.reader;
         match memo.look(pass, level, number) {
@@ -63,22 +61,39 @@ impl<'s, 'a> CellMaker<'s, 'a> {
         }
     }
 
-    // Makes the block of this level and number and stores it, unless the cell is full by then. Fails
-    // with the block of a lower level that is missing.
-    fn make(&mut self, alloc: Global, level: u32, number: u32) -> Result<Installed<'a>, MakeFault>
+    // Looks at the cell of this level and number, which was filled. Fails if it is empty or holds a
+    // stranger.
+    fn stands(&mut self, level: u32, number: u32) -> Result<(), WorkFault>
+        requires { IsKey self.old.reader.pass.plan.now level number }
+        ensures goes_on { GoesOn self.old self.new }
+        ensures known { OnOk result (is_some (known self.new.reader.pass level number) ≡ true) }
+        ensures lacks { IfErr result (λ fault. (fault ≡ StrangerMet) × LacksBlock self.old.reader.pass.plan.now self.new.reader.pass level number) }
+    {
+        if self.finds(level, number)? {
+            Ok(())
+        } else {
+            Err(WorkFault::Stranger)
+        }
+    }
+
+    // Makes the block of this level and number and stores it, unless the cell is full by then. Its
+    // maker is the ticket's worker. Fails with the block of a lower level that is missing.
+    fn make(
+        &mut self,
+        alloc: Global,
+        ticket: &Ticket,
+        level: u32,
+        number: u32,
+    ) -> Result<Installed<'a>, MakeFault>
         requires { IsKey self.old.reader.pass.plan.now level number }
         ensures goes_on { GoesOn self.old self.new }
         ensures fresh { IfOk result (λ installed. installed ≡ Fresh
-            → IsSomeAnd (known self.new.reader.pass level number) (λ block. block.maker ≡ self.old.worker)) }
+            → IsSomeAnd (known self.new.reader.pass level number) (λ block. block.maker ≡ worker_of ticket.now)) }
         ensures missing { IfErr result (NamesLowerBlock self.old.reader.pass.plan.now level) }
     {
         window_of_number();
-        let CellMaker {
-            reader,
-            blocks,
-            worker,
-        } = self;
-        let block = match blocks.make(reader, level, number, *worker) {
+        let CellMaker { reader, blocks } = self;
+        let block = match blocks.make(reader, level, number, ticket.worker()) {
             Ok(block) => block,
             Err(fault) => return Err(fault),
         };
@@ -90,7 +105,13 @@ impl<'s, 'a> CellMaker<'s, 'a> {
 
     // Fills the cell of this level and number, unless it is full. Missing blocks below are made
     // first; there are at most `MAX_BLOCKS` of them, so that the last attempt misses none.
-    pub(crate) fn fill(&mut self, alloc: Global, level: u32, number: u32) -> Result<(), WorkFault>
+    pub(crate) fn fill(
+        &mut self,
+        alloc: Global,
+        ticket: &Ticket,
+        level: u32,
+        number: u32,
+    ) -> Result<(), WorkFault>
         requires { IsKey self.old.reader.pass.plan.now level number }
         ensures goes_on { GoesOn self.old self.new }
         ensures known { OnOk result (is_some (known self.new.reader.pass level number) ≡ true) }
@@ -99,19 +120,25 @@ impl<'s, 'a> CellMaker<'s, 'a> {
             return Ok(());
         }
         for _attempt in 0..MAX_BLOCKS + 1 {
-            match self.make(alloc, level, number) {
+            match self.make(alloc, ticket, level, number) {
                 Ok(Installed::Fresh) => return Ok(()),
-                Ok(Installed::Stood(_)) => {
-                    return if self.finds(level, number)? {
-                        Ok(())
-                    } else {
-                        Err(WorkFault::Stranger)
-                    };
+                Ok(Installed::Stood(_)) => break,
+                Err(fault) => {
+                    let (low, below) = missing_block(fault)?;
+                    self.fill(alloc, ticket, low, below)?;
                 }
-                Err(MakeFault::Missing(low, below)) => self.fill(alloc, low, below)?,
-                Err(MakeFault::OutOfMemory) => return Err(WorkFault::OutOfMemory),
             }
         }
-        Err(WorkFault::Stranger)
+        self.stands(level, number)
+    }
+}
+
+// Returns the level and number of the block that is missing, or the error that memory was refused.
+fn missing_block(fault: MakeFault) -> Result<(u32, u32), OutOfMemory>
+    ensures { MatchResult result (λ block. fault ≡ MakeFault.Missing block.0 block.1) (λ _. fault ≡ MakeFault.OutOfMemory) }
+{
+    match fault {
+        MakeFault::Missing(level, number) => Ok((level, number)),
+        MakeFault::OutOfMemory => Err(OutOfMemory),
     }
 }

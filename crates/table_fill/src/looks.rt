@@ -1,11 +1,11 @@
 //! The looks of the caller's pass after the workers have ended.
-ghost use Rattle.std.specs.Prelude.{◌≡◌, ℕ, ◌<◌, length, IfOk, IfSome, IsTrue, is_some, true};
+ghost use Rattle.std.specs.Prelude.{◌≡◌, ℕ, ◌<◌, length, IfOk, IfSome, IfNone, MatchOption, IsTrue, is_some, true, false};
 ghost use Rattle.shared_memo.specs.PlanJobs.{IsKey, IsKeyedBlock};
-ghost use Rattle.shared_memo.specs.Passes.{known, memo_plan, IsPassOf};
+ghost use Rattle.shared_memo.specs.Passes.{known, memo_plan, IsPassOf, IsJoined};
 ghost use Rattle.win_index.specs.Blocks.{block_count};
 ghost use Rattle.worker_pool.specs.Workers.{HasRoom};
 ghost use Rattle.table_entries.specs.EntryShares.{AreLastBlocks};
-ghost use Rattle.table_fill.specs.Filled.{HasLearned, KnowsLevel};
+ghost use Rattle.table_fill.specs.Filled.{HasLearned, KnowsLevel, LacksBlock, HasGap};
 
 use node_program::OutOfMemory;
 use shared_memo::{Memo, Pass};
@@ -28,6 +28,7 @@ pub(crate) fn empty_blocks<'s, 'a>(
 pub(crate) fn look_below<'a>(memo: &Memo<'a>, pass: &mut Pass<'a>) -> bool
     requires { IsPassOf memo.now pass.old }
     ensures learned { HasLearned memo.now pass.old pass.new }
+    ensures gap { result ≡ false → HasGap (memo_plan memo.now) pass.new }
     ensures known { IsTrue result → (level : ℕ) → level < length (memo_plan memo.now).program.steps → KnowsLevel (memo_plan memo.now) (known pass.new) level }
 {
     let shape = memo.plan().shape();
@@ -52,6 +53,7 @@ pub(crate) fn last_blocks<'s, 'a>(
     requires room { HasRoom (block_count (memo_plan memo.now).ids (length (memo_plan memo.now).program.steps)) blocks }
     ensures learned { HasLearned memo.now pass.old pass.new }
     ensures known { IfSome result (λ _. KnowsLevel (memo_plan memo.now) (known pass.new) (length (memo_plan memo.now).program.steps)) }
+    ensures gap { IfNone result (HasGap (memo_plan memo.now) pass.new) }
     ensures blocks { IfSome result (λ blocks. AreLastBlocks (memo_plan memo.now) blocks.items) }
 {
     let shape = memo.plan().shape();
@@ -74,6 +76,7 @@ fn look_at<'s, 'a>(
     requires key { IsKey (memo_plan memo.now) level number }
     ensures learned { HasLearned memo.now pass.old pass.new }
     ensures known { IfSome result (λ _. is_some (known pass.new level number) ≡ true) }
+    ensures lacks { IfNone result (LacksBlock (memo_plan memo.now) pass.new level number) }
     ensures block { IfSome result (λ block. IsKeyedBlock (memo_plan memo.now) level number block.now) }
 {
     match memo.look(pass, level, number) {
@@ -83,12 +86,14 @@ fn look_at<'s, 'a>(
 }
 
 // Merges the pass of a single worker, if there was one, into `pass`.
-pub(crate) fn learn_from<'a>(memo: &Memo<'a>, pass: &mut Pass<'a>, known: Option<Pass<'a>>)
+pub(crate) fn learn_from<'a>(memo: &Memo<'a>, pass: &mut Pass<'a>, other: Option<Pass<'a>>)
     requires pass { IsPassOf memo.now pass.old }
-    requires known { IfSome known (IsPassOf memo.now) }
+    requires other { IfSome other (IsPassOf memo.now) }
     ensures learned { HasLearned memo.now pass.old pass.new }
+    ensures joined { MatchOption other.entry (pass.new ≡ pass.old)
+        (λ other. IsJoined (known pass.old) (known other) (known pass.new)) }
 {
-    if let Some(mut known) = known {
-        memo.learn(pass, &mut known);
+    if let Some(mut other) = other {
+        memo.learn(pass, &mut other);
     }
 }

@@ -43,11 +43,11 @@ impl<'m, 'a> Jobs for MemoFill<'m, 'a> {
     ) -> Result<Pass<'a>, WorkFault> {
         jobs_have_numbers();
         let shape = self.memo.plan().shape();
-        let mut cells = CellMaker::new(alloc, self.memo, self.code, ticket.worker())?;
+        let mut cells = CellMaker::new(alloc, self.memo, self.code)?;
         while let Some(job) = desk.draw(ticket) {
             gate.entered(ticket.worker(), job);
             let (level, block) = shape.job(job);
-            cells.fill(alloc, level, block)?;
+            cells.fill(alloc, ticket, level, block)?;
         }
         Ok(cells.reader.pass)
     }

@@ -41,7 +41,6 @@ returns-in-Err-clause-missing c =
 
 pub returns-clause-goes_on : goal.returns-clause-goes_on
 returns-clause-goes_on c = record {
-  same_worker = search rules;
   same_memo = search rules;
   same_plan = search rules;
   grows = record { kept = λ level number b was. c.keep.ensures.learns.kept level number b (c.make.ensures.asked.asked.grows.kept level number b was) };

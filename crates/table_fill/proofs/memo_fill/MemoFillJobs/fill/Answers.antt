@@ -48,7 +48,6 @@ loop-job-preserved g c =
       ticket = search rules;
       untold = search rules;
       worker = search rules;
-      maker = search rules;
       same_plan = search rules;
       same_memo = search rules;
       filled = rw all known_all;

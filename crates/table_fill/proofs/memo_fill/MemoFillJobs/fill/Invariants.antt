@@ -9,7 +9,6 @@ invariant-loop-job g l = record {
   ticket : IsTicketOf l.desk l.ticket;
   untold : told l.ticket ≡ 0;
   worker : worker_of l.ticket ≡ worker_of l.fn.ticket;
-  maker : l.cells.worker ≡ worker_of l.fn.ticket;
   same_plan : l.cells.reader.pass.plan.now ≡ l.self.memo.now.plan.now;
   same_memo : l.cells.reader.memo.now ≡ l.self.memo.now;
   filled : AreKnown l.self.memo.now.plan.now (known l.cells.reader.pass) (drawn l.ticket);
