@@ -26,7 +26,7 @@ impl<'s, 'a> CellMaker<'s, 'a> {
     ghost use Rattle.shared_memo.specs.Passes.{known, seen, memo_plan};
     ghost use Rattle.shared_memo.specs.PlanJobs.{IsKey, IsStranger};
     ghost use Rattle.shared_memo.specs.Tickets.{worker_of};
-    ghost use Rattle.table_fill.specs.Filled.{LacksBlock};
+    ghost use Rattle.table_fill.specs.Filled.{LacksBlock, HasGap};
     ghost use Rattle.table_fill.specs.Cells.{GoesOn, NamesLowerBlock};
 
     // Returns a maker for a worker that knows no block of the memo yet. Fails if memory was refused.
@@ -104,7 +104,8 @@ impl<'s, 'a> CellMaker<'s, 'a> {
     }
 
     // Fills the cell of this level and number, unless it is full. Missing blocks below are made
-    // first; there are at most `MAX_BLOCKS` of them, so that the last attempt misses none.
+    // first; there are at most `MAX_BLOCKS` of them, so that the last attempt misses none. A stranger
+    // is met only in a cell that is empty or holds one.
     pub(crate) fn fill(
         &mut self,
         alloc: Global,
@@ -115,6 +116,7 @@ impl<'s, 'a> CellMaker<'s, 'a> {
         requires { IsKey self.old.reader.pass.plan.now level number }
         ensures goes_on { GoesOn self.old self.new }
         ensures known { OnOk result (is_some (known self.new.reader.pass level number) ≡ true) }
+        ensures gap { IfErr result (λ fault. fault ≡ StrangerMet → HasGap self.old.reader.pass.plan.now self.new.reader.pass) }
     {
         if self.finds(level, number)? {
             return Ok(());
