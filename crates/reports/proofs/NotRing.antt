@@ -11,7 +11,7 @@ use Rattle.reports.specs.declared.refusal.Refusal.TheVariants as refusal
 use Rattle.reports.specs.Answers.{report_in, IsRefusedBy}
 use Rattle.reports.specs.Causes.{of_ring}
 use Rattle.reports.specs.Report.{Report, Refuses, IsAnswerOnRing, IsNoRing, on_ring, ring_fault, ring_fault_line}
-use Rattle.reports.proofs.Refused.{told_by, refused_report}
+use Rattle.reports.proofs.Refused.{IsReportOf, told_by, refused_report}
 
 -- the refusal of a list for a shape is the report for a program of that shape
 pub not_ring : (m n t u : ℕ) (x y : List ℕ) (said : Report → Type 0) (f : RingFault) (r : Report) → m ≡ n → t ≡ u → x ≡ y → IsFirstFault n u y f
@@ -31,6 +31,6 @@ no_ring_told m t places said by answer refused same =
     no_ring m t places said (report_in answer) (told_by (IsNoRing m t places) by answer refused same)
 
 pub no_ring_reported : (m t : ℕ) (places : List ℕ) (said : Report → Type 0) (by : Refusal) (result : Result Answer OutOfMemory)
-    → IsRefusedBy (IsNoRing m t places) by → IfOk result (λ answer. by ≡ refusal.Report answer)
+    → IsRefusedBy (IsNoRing m t places) by → IsReportOf by result
     → IfOk result (λ answer. IsAnswerOnRing m t places said (report_in answer))
 no_ring_reported m t places said = refused_report (IsNoRing m t places) (IsAnswerOnRing m t places said) (no_ring m t places said)

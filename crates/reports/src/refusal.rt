@@ -17,11 +17,11 @@ pub enum Refusal {
 }
 
 impl Refusal {
-    ghost use Rattle.std.specs.Prelude.{◌≡◌, IfOk};
+    ghost use Rattle.std.specs.Prelude.{◌≡◌, MatchResult};
 
     /// Returns the report. Fails if memory was refused.
     pub fn report(self) -> Result<Answer, OutOfMemory>
-        ensures { IfOk result (λ answer. self ≡ Refusal.Report answer) }
+        ensures { MatchResult result (λ answer. self ≡ Refusal.Report answer) (λ _. self ≡ Refusal.OutOfMemory) }
     {
         match self {
             Refusal::Report(answer) => Ok(answer),
