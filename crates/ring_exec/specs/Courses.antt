@@ -1,5 +1,6 @@
 -- Runs on their way. No public contract cites this file.
-use Rattle.std.specs.Prelude.{◌≡◌, ◌≢◌, ℕ, ◌+◌, ◌≤◌, Option, None, Some, IsSome, IsNone, vec_len}
+use Rattle.std.specs.Prelude.{◌≡◌, ◌≢◌, ℕ, ◌+◌, ◌≤◌, List, length, Option, None, Some, IsSome, IsNone, slice_get, vec_len}
+use Rattle.ring_segments.specs.Segments.{RingSegment}
 use Rattle.ring_exec.specs.Faults.{blamed}
 use Rattle.ring_exec.specs.Outcomes.{HasMore}
 use Rattle.round_eval.specs.declared.fault.WorkFault.TheVariants.{OutOfMemory}
@@ -7,17 +8,24 @@ use Rattle.round_eval.specs.declared.fault.ThreadFault.TheVariants.{Work, NoThre
 use Rattle.ring_exec.specs.declared.joined.Joined.{Joined}
 use Rattle.ring_exec.specs.declared.progress.Progress.{Progress}
 
+-- the next segment has this index, the number of threads that were started, and the indices of the segments that are not
+-- started fall to it
+pub record AreWaiting (index threads : ℕ) (waiting : List RingSegment) : Type 0 where
+  pub index_is : index ≡ threads
+  pub falling : (k : ℕ) (s : RingSegment) → slice_get waiting k ≡ Some s → s.index + k + 1 ≡ index + length waiting
+
 -- a run that goes on has the border before its next segment, and so many segments that are not started; a run that has
 -- stopped has a fault
 pub record IsOnCourse {X : Type 0} (before : Option X) (progress : Progress) (count : ℕ) : Type 0 where
   pub waiting : IsSome before → vec_len progress.waiting ≡ count
+  pub next : IsSome before → AreWaiting progress.index (vec_len progress.threads) progress.waiting.items
   pub stopped : IsNone before → progress.joined.fault ≢ None
 
 -- after the start of a segment: without a fault, there is one thread more, and no outcome
 abbrev pub HasStarted : Progress → Progress → Type 0
 HasStarted before after =
     after.joined.fault ≡ None
-    → (before.joined.fault ≡ None) × (vec_len after.joined.segments ≡ vec_len before.joined.segments)
+    → (before.joined.fault ≡ None) × (after.joined.segments ≡ before.joined.segments)
     × (vec_len after.threads ≡ vec_len before.threads + 1)
 
 -- the fault of a run whose next segment was not started: if its start was tried, which raises the index, there was no

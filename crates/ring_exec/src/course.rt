@@ -1,18 +1,18 @@
 //! The course of a run: the segments that run, and those that are still to start.
 ghost use Rattle.std.specs.Prelude.{◌≡◌, ◌≢◌, ◌+◌, ◌<◌, ◌≤◌, None, Some, IsNone, IsSome, vec_len, vec_capacity};
-ghost use Rattle.ring_exec.specs.Courses.{HasEnded};
-ghost use Rattle.ring_exec.specs.Outcomes.{HasMore};
+ghost use Rattle.ring_exec.specs.Courses.{AreWaiting, HasEnded};
+ghost use Rattle.ring_exec.specs.Outcomes.{AreInOrder, HasMore};
 ghost use Rattle.round_eval.specs.declared.fault.ThreadFault.TheVariants.{NoThread};
 
 use crate::border_name::BorderName;
 use crate::end::{Edge, RightEnd};
 use crate::joined::Joined;
 use crate::progress::Progress;
-use crate::runner::{Outcome, Runner, Shared};
+use crate::runner::{Runner, SegmentThread, Shared};
 use ring_segments::Msg;
 use round_eval::Gate;
 use std::sync::Wait;
-use std::thread::{JoinHandle, Threads};
+use std::thread::Threads;
 
 // A run that has reached one of its segments: the end of the border before it, unless the run can't
 // go on; the end of the last segment's border; and its segments and threads.
@@ -30,6 +30,8 @@ pub(crate) fn ended<'a, R: Threads + Wait, G: Gate, B: BorderName, L: BorderName
     course: Course<'a, R, G, B, L>,
 ) -> Joined<'a>
     requires waiting { IsSome course.before → 0 < vec_len course.progress.waiting }
+    requires next { IsSome course.before
+        → AreWaiting course.progress.index (vec_len course.progress.threads) course.progress.waiting.items }
     requires stopped { IsNone course.before → course.progress.joined.fault ≢ None }
     ensures all { HasEnded course.entry.progress 1 result }
     ensures no_thread { result.fault ≡ Some NoThread → course.entry.progress.joined.fault ≡ Some NoThread }
@@ -63,13 +65,14 @@ pub(crate) fn ended<'a, R: Threads + Wait, G: Gate, B: BorderName, L: BorderName
     join_all(shared.rt, threads, joined)
 }
 
-// Joins the threads that were started, and adds their outcomes.
+// Joins the threads that were started, the last one first, and adds their outcomes.
 fn join_all<'a, R: Threads + Wait>(
     rt: &R,
-    mut threads: Vec<JoinHandle<Outcome<'a>>>,
+    mut threads: Vec<SegmentThread<'a>>,
     mut joined: Joined<'a>,
 ) -> Joined<'a>
-    requires { vec_len joined.segments + vec_len threads ≤ vec_capacity joined.segments }
+    requires in_order { AreInOrder (λ thread. thread.promise.0) threads.items }
+    requires room { vec_len joined.segments + vec_len threads ≤ vec_capacity joined.segments }
     ensures all { HasMore joined.entry (vec_len threads.entry) result }
     ensures no_thread { result.fault ≡ Some NoThread → joined.entry.fault ≡ Some NoThread }
 {

@@ -15,8 +15,6 @@ pub(crate) struct Joined<'a> {
 }
 
 impl<'a> Joined<'a> {
-    ghost use Rattle.ring_exec.specs.Outcomes.{HasMore};
-
     // Returns no outcomes yet, with this empty list for the segments.
     pub(crate) fn new(segments: Vec<Segment<'a>>) -> Joined<'a>
         ensures fault { result.fault ≡ None }
@@ -35,7 +33,6 @@ impl<'a> Joined<'a> {
         ensures added { MatchResult outcome.entry
             (λ segment. (self.new.fault ≡ self.old.fault) × (self.new.segments.items ≡ self.old.segments.items ++ segment ∷ []))
             (λ fault. (self.new.fault ≡ Some (blamed self.old.fault (Work fault))) × (self.new.segments ≡ self.old.segments)) }
-        ensures more { HasMore self.old 1 self.new }
         ensures room { (vec_len self.new.segments ≤ vec_len self.old.segments + 1) × (vec_capacity self.new.segments ≡ vec_capacity self.old.segments) }
         ensures no_thread { self.new.fault ≡ Some NoThread → self.old.fault ≡ Some NoThread }
     {

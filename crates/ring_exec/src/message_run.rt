@@ -1,7 +1,9 @@
 //! The run of a ring by messages, a thread for each segment.
-ghost use Rattle.std.specs.Prelude.{◌≡◌, ◌+◌, ◌-◌, ◌<◌, ◌↔◌, ℕ, None, IfOk, OnOk, IfErr, IfSome, IsErrOf, length, vec_len, slice_get};
+ghost use Rattle.std.specs.Prelude.{◌≡◌, ◌+◌, ◌-◌, ◌<◌, ◌↔◌, ℕ, [], None, IfOk, OnOk, IfErr, IfSome, IsErrOf, length, vec_len, slice_get};
 ghost use Rattle.node_program.specs.GlobalRounds.{channels_of};
 ghost use Rattle.ring_exec.specs.Borders.{AreBlanksOf};
+ghost use Rattle.ring_exec.specs.Courses.{AreWaiting};
+ghost use Rattle.ring_exec.specs.Outcomes.{AreFalling};
 ghost use Rattle.ring_exec.specs.Runs.{CanRun};
 ghost use Rattle.ring_segments.specs.SegmentCounts.{IsSegmentCount};
 
@@ -87,7 +89,7 @@ fn run_segments<'a, R: Threads + Wait + Sync, G: Gate + Sync, L: BorderName + Se
 ) -> Result<Vec<Segment<'a>>, ThreadFault>
     requires run { CanRun plan.now ring.now segments }
     requires blanks { AreBlanksOf blanks L.rightward L.leftward }
-    ensures all { IfOk result (λ found. vec_len found ≡ segments) }
+    ensures all { IfOk result (λ found. (vec_len found ≡ segments) × AreFalling found.items) }
     ensures alone { IfErr result (λ fault. fault ≡ ThreadFault.NoThread → 1 < segments) }
 {
     let progress = no_progress(shared.alloc, plan, ring, segments)?;
@@ -115,8 +117,9 @@ fn no_progress<'a>(
 ) -> Result<Progress<'a>, OutOfMemory>
     requires { CanRun plan.now ring.now segments }
     ensures no_fault { IfOk result (λ progress. progress.joined.fault ≡ None) }
-    ensures first { IfOk result (λ progress. (progress.index ≡ 0) × (vec_len progress.threads ≡ 0) × (vec_len progress.joined.segments ≡ 0)) }
+    ensures first { IfOk result (λ progress. (progress.index ≡ 0) × (vec_len progress.threads ≡ 0) × (progress.joined.segments.items ≡ [])) }
     ensures waiting { IfOk result (λ progress. vec_len progress.waiting ≡ segments) }
+    ensures next { IfOk result (λ progress. AreWaiting progress.index (vec_len progress.threads) progress.waiting.items) }
 {
     let waiting = waiting_segments(alloc, plan, ring, segments)?;
     let threads = Vec::with_capacity(alloc, segments as usize)?;

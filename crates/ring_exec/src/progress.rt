@@ -1,13 +1,13 @@
 //! How far a run is.
-ghost use Rattle.std.specs.Prelude.{◌≡◌, ◌+◌, ◌<◌, ◌≤◌, All, Ok, Err, MatchOption, vec_len, vec_capacity};
+ghost use Rattle.std.specs.Prelude.{◌≡◌, ◌+◌, ◌<◌, ◌≤◌, All, Ok, Err, IfSome, MatchOption, vec_len, vec_capacity};
+ghost use Rattle.ring_exec.specs.Outcomes.{AreInOrder};
 ghost use Rattle.ring_segments.specs.declared.limits.TheConstants.{MAX_SEGMENTS};
 ghost use Rattle.round_eval.specs.declared.fault.ThreadFault.TheVariants.{NoThread};
 
 use crate::joined::Joined;
-use crate::runner::Outcome;
+use crate::runner::SegmentThread;
 use ring_segments::Segment;
 use round_eval::ThreadFault;
-use std::thread::JoinHandle;
 
 // How far a run is: the index of the next segment, the segments that are not started, the next one
 // last; the threads of those that are, with room for more; and the outcomes, with room for all.
@@ -15,8 +15,9 @@ use std::thread::JoinHandle;
 pub(crate) struct Progress<'a> {
     pub(crate) index: u32,
     pub(crate) waiting: Vec<Segment<'a>>,
-    pub(crate) threads: Vec<JoinHandle<Outcome<'a>>>,
+    pub(crate) threads: Vec<SegmentThread<'a>>,
     pub(crate) joined: Joined<'a>,
+    ghost in_order: { AreInOrder (λ thread. thread.promise.0) threads.items },
     ghost few: { index + vec_len waiting ≤ MAX_SEGMENTS },
     ghost unstarted: { All (λ s. s.round ≡ 0) waiting.items },
     ghost thread_room: { vec_len threads + vec_len waiting ≤ vec_capacity threads },
@@ -25,10 +26,8 @@ pub(crate) struct Progress<'a> {
 
 impl<'a> Progress<'a> {
     // Counts the segment whose start was tried, and keeps its thread if the start was not refused.
-    pub(crate) fn keep(
-        &mut self,
-        thread: Option<JoinHandle<Outcome<'a>>>,
-    ) -> Result<(), ThreadFault>
+    pub(crate) fn keep(&mut self, thread: Option<SegmentThread<'a>>) -> Result<(), ThreadFault>
+        requires next { IfSome thread (λ thread. thread.promise.0 ≡ vec_len self.old.threads) }
         requires few { self.old.index + vec_len self.old.waiting < MAX_SEGMENTS }
         requires room { (vec_len self.old.threads + vec_len self.old.waiting < vec_capacity self.old.threads)
             × (vec_len self.old.joined.segments + vec_len self.old.threads + vec_len self.old.waiting

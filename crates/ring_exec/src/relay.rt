@@ -1,8 +1,8 @@
 //! The recursion of a run over its segments: each segment beside the segments after it.
-ghost use Rattle.std.specs.Prelude.{◌≡◌, ◌+◌, ◌<◌, ◌⊎◌, IsNone, IsSome, IfErr, OnOk, vec_len};
+ghost use Rattle.std.specs.Prelude.{◌≡◌, ◌+◌, ◌<◌, ◌⊎◌, IsNone, IsSome, IfErr, IfSome, OnOk, vec_len};
 ghost use Rattle.border_exchange.specs.declared.Side.TheVariants.{Leftward};
 ghost use Rattle.ring_exec.specs.Borders.{AreBlanksOf};
-ghost use Rattle.ring_exec.specs.Courses.{HasEnded, HasRefused, HasStarted, IsOnCourse};
+ghost use Rattle.ring_exec.specs.Courses.{AreWaiting, HasEnded, HasRefused, HasStarted, IsOnCourse};
 ghost use Rattle.ring_exec.specs.Seats.{AreSeatsOf};
 ghost use Rattle.round_eval.specs.declared.fault.ThreadFault.TheVariants.{Work, NoThread};
 ghost use Rattle.round_eval.specs.declared.fault.WorkFault.TheVariants.{OutOfMemory as NoMemory};
@@ -12,13 +12,13 @@ use crate::course::{Course, ended};
 use crate::end::{Edge, End, new_border};
 use crate::joined::Joined;
 use crate::progress::Progress;
-use crate::runner::{Outcome, Runner, Shared};
+use crate::runner::{Runner, SegmentAt, SegmentThread, Shared};
 use ring_segments::{Msg, Segment};
 use round_eval::{Gate, ThreadFault};
 use std::marker::Brand;
 use std::sync::Wait;
 use std::thread;
-use std::thread::{JoinHandle, Scope, Threads};
+use std::thread::{Scope, Threads};
 
 // Runs all segments from the first one on.
 pub(crate) fn run_all<
@@ -159,8 +159,10 @@ impl<
         requires blanks { AreBlanksOf blanks N.rightward N.leftward }
         requires seat { left.seat ≡ record { side = Leftward; puts = 0 } }
         requires waiting { 0 < vec_len progress.old.waiting }
+        requires next { AreWaiting progress.old.index (vec_len progress.old.threads) progress.old.waiting.items }
         ensures rest { (vec_len progress.new.waiting + 1 ≡ vec_len progress.old.waiting)
             × (progress.new.joined ≡ progress.old.joined) }
+        ensures next { OnOk result (AreWaiting progress.new.index (vec_len progress.new.threads) progress.new.waiting.items) }
         ensures started { OnOk result ((progress.new.index ≡ progress.old.index + 1)
             × (vec_len progress.new.threads ≡ vec_len progress.old.threads + 1)) }
         ensures refused { IfErr result (λ fault. ((fault ≡ NoThread) × (progress.new.index ≡ progress.old.index + 1))
@@ -185,9 +187,12 @@ impl<
     fn start_one<N: BorderName + Send + Sync + 'a>(
         scope: &'c Scope<'s, &'e ()>,
         runner: Runner<'a, Segment<'a>, Msg<'a>, R, G, B, N>,
-    ) -> Option<JoinHandle<Outcome<'a>>>
-        requires { AreSeatsOf runner.segment runner.left.seat runner.right.seat }
+    ) -> Option<SegmentThread<'a>>
+        requires seats { AreSeatsOf runner.segment runner.left.seat runner.right.seat }
+        requires index { runner.segment.index ≡ runner.index }
+        ensures { IfSome result (λ thread. thread.promise.0 ≡ runner.entry.index) }
     {
-        scope.spawn(move || runner.run()).ok()
+        let promise = SegmentAt(runner.index);
+        scope.spawn_with(promise, move || runner.run()).ok()
     }
 }

@@ -14,10 +14,22 @@ use ring_segments::{Msg, Segment};
 use round_eval::{Gate, WorkFault};
 use std::alloc::Global;
 use std::sync::Wait;
+use std::thread::{Promise, PromisedHandle};
 
 // The outcome of a segment's thread: the segment, after the last round unless a border was closed
 // before.
 pub(crate) type Outcome<'a> = Result<Segment<'a>, WorkFault>;
+
+// The promise that a thread returns the segment with this index, unless it has a fault.
+#[derive(Clone, Copy)]
+pub(crate) struct SegmentAt(pub(crate) u32);
+
+impl<'a> Promise<Outcome<'a>> for SegmentAt {
+    ghost kept_by = { λ promise outcome. IfOk outcome (λ segment. segment.index ≡ promise.0) };
+}
+
+// A segment's thread.
+pub(crate) type SegmentThread<'a> = PromisedHandle<Outcome<'a>, SegmentAt>;
 
 // What all segments of a run share.
 #[derive(Drop)]
@@ -51,6 +63,7 @@ impl<'s, 'a, R: Wait, G: Gate, A: BorderName, B: BorderName> Runner<
     // Runs the segment to its last round, or until it stops; then closes both borders.
     pub(crate) fn run(self) -> Outcome<'a>
         requires { AreSeatsOf self.segment self.left.seat self.right.seat }
+        ensures { IfOk result (λ segment. segment.index ≡ self.entry.segment.index) }
     {
         let Runner {
             shared,

@@ -2,12 +2,11 @@
 -- inner call, at other border names, has a lesser count. The borrow checker covers no call of a function by itself at
 -- other types, so the body is walked here, statement by statement.
 use Rattle.ring_exec.proofs.Steps.{◌≡◌, ℕ, eqb→eq, List, [], ◌∷◌, refl, w32, arith, vint, tables, ‵, raw, ◌⊛◌, some, later, prop, at_ret, Sq, ◌$◌, ◌∵◌, !, qed, done, move, drop, use1, split, join, fsplit, feq_l, pick, await, suffices, group, enter, of_opd, lit, bin, first, branches, skips, exec, returns, returns_within, no_more, and_then, alloc_all, pass_all, free_all, look_at, get, sets, lands_as, env, yes, no, u32, uint_Makes, shows, plain, nothing, owned, peeks, heard, lasts, Stays, walk_of, stay_dropped, Goes-dropped, ends_at, says, triple_of, id⊢, ftrue, framed, calls_at, calls_from, ◌+◌, ◌-◌, ◌<◌, ◌^◌, T, T_not, not, eqb, subst, subst⁻¹}
+use Rattle.ring_exec.proofs.Falling.{ended_before}
 use Rattle.ring_exec.proofs.FactRows.{tuple, facts, gather, shown, beside}
 use Rattle.std.specs.Prelude.{IsNone, IsSome}
 use Rattle.ring_exec.specs.Borders.{AreBlanksOf}
 use Rattle.ring_exec.specs.Courses.{IsOnCourse, HasStarted, HasRefused, HasEnded}
-use Rattle.ring_exec.specs.declared.joined.Joined.{Joined as Outcomes}
-use Rattle.ring_exec.specs.declared.progress.Progress.{Progress}
 use Rattle.ring_exec.proofs.relay.Stage.+after.{statement}
 use Rattle.ring_exec.proofs.relay.Stage.+after.Code as code
 use Rattle.ring_exec.specs.contracts.relay.Stage.after as after
@@ -78,13 +77,6 @@ use lib.WfN.{lt-wf_rel}
 -- numbers that a test tells apart
 apart : (a b : ℕ) → T (not (eqb a b)) → a ≡ b → ⊥
 apart a b t e = T_not (eqb a b) t (subst (λ (k : ℕ). T (eqb a k)) e (eqb_refl a))
-
--- a run with one more thread has ended as the run without it, in which one segment more was not started
-ended_before : (before after : Progress) (n : ℕ) (r : Outcomes) → 0 < n → HasStarted before after → HasEnded after (n - 1 + 1) r → HasEnded before (n + 1) r
-ended_before before after n r pos started ended none =
-    let inside = ended none in
-    let outside = started inside.0 in
-    (outside.0, omega (arith, inside.1, outside.1, outside.2))
 
 -- the rest after the first statement
 abbrev rest : Body → Body
