@@ -11,7 +11,6 @@ use Rattle.shared_memo.specs.Passes.{known}
 use Rattle.round_eval.specs.declared.fault.WorkFault.TheVariants as work
 use Rattle.worker_pool.specs.declared.fault.FillFault.{FillFault}
 use Rattle.worker_pool.specs.declared.fault.FillFault.TheVariants.{WorkersOutOfRange, OutOfMemory, Stranger, NoThread}
-use Rattle.worker_pool.specs.Workers.{IsWorkerCount}
 use Rattle.worker_pool.specs.Outcomes.{CameTo}
 use Rattle.table_fill.specs.Filled.{KnowsAll, HasGap}
 
@@ -23,10 +22,10 @@ pub record IsCompiled (plan : ProgramForIds) (pass : Pass) (table : ChannelTable
   pub channels : (ring : List ℕ) (place : ℕ) → IsRing plan.ids (length plan.program.steps) ring → place < length ring
       → channel_of table (window_around ring (length plan.program.steps) place) ≡ Some (channel_at plan.program ring place)
 
--- what a fault says of the workers, and of the caller's pass before and after: the workers came to a stranger, or the pass
--- found a gap after they had ended; with each other fault the pass is unchanged
+-- what a fault says of the caller's pass before and after: workers came to a stranger, or the pass found a gap after they
+-- had ended; with each other fault it is unchanged
 abbrev pub IsCompileFault : ProgramForIds → ℕ → Pass → Pass → FillFault → Type 0
-IsCompileFault plan workers old new WorkersOutOfRange = (¬ IsWorkerCount workers) × (new ≡ old)
-IsCompileFault plan workers old new OutOfMemory = new ≡ old
-IsCompileFault plan workers old new NoThread = (1 < workers) × (new ≡ old)
 IsCompileFault plan workers old new Stranger = (CameTo workers (Err work.Stranger) × (new ≡ old)) ⊎ HasGap plan new
+IsCompileFault plan workers old new WorkersOutOfRange = new ≡ old
+IsCompileFault plan workers old new OutOfMemory = new ≡ old
+IsCompileFault plan workers old new NoThread = new ≡ old
