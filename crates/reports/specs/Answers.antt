@@ -5,7 +5,7 @@ use Rattle.table_formula.specs.Texts.{formula_text}
 use Rattle.reports.specs.Report.{Report}
 use Rattle.reports.specs.Causes.{reason_of}
 use Rattle.reports.specs.declared.answer.Answer.{Answer}
-use Rattle.reports.specs.declared.answer.Answer.TheVariants.{Text, WithCause, Table, Formula}
+use Rattle.reports.specs.declared.answer.Answer.TheVariants.{Text, WithCause, Fixed, Table, Formula}
 use Rattle.reports.specs.declared.refusal.Refusal.{Refusal}
 use Rattle.reports.specs.declared.refusal.Refusal.TheVariants as refusal
 use Rattle.reports.specs.declared.status.Status.TheVariants.{Done}
@@ -14,6 +14,7 @@ use Rattle.reports.specs.declared.status.Status.TheVariants.{Done}
 abbrev pub report_in : Answer → Report
 report_in (Text text status) = record { bytes = string_bytes text; status = status; cause = None }
 report_in (WithCause text status cause) = record { bytes = string_bytes text; status = status; cause = Some (reason_of cause) }
+report_in (Fixed text status cause) = record { bytes = text.now; status = status; cause = Some (reason_of cause) }
 report_in (Formula p) = record { bytes = formula_text p; status = Done; cause = None }
 report_in (Table t) = record { bytes = table_text t.table t.separation; status = Done; cause = None }
 

@@ -23,6 +23,8 @@ pub enum Answer {
     Text(String, Status),
     /// Its text and its status, with its cause: it is a refusal, a no, or a yes over no tuples.
     WithCause(String, Status, Cause),
+    /// The same, with a text for which no memory is needed.
+    Fixed(&'static str, Status, Cause),
     /// The table and the separation whose text it is.
     Table(TableReport),
     /// The formula whose text it is.

@@ -1,4 +1,4 @@
-//! Lines of the reports on a formula. Each call fails only if memory was refused.
+//! Lines of the reports on a formula. A call fails only if memory was refused.
 
 ghost use Rattle.std.specs.Prelude.{◌≡◌, IfOk, string_bytes};
 ghost use Rattle.reports.specs.FormulaReports as report;
@@ -9,14 +9,14 @@ use refutation::{LineFault, RefuteError};
 use std::alloc::{AllocError, Global};
 
 // Returns the line of numbers of which there is no formula.
-pub(crate) fn formula_fault_line(alloc: Global, fault: ProblemFault) -> Result<String, AllocError>
-    ensures { IfOk result (λ text. string_bytes text ≡ report.formula_fault_line fault) }
+pub(crate) fn formula_fault_line(fault: ProblemFault) -> &'static str
+    ensures { result.now ≡ report.formula_fault_line fault }
 {
     match fault {
-        ProblemFault::IdsOutOfRange => String::from_str(alloc, "formula fault X1\n"),
-        ProblemFault::TooManyWindows => String::from_str(alloc, "formula fault X2\n"),
-        ProblemFault::TooManyVariables => String::from_str(alloc, "formula fault V1\n"),
-        ProblemFault::TooManyClauses => String::from_str(alloc, "formula fault V2\n"),
+        ProblemFault::IdsOutOfRange => "formula fault X1\n",
+        ProblemFault::TooManyWindows => "formula fault X2\n",
+        ProblemFault::TooManyVariables => "formula fault V1\n",
+        ProblemFault::TooManyClauses => "formula fault V2\n",
     }
 }
 

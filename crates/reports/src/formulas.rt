@@ -1,7 +1,7 @@
 //! Reports on the formula of all tables of some size, and on its refutations. Each call fails only if
 //! memory was refused.
 
-ghost use Rattle.std.specs.Prelude.{◌≡◌, ◌≤◌, IfOk, IfErr, OnOk};
+ghost use Rattle.std.specs.Prelude.{◌≡◌, ◌≤◌, IfOk, IfErr, OnErr, OnOk};
 ghost use Rattle.win_index.specs.declared.limits.TheConstants.{MAX_ROUNDS};
 ghost use Rattle.reports.specs.Answers.{report_in, IsRefusedBy};
 ghost use Rattle.reports.specs.FormulaReports.{IsFormulaRefusal, IsFormulaReport, IsRefuteReport};
@@ -20,10 +20,12 @@ use std::alloc::Global;
 use table_formula::{Formula, FormulaFault};
 use win_index::{Shape, ShapeFault};
 
-/// Returns the report with the formula of these numbers.
+/// Returns the report with the formula of these numbers. Refused memory never replaces the refusal
+/// of the numbers.
 pub fn formula_report(alloc: Global, numbers: ProblemNumbers) -> Result<Answer, OutOfMemory>
     requires { numbers.rounds ≤ MAX_ROUNDS }
-    ensures { IfOk result (λ r. IsFormulaReport (problem_of numbers) (report_in r)) }
+    ensures report { IfOk result (λ r. IsFormulaReport (problem_of numbers) (report_in r)) }
+    ensures memory { OnErr result (HasFormula (problem_of numbers)) }
 {
     match formula_in(alloc, numbers) {
         Ok(formula) => Ok(Answer::Formula(formula)),
@@ -31,14 +33,16 @@ pub fn formula_report(alloc: Global, numbers: ProblemNumbers) -> Result<Answer, 
     }
 }
 
-/// Returns the report on a text that is to refute the formula of these numbers.
+/// Returns the report on a text that is to refute the formula of these numbers. Refused memory never
+/// replaces the refusal of the numbers.
 pub fn refute_report(
     alloc: Global,
     numbers: ProblemNumbers,
     input: &[u8],
 ) -> Result<Answer, OutOfMemory>
     requires { numbers.rounds ≤ MAX_ROUNDS }
-    ensures { IfOk result (λ r. IsRefuteReport (problem_of numbers) input.now (report_in r)) }
+    ensures report { IfOk result (λ r. IsRefuteReport (problem_of numbers) input.now (report_in r)) }
+    ensures memory { OnErr result (HasFormula (problem_of numbers)) }
 {
     match formula_in(alloc, numbers) {
         Ok(formula) => refute_answer(alloc, numbers, &formula, input),
@@ -73,17 +77,18 @@ fn formula_in(alloc: Global, numbers: ProblemNumbers) -> Result<Formula, Refusal
     ensures formula { IfOk result (λ formula. formula ≡ problem_of numbers) }
     ensures has { OnOk result (HasFormula (problem_of numbers)) }
     ensures refusal { IfErr result (IsRefusedBy (IsFormulaRefusal (problem_of numbers))) }
+    ensures memory { IfErr result (λ refusal. refusal ≡ Refusal.OutOfMemory → HasFormula (problem_of numbers)) }
 {
     match formula_of(alloc, numbers) {
         Ok(formula) => Ok(formula),
         Err(NoFormula::Fault(fault)) => {
-            let line = formula_fault_line(alloc, fault)?;
+            let line = formula_fault_line(fault);
             let cause = Cause::Formula {
                 ids: numbers.ids,
                 rounds: numbers.rounds,
                 fault,
             };
-            let told = Answer::WithCause(line, Status::FormulaRefused, cause);
+            let told = Answer::Fixed(line, Status::FormulaRefused, cause);
             Err(Refusal::Report(told))
         }
         Err(NoFormula::OutOfMemory) => Err(Refusal::OutOfMemory),

@@ -40,6 +40,10 @@ pub fn write_answer<W: Write>(
             send(writer, text.as_bytes())?;
             Ok((status, Some(cause)))
         }
+        Answer::Fixed(text, status, cause) => {
+            send(writer, text.as_bytes())?;
+            Ok((status, Some(cause)))
+        }
         Answer::Table(TableReport { table, separation }) => {
             result_of(write_table(alloc, &table, separation, writer))?;
             Ok((Status::Done, None))
