@@ -34,18 +34,16 @@ pub(crate) fn refuted_line(alloc: Global, numbers: ProblemNumbers) -> Result<Str
     )
 }
 
-// Returns the line of a text that is no refutation, or an empty text for `OutOfMemory`.
-pub(crate) fn refutation_fault_line(alloc: Global, fault: RefuteError) -> Result<String, AllocError>
-    ensures { IfOk result (λ text. string_bytes text ≡ report.refutation_fault_line fault) }
+// Returns the line of a text of a refutation whose line with this number has this fault.
+pub(crate) fn refutation_fault_line(
+    alloc: Global,
+    line: u64,
+    fault: LineFault,
+) -> Result<String, AllocError>
+    ensures { IfOk result (λ text. string_bytes text ≡ report.refutation_fault_line (RefuteError.At line fault)) }
 {
-    match fault {
-        RefuteError::TooLong => String::from_str(alloc, "refutation fault L1\n"),
-        RefuteError::At { line, fault } => {
-            let number = number_of(fault);
-            format!(in alloc; "refutation fault L{number} line {line}\n")
-        }
-        RefuteError::OutOfMemory => Ok(String::new(alloc)),
-    }
+    let number = number_of(fault);
+    format!(in alloc; "refutation fault L{number} line {line}\n")
 }
 
 // Returns the number of a fault of a line.

@@ -1,9 +1,13 @@
 //! Reports on the formula of all tables of some size, and on its refutations. Each call fails only if
 //! memory was refused.
 
-ghost use Rattle.std.specs.Prelude.{◌≡◌, ◌≤◌, IfOk, IfErr, OnErr, OnOk};
+ghost use Rattle.std.specs.Prelude.{◌≡◌, ◌≢◌, ◌≤◌, length, IfOk, IfErr, OnErr, OnOk};
 ghost use Rattle.win_index.specs.declared.limits.TheConstants.{MAX_ROUNDS};
+ghost use Rattle.refutation.specs.declared.limits.TheConstants.{LONGEST_REFUTATION};
 ghost use Rattle.reports.specs.Answers.{report_in, IsRefusedBy};
+ghost use Rattle.reports.specs.Causes.{of_refutation};
+ghost use Rattle.reports.specs.Report.{Refuses};
+ghost use Rattle.reports.specs.FormulaReports as report;
 ghost use Rattle.reports.specs.FormulaReports.{IsFormulaRefusal, IsFormulaReport, IsRefuteReport};
 ghost use Rattle.reports.specs.ProblemFaults.{problem_of, HasFormula, IsNoFormula};
 
@@ -15,7 +19,7 @@ use crate::refusal::Refusal;
 use crate::status::Status;
 use crate::told::ensure_refutation_told;
 use node_program::OutOfMemory;
-use refutation::refute;
+use refutation::{RefuteError, one_refutation_verdict, refute};
 use std::alloc::Global;
 use table_formula::{Formula, FormulaFault};
 use win_index::{Shape, ShapeFault};
@@ -59,15 +63,34 @@ fn refute_answer(
 ) -> Result<Answer, OutOfMemory>
     requires formula { formula.now ≡ problem_of numbers }
     requires has { HasFormula (problem_of numbers) }
-    ensures { IfOk result (λ r. IsRefuteReport (problem_of numbers) input.now (report_in r)) }
+    ensures report { IfOk result (λ r. IsRefuteReport (problem_of numbers) input.now (report_in r)) }
+    ensures memory { OnErr result (length input.now ≤ LONGEST_REFUTATION) }
 {
+    one_refutation_verdict();
     match refute(alloc, formula, input) {
         Ok(()) => Ok(Answer::Text(refuted_line(alloc, numbers)?, Status::Done)),
         Err(fault) => {
             ensure_refutation_told(fault)?;
-            let line = refutation_fault_line(alloc, fault)?;
-            Ok(Answer::WithCause(line, Status::Refused, Cause::Refutation(fault)))
+            fault_answer(alloc, fault)
         }
+    }
+}
+
+// Returns the report on a text that is no refutation, with no line for `OutOfMemory`.
+fn fault_answer(alloc: Global, fault: RefuteError) -> Result<Answer, OutOfMemory>
+    ensures answer { IfOk result (λ r. Refuses (report.refutation_fault_line fault) Status.Refused (of_refutation fault) (report_in r)) }
+    ensures memory { OnErr result (fault ≢ RefuteError.TooLong) }
+{
+    let cause = Cause::Refutation(fault);
+    match fault {
+        RefuteError::TooLong => {
+            Ok(Answer::Fixed("refutation fault L1\n", Status::Refused, cause))
+        }
+        RefuteError::At { line, fault } => {
+            let text = refutation_fault_line(alloc, line, fault)?;
+            Ok(Answer::WithCause(text, Status::Refused, cause))
+        }
+        RefuteError::OutOfMemory => Ok(Answer::Fixed("", Status::Refused, cause)),
     }
 }
 
