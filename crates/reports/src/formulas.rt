@@ -19,7 +19,7 @@ use crate::refusal::Refusal;
 use crate::status::Status;
 use crate::told::ensure_refutation_told;
 use node_program::OutOfMemory;
-use refutation::{RefuteError, one_refutation_verdict, refute};
+use refutation::{RefuteError, refute};
 use std::alloc::Global;
 use table_formula::{Formula, FormulaFault};
 use win_index::{Shape, ShapeFault};
@@ -66,7 +66,6 @@ fn refute_answer(
     ensures report { IfOk result (λ r. IsRefuteReport (problem_of numbers) input.now (report_in r)) }
     ensures memory { OnErr result (length input.now ≤ LONGEST_REFUTATION) }
 {
-    one_refutation_verdict();
     match refute(alloc, formula, input) {
         Ok(()) => Ok(Answer::Text(refuted_line(alloc, numbers)?, Status::Done)),
         Err(fault) => {
