@@ -8,6 +8,7 @@ use Rattle.reports.specs.declared.status.Status.TheVariants.{Done}
 use Rattle.devices.specs.FaultCodes.{engine_fault_code}
 use Rattle.devices.specs.declared.fault.EngineFault.{EngineFault}
 use Rattle.devices.specs.declared.fault.EngineFault.TheVariants.{Write}
+use Rattle.task_words.specs.Answers.{IsParsed}
 use Rattle.task_words.specs.Task.{IsRunnable}
 use Rattle.task_words.specs.WordsFault.{words_fault_code}
 use Rattle.task_words.specs.declared.task.Task.{Task}
@@ -45,7 +46,10 @@ IsStatusAfter (Usage text) status = status ≡ words_fault_code (Usage text)
 IsStatusAfter BadRing status = status ≡ words_fault_code BadRing
 IsStatusAfter OutOfMemory status = status ≡ words_fault_code OutOfMemory
 
--- the status is one after a task that can be done, or after words that give none
+-- the status after words that were parsed: that of a task, or that of the fault
+abbrev pub IsStatusFor : Result Task WordsFault → ℕ → Type 0
+IsStatusFor parsed status = MatchResult parsed (λ task. IsStatusOf task status) (λ fault. IsStatusAfter fault status)
+
+-- the status is one after some words: of a task that they request and that can be done, or of their fault
 abbrev pub IsExitStatus : ℕ → Type 0
-IsExitStatus status =
-    (parsed : Result Task WordsFault) × IfOk parsed IsRunnable × MatchResult parsed (λ task. IsStatusOf task status) (λ fault. IsStatusAfter fault status)
+IsExitStatus status = (parsed : Result Task WordsFault) × IsParsed parsed × IfOk parsed IsRunnable × IsStatusFor parsed status

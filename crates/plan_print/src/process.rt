@@ -1,10 +1,10 @@
 //! The program `nbhd` as a process: it passes its words, its standard input and its standard output
 //! to the engine.
 
-ghost use Rattle.std.specs.Prelude.{◌≡◌, ◌↔◌, false, IsTrue, IfOk, IfErr, IsErrOf, MatchResult};
+ghost use Rattle.std.specs.Prelude.{◌≡◌, ◌↔◌, false, IsTrue, IfOk, IfErr, IsErrOf};
 ghost use Rattle.std.specs.Io.KnownBytes.{Appends};
 ghost use Rattle.devices.specs.Watched.{device_of, has_failed};
-ghost use Rattle.plan_print.specs.ExitCodes.{reported_code, IsAnswerFor, IsStatusOf, IsStatusAfter, IsExitStatus};
+ghost use Rattle.plan_print.specs.ExitCodes.{reported_code, IsAnswerFor, IsStatusFor, IsExitStatus};
 ghost use Rattle.reports.specs.StatusCodes.{answer_code, exit_code};
 ghost use Rattle.task_words.specs.Task.{IsRunnable};
 
@@ -43,17 +43,15 @@ fn status_after<T: AllocGlobal + Env + Input + Print + Eprint + Threads + Wait +
 where
     T::Reader: IsTerminal,
     requires { IfOk parsed IsRunnable }
-    ensures { MatchResult parsed (λ task. IsStatusOf task result) (λ fault. IsStatusAfter fault result) }
+    ensures { IsStatusFor parsed result }
 {
     match parsed {
         Ok(task) => {
             tell_of_terminal(rt, &task);
-            let answer = run_engine(rt, task);
-            let is_unread = matches!(answer, Err(EngineFault::Read));
+            let mut reader = Watched::new(rt.reader());
+            let answer = run_engine(rt, task, &mut reader);
             let status = print_result(rt, answer);
-            if is_unread {
-                tell_of_folder(rt);
-            }
+            tell_of_folder(rt, reader.failure());
             status
         }
         Err(WordsFault::Help(text)) => {
@@ -74,11 +72,9 @@ where
     }
 }
 
-// Says on standard error that the input is a folder, if it is one. It is read once more to know.
-fn tell_of_folder<T: Input + Eprint>(rt: &T) {
-    if let Err(error) = rt.reader().read(&mut [0])
-        && error.kind() == ErrorKind::IsADirectory
-    {
+// Says on standard error that the input is a folder, if a read failed since it is one.
+fn tell_of_folder<T: Eprint>(rt: &T, failure: Option<ErrorKind>) {
+    if failure == Some(ErrorKind::IsADirectory) {
         let _ = eprintln!(rt; "nbhd: the input is a folder, not a text");
     }
 }
@@ -125,15 +121,16 @@ fn write_text<W: Write>(writer: &mut Watched<W>, text: &str) -> Result<Status, E
     Ok(Status::Done)
 }
 
-// Runs the engine for a task on standard input and standard output.
-fn run_engine<T: AllocGlobal + Input + Print + Threads + Wait + Sync>(
+// Runs the engine for a task on this input and standard output.
+fn run_engine<T: AllocGlobal + Print + Threads + Wait + Sync, R: Read>(
     rt: &T,
     task: Task,
+    reader: &mut Watched<R>,
 ) -> Result<Reported, EngineFault>
-    requires { IsRunnable task }
+    requires runnable { IsRunnable task }
+    requires working { has_failed reader.old ≡ false }
     ensures { IsAnswerFor task result }
 {
-    let mut reader = Watched::new(rt.reader());
     let mut writer = Watched::new(io::writer(rt));
-    engine_with_note(rt, rt.alloc(), task, &mut reader, &mut writer)
+    engine_with_note(rt, rt.alloc(), task, reader, &mut writer)
 }
