@@ -93,7 +93,8 @@ pub fn table_reports_are_read_back()
 
 /// If `refute` says that a formula is refuted, no table with at least its number of identifiers, at
 /// most its number of rounds and at most its number of channels keeps its separation, or one that
-/// asks for more.
+/// asks for more; if far is 0 in the formula alone, the table must have identifiers for a ring of
+/// `2t+3` nodes.
 /// So every accepted program with these numbers fails on some ring, and the judge says no.
 pub fn refuted_is_impossible()
     ensures table { law.NoTableIfRefuted }
