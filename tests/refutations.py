@@ -1,6 +1,7 @@
 """Refutations of small formulas, right ones and damaged ones, with what a checker that is written here from docs/LANGUAGE.md finds, and
 those of examples/least: a row has the words, the input, the standard output and the exit status."""
 
+import lzma
 import re
 from functools import cache
 from itertools import permutations
@@ -508,8 +509,9 @@ def kept():
     """The refutations and the tables of examples/least, by the names of their files."""
     for path in sorted(FOLDER.glob("*")):
         problem = [int(re.search(rf"{name}(\d+)", path.name)[1]) for name in ["ids", "rounds", "channels", "near", "far"]]
-        if path.suffix == ".lrat":
-            yield f"refute {formulas.words(*problem)}", path.read_bytes(), refuted(*problem), 0
+        if ".lrat" in path.suffixes:
+            text = lzma.decompress(path.read_bytes()) if path.suffix == ".xz" else path.read_bytes()
+            yield f"refute {formulas.words(*problem)}", text, refuted(*problem), 0
         else:
             ids, rounds, _, _, far = problem
             yield "audit", path.read_bytes(), f"yes: {perm(ids, 2 * rounds + 2 + (far > 0))} tuples\n", 0

@@ -14,5 +14,5 @@ def known():
     for path in sorted((ROOT / "examples/least").iterdir()):
         rounds, ids, channels, near, far = (int(word) for word in NAME.match(path.name).groups())
         found = [row[5:] for row in rows if row[:3] == [rounds, near, far] and row[3] <= ids <= row[4]]
-        is_known = all(channels <= refuted if path.suffix == ".lrat" else least <= channels for refuted, least in found)
+        is_known = all(channels <= refuted if ".lrat" in path.suffixes else least <= channels for refuted, least in found)
         STEPS.check(f"what {path.name} shows", len(found) == 1 and is_known, found)
