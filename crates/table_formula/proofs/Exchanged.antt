@@ -26,7 +26,7 @@ use Rattle.table_formula.specs.Formula.{windows_of, variable_of, variable_count,
 use Rattle.table_formula.specs.Exchanges.{can_exchange, exchanged, mirrored, exchanged_window, exchanged_literal}
 use Rattle.table_formula.specs.Laws.{ExchangesKeepSolutions}
 use Rattle.table_formula.proofs.Clauses.{all_below, some_value}
-use Rattle.table_formula.proofs.Satisfied.{problem_of, value_at}
+use Rattle.table_formula.proofs.Satisfied.{problem_of, same_problem, value_at}
 use Rattle.table_formula.proofs.Models.{two_of_far}
 
 and_true : (a b : Bool) → (a && b) ≡ true → (a ≡ true) × (b ≡ true)
@@ -435,11 +435,4 @@ module _ (suffice : TuplesSuffice) (is_ring : TuplesAreRings) (has_window : Ring
 
   pub kept : ExchangesKeepSolutions
   kept p t x can solution =
-      let same : problem_of t p.channels p.separation ≡ p =
-      λ i. record {
-        ids = solution.ids i;
-        rounds = solution.rounds i;
-        channels = p.channels;
-        separation = p.separation;
-      } in
-      subst (Keeps t) same (keeps t p.channels p.separation solution.table solution.channels solution.apart) x can
+      subst (Keeps t) (same_problem p t solution) (keeps t p.channels p.separation solution.table solution.channels solution.apart) x can

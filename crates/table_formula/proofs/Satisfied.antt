@@ -15,7 +15,7 @@ use Rattle.bad_tuples.specs.Apart.{extra, tuples, AreClose, IsBad, IsApart, IsAp
 use Rattle.bad_tuples.specs.Laws.{TuplesSuffice}
 use Rattle.clause_check.specs.Clauses.{is_same_value, is_true_literal, Holds}
 use Rattle.table_formula.specs.declared.conflict.Conflict.{Conflict}
-use Rattle.table_formula.specs.Problems.{Problem}
+use Rattle.table_formula.specs.Problems.{Problem, IsSolution}
 use Rattle.table_formula.specs.Formula.{windows_of, tuples_of, variable_of, values_of, has_channel, lacks_channel, some_channel, is_close, close_to, close_pairs, conflicts_of, window_in, not_both, not_too_close, formula}
 use Rattle.table_formula.specs.Laws.{SolutionsSatisfy}
 use Rattle.table_formula.proofs.Clauses.{all_flat, all_kept, all_below, some_value, any_map, any_in_range}
@@ -84,6 +84,15 @@ pair_holds p t v w c d c_below d_below other =
 -- the problem of a table's shape
 abbrev pub problem_of : ChannelTable → ℕ → Separation → Problem
 problem_of t channels s = record { ids = t.ids; rounds = t.rounds; channels = channels; separation = s }
+
+-- a table that is asked for has the problem's shape
+pub same_problem : (p : Problem) (t : ChannelTable) → IsSolution p t → problem_of t p.channels p.separation ≡ p
+same_problem p t solution = λ i. record {
+  ids = solution.ids i;
+  rounds = solution.rounds i;
+  channels = p.channels;
+  separation = p.separation;
+}
 
 module _ (suffice : TuplesSuffice) (is_ring : TuplesAreRings) (has_window : RingsHaveWindows)
     (has_number : WindowsHaveNumbers)
@@ -172,12 +181,5 @@ module _ (suffice : TuplesSuffice) (is_ring : TuplesAreRings) (has_window : Ring
 
   pub satisfied : SolutionsSatisfy
   satisfied p t solution =
-      let same : problem_of t p.channels p.separation ≡ p =
-      λ i. record {
-        ids = solution.ids i;
-        rounds = solution.rounds i;
-        channels = p.channels;
-        separation = p.separation;
-      } in
-      subst (λ (q : Problem). All (Holds (values_of q t)) (formula q)) same
+      subst (λ (q : Problem). All (Holds (values_of q t)) (formula q)) (same_problem p t solution)
       (table_holds t p.channels p.separation solution.table solution.channels solution.apart)

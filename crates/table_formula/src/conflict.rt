@@ -16,8 +16,8 @@ pub struct Conflict {
     pub second: u32,
 }
 
-// Returns the pairs of channels below `channels` that the separation forbids, of which there are at
-// most `MAX_CLAUSES`.
+// Returns the pairs of channels below `channels` that the separation forbids, at most `MAX_CLAUSES`
+// pairs.
 pub(crate) fn conflicts_in(
     alloc: Global,
     channels: u32,
