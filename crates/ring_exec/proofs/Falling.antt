@@ -21,7 +21,7 @@ in_order_front index all rest w is order = (
   order (length rest) w (ap (λ l. slice_get l (length rest)) is ∙ slice_get-append_right rest (w ∷ []) (length rest) 0 (omega arith)),
 )
 
--- the segments that were joined so far, when so many of all threads are left
+-- the segments joined so far, with `left` of `all` threads still to be joined
 pub record AreJoined (before : Joined) (all left : ℕ) (now : Joined) : Type 0 where
   pub no_fault : before.fault ≡ None
   pub more : List RingSegment
