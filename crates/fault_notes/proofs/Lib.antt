@@ -1,9 +1,4 @@
 pub mod Joined
 pub mod Causes
 pub mod Shapes
-pub mod Appended
-pub mod Reached
-pub mod Following
-pub mod Prefix
-pub mod Clean
 pub mod MostIds

@@ -10,6 +10,3 @@ pub mod RingNotes
 pub mod VerdictNotes
 pub mod TableSizes
 pub mod TableNotes
-pub mod Wanted
-pub mod Probes
-pub mod Laws

@@ -1,13 +1,12 @@
 -- The note on a fault of a program text.
-use Rattle.std.specs.Prelude.{◌≡◌, ℕ, ◌++◌, List, [], ◌∷◌, take, drop, codes, Option, IfSome, IfNone}
+use Rattle.std.specs.Prelude.{◌≡◌, ℕ, ◌++◌, List, [], ◌∷◌, drop, codes, Option}
 use Rattle.std.specs.Fmt.{decimal}
 use Rattle.node_lang.specs.declared.fault.FaultKind.{FaultKind}
 use Rattle.node_lang.specs.declared.fault.FaultKind.TheVariants as kind
-use Rattle.node_lang.specs.Lexemes.{tokens_of}
+use Rattle.node_lang.specs.declared.expected.Expected.{Expected}
+use Rattle.node_lang.specs.Following.{IsExpected}
 use Rattle.source_places.specs.Places.{line_number, column}
 use Rattle.source_places.specs.Shown.{shown, marked_line}
-use Rattle.fault_notes.specs.declared.wanted.Wanted.{Wanted}
-use Rattle.fault_notes.specs.Wanted.{IsWanted, SaysNothing}
 use Rattle.fault_notes.specs.Words.{wanted_part, first_word}
 
 -- the start of a note on a place of a text
@@ -20,7 +19,7 @@ abbrev pub quoted : List ℕ → List ℕ
 quoted word = codes "`" ++ (shown word ++ codes "`")
 
 -- The cause at a place, from the word there and what can follow there. A text that is too long has no such place.
-abbrev pub cause_of : FaultKind → List ℕ → Option Wanted → List ℕ
+abbrev pub cause_of : FaultKind → List ℕ → Option Expected → List ℕ
 cause_of kind.TooLong word w = []
 cause_of kind.NotAscii word w = codes "a byte over 127; a program text is ASCII, in its comments too"
 cause_of kind.BadWord word w = codes "unknown word " ++ quoted word
@@ -33,13 +32,10 @@ cause_of kind.TooManyNodes word w = codes "the expressions of a program have at 
 cause_of kind.EndOfText word w = codes "unexpected end of the text" ++ wanted_part w
 cause_of kind.OutOfMemory word w = []
 
--- The note on this fault has its place and its cause, with what can follow the text before the place, perhaps followed
--- by advice. Unless the note says what can follow, the text before is faulty itself or too long.
+-- The note on this fault has its place and its cause, with what is expected there, perhaps followed by advice.
 pub record IsTextNote (text : List ℕ) (k : FaultKind) (offset : ℕ) (note : List ℕ) : Type 0 where
-  pub wanted : Option Wanted
-  pub exact : IfSome wanted (IsWanted (tokens_of (take offset text)))
-  pub silent : (k ≡ kind.Unexpected) → IfNone wanted (SaysNothing (take offset text))
-  pub silent_at_end : (k ≡ kind.EndOfText) → IfNone wanted (SaysNothing (take offset text))
+  pub wanted : Option Expected
+  pub is_wanted : IsExpected text k offset wanted
   pub advice : List ℕ
   pub is : note ≡ place_head text offset
       ++ (cause_of k (first_word (drop offset text)) wanted ++ (advice ++ 10 ∷ marked_line text offset))

@@ -2,25 +2,39 @@
 use Rattle.std.specs.Prelude.{ℕ, ◌==◌, ◌++◌, List, [], take, codes, Option, Some, None, if◌then◌else◌}
 use Rattle.std.specs.List.{prefix_len}
 use Rattle.std.specs.Fmt.{decimal}
-use Rattle.node_lang.specs.Words.{is_word_byte, word_of}
-use Rattle.fault_notes.specs.declared.wanted.Wanted.{Wanted}
-use Rattle.fault_notes.specs.declared.wanted.Wanted.TheVariants as wanted
-use Rattle.fault_notes.specs.Wanted.{probe_of}
+use Rattle.node_lang.specs.Words.{is_word_byte}
+use Rattle.node_lang.specs.declared.expected.Expected.{Expected}
+use Rattle.node_lang.specs.declared.expected.Expected.TheVariants as expected
+use Rattle.node_lang.specs.declared.token.Token.{Token}
+use Rattle.node_lang.specs.declared.token.Token.TheVariants as token
 
--- the text for what can follow; for a word it is its spelling
-abbrev pub wanted_text : Wanted → List ℕ
-wanted_text wanted.Open = codes "`(`"
-wanted_text wanted.Close = codes "`)`"
-wanted_text wanted.Comma = codes "`,`"
-wanted_text wanted.Equals = codes "`=`"
-wanted_text (wanted.Register j) = codes "the assignment of r" ++ decimal j
-wanted_text wanted.Number = codes "a number"
-wanted_text wanted.Expression = codes "an expression"
-wanted_text wanted.End = codes "the end of the text"
-wanted_text w = codes "`" ++ word_of (probe_of w) ++ codes "`"
+-- the text for a word or a mark
+abbrev pub spelled : Token → List ℕ
+spelled token.Rounds = codes "`rounds`"
+spelled token.Channels = codes "`channels`"
+spelled token.Registers = codes "`registers`"
+spelled token.Start = codes "`start`"
+spelled token.Round = codes "`round`"
+spelled token.Send = codes "`send`"
+spelled token.Left = codes "`left`"
+spelled token.Right = codes "`right`"
+spelled token.Finish = codes "`finish`"
+spelled token.Open = codes "`(`"
+spelled token.Close = codes "`)`"
+spelled token.Comma = codes "`,`"
+spelled token.Equals = codes "`=`"
+spelled _ = []
+
+-- the text for what can follow
+abbrev pub wanted_text : Expected → List ℕ
+wanted_text (expected.This (token.Register j)) = codes "the assignment of r" ++ decimal j
+wanted_text (expected.This t) = spelled t
+wanted_text expected.Number = codes "a number"
+wanted_text expected.Expression = codes "an expression"
+wanted_text expected.End = codes "the end of the text"
 
 -- the part of a note for what can follow, if it is known
-abbrev pub wanted_part : Option Wanted → List ℕ
+abbrev pub wanted_part : Option Expected → List ℕ
 wanted_part None = []
 wanted_part (Some w) = codes "; expected " ++ wanted_text w
 

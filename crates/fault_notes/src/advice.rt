@@ -3,8 +3,8 @@
 
 use crate::operands::{is_operation, operands_advice};
 use crate::signs::{comment_advice, mark_advice};
-use crate::wanted::Wanted;
 use crate::words::{advice_in, is_word_byte};
+use node_lang::{Expected, Token};
 
 const INFIX: &str = "; an operation is written before its operands, as in `add(a, b)`";
 
@@ -91,7 +91,7 @@ const WORDS: [(&[u8], &str); 31] = [
 
 // Returns advice on a word or a mark that is not of the language, with which `rest` begins, at a
 // place where `wanted` can follow.
-pub(crate) fn word_advice(word: &[u8], rest: &[u8], wanted: Option<Wanted>) -> &'static str {
+pub(crate) fn word_advice(word: &[u8], rest: &[u8], wanted: Option<Expected>) -> &'static str {
     match word {
         [byte] if !is_word_byte(*byte) => mark_advice(rest, wanted),
         _ => match wanted {
@@ -102,46 +102,48 @@ pub(crate) fn word_advice(word: &[u8], rest: &[u8], wanted: Option<Wanted>) -> &
 }
 
 // Returns advice on letters and digits that are no word of the language.
-fn letters_advice(word: &[u8], rest: &[u8], wanted: Wanted) -> &'static str {
+fn letters_advice(word: &[u8], rest: &[u8], wanted: Expected) -> &'static str {
     match wanted {
-        Wanted::Number
-        | Wanted::Channels
-        | Wanted::Registers
-        | Wanted::Start
-        | Wanted::Equals
-        | Wanted::Open => missing_word(wanted),
-        Wanted::Left | Wanted::Right if !matches!(word, b"both" | b"all") => missing_word(wanted),
-        Wanted::Rounds if rest.starts_with(b"p cnf") => "; this is a formula for a solver",
+        Expected::Number
+        | Expected::This(Token::Channels)
+        | Expected::This(Token::Registers)
+        | Expected::This(Token::Start)
+        | Expected::This(Token::Equals)
+        | Expected::This(Token::Open) => missing_word(wanted),
+        Expected::This(Token::Left) | Expected::This(Token::Right)
+            if !matches!(word, b"both" | b"all") => missing_word(wanted),
+        Expected::This(Token::Rounds) if rest.starts_with(b"p cnf") =>
+            "; this is a formula for a solver",
         _ => advice_in(&WORDS, word).unwrap_or(unknown_advice(word, wanted)),
     }
 }
 
 // Returns advice on letters and digits of which nothing is known.
-fn unknown_advice(word: &[u8], wanted: Wanted) -> &'static str {
+fn unknown_advice(word: &[u8], wanted: Expected) -> &'static str {
     match wanted {
-        Wanted::Expression | Wanted::Register(_) => spelling_advice(word),
-        Wanted::Comma => "; operands are separated by commas",
-        Wanted::Close => OPEN,
+        Expected::Expression | Expected::This(Token::Register(_)) => spelling_advice(word),
+        Expected::This(Token::Comma) => "; operands are separated by commas",
+        Expected::This(Token::Close) => OPEN,
         _ => missing_word(wanted),
     }
 }
 
 // Returns advice that names the word that can follow.
-fn missing_word(wanted: Wanted) -> &'static str {
+fn missing_word(wanted: Expected) -> &'static str {
     match wanted {
-        Wanted::Rounds => "; a program begins with `rounds`",
-        Wanted::Channels => "; expected `channels`",
-        Wanted::Registers => "; expected `registers`",
-        Wanted::Start => "; expected `start`",
-        Wanted::Round => "; expected `round`",
-        Wanted::Send => "; expected `send`",
-        Wanted::Left => "; expected `left`",
-        Wanted::Right => "; expected `right`",
-        Wanted::Finish => "; expected `finish`",
-        Wanted::Open => BRACKETED,
-        Wanted::Equals => ASSIGNED,
-        Wanted::Number => DIGITS,
-        Wanted::End => ENDED,
+        Expected::This(Token::Rounds) => "; a program begins with `rounds`",
+        Expected::This(Token::Channels) => "; expected `channels`",
+        Expected::This(Token::Registers) => "; expected `registers`",
+        Expected::This(Token::Start) => "; expected `start`",
+        Expected::This(Token::Round) => "; expected `round`",
+        Expected::This(Token::Send) => "; expected `send`",
+        Expected::This(Token::Left) => "; expected `left`",
+        Expected::This(Token::Right) => "; expected `right`",
+        Expected::This(Token::Finish) => "; expected `finish`",
+        Expected::This(Token::Open) => BRACKETED,
+        Expected::This(Token::Equals) => ASSIGNED,
+        Expected::Number => DIGITS,
+        Expected::End => ENDED,
         _ => "",
     }
 }
@@ -162,7 +164,7 @@ pub(crate) fn place_advice(
     before: &[u8],
     word: &[u8],
     rest: &[u8],
-    wanted: Wanted,
+    wanted: Expected,
 ) -> &'static str {
     match word {
         b"=" => equals_advice(rest, wanted),
@@ -175,31 +177,32 @@ pub(crate) fn place_advice(
 }
 
 // Returns advice on a `=` at a place where `wanted` can follow.
-fn equals_advice(rest: &[u8], wanted: Wanted) -> &'static str {
+fn equals_advice(rest: &[u8], wanted: Expected) -> &'static str {
     match wanted {
-        Wanted::Comma | Wanted::Close => "; write `eq(a, b)` to compare",
+        Expected::This(Token::Comma) | Expected::This(Token::Close) =>
+            "; write `eq(a, b)` to compare",
         _ if rest.starts_with(b"==") => "; write `eq(a, b)` to compare",
         _ => "; `=` is only written after the register of an assignment",
     }
 }
 
 // Returns advice on a `(` at a place where `wanted` can follow.
-fn open_advice(rest: &[u8], wanted: Wanted) -> &'static str {
+fn open_advice(rest: &[u8], wanted: Expected) -> &'static str {
     match wanted {
-        Wanted::Rounds => comment_advice(rest),
-        Wanted::Expression => "; an expression has no brackets around it",
-        Wanted::Number => "; write a number in digits, without brackets",
-        Wanted::Left => "; write `send left ..`, without brackets",
-        Wanted::Right => "; write `send right ..`, without brackets",
+        Expected::This(Token::Rounds) => comment_advice(rest),
+        Expected::Expression => "; an expression has no brackets around it",
+        Expected::Number => "; write a number in digits, without brackets",
+        Expected::This(Token::Left) => "; write `send left ..`, without brackets",
+        Expected::This(Token::Right) => "; write `send right ..`, without brackets",
         _ => "; no brackets are allowed here",
     }
 }
 
 // Returns advice on a `)` after a text, at a place where `wanted` can follow.
-fn close_advice(before: &[u8], wanted: Wanted) -> &'static str {
+fn close_advice(before: &[u8], wanted: Expected) -> &'static str {
     let advice = operands_advice(before);
     match wanted {
-        Wanted::Open => BRACKETED,
+        Expected::This(Token::Open) => BRACKETED,
         _ if advice.is_empty() => "; this bracket closes nothing",
         _ => advice,
     }
@@ -215,53 +218,58 @@ fn comma_advice(before: &[u8]) -> &'static str {
 }
 
 // Returns advice on the name of an operation after a text, at a place where `wanted` can follow.
-fn operation_advice(before: &[u8], wanted: Wanted) -> &'static str {
+fn operation_advice(before: &[u8], wanted: Expected) -> &'static str {
     match wanted {
-        Wanted::Comma
-        | Wanted::Close
-        | Wanted::Round
-        | Wanted::Send
-        | Wanted::Right
-        | Wanted::Register(_)
-        | Wanted::Finish
-        | Wanted::End => INFIX,
+        Expected::This(Token::Comma)
+        | Expected::This(Token::Close)
+        | Expected::This(Token::Round)
+        | Expected::This(Token::Send)
+        | Expected::This(Token::Right)
+        | Expected::This(Token::Register(_))
+        | Expected::This(Token::Finish)
+        | Expected::End => INFIX,
         _ => known_advice(before, b"", wanted),
     }
 }
 
 // Returns advice on another word that cannot follow the text before it.
-fn known_advice(before: &[u8], word: &[u8], wanted: Wanted) -> &'static str {
+fn known_advice(before: &[u8], word: &[u8], wanted: Expected) -> &'static str {
     match wanted {
-        Wanted::Comma => operands_advice(before),
-        Wanted::Close => OPEN,
-        Wanted::Rounds if matches!(word, [b'0'..=b'9', ..]) => {
+        Expected::This(Token::Comma) => operands_advice(before),
+        Expected::This(Token::Close) => OPEN,
+        Expected::This(Token::Rounds) if matches!(word, [b'0'..=b'9', ..]) => {
             "; leave out the numbers of the lines"
         }
-        Wanted::Finish if matches!(word, b"round") => ROUNDS,
+        Expected::This(Token::Finish) if matches!(word, b"round") => ROUNDS,
         _ => wanted_advice(wanted),
     }
 }
 
 // Returns advice on the words that can follow at a place.
-fn wanted_advice(wanted: Wanted) -> &'static str {
+fn wanted_advice(wanted: Expected) -> &'static str {
     match wanted {
-        Wanted::Rounds | Wanted::Channels | Wanted::Registers => {
+        Expected::This(Token::Rounds)
+        | Expected::This(Token::Channels)
+        | Expected::This(Token::Registers) => {
             "; a program begins with `rounds`, `channels` and `registers`"
         }
-        Wanted::Send => "; a round begins with `send left` and `send right`",
-        Wanted::Left => "; `send left` comes first, then `send right`",
-        Wanted::Right => "; `send left` is followed by `send right`",
-        Wanted::Register(_) => "; each register is assigned, in order",
-        Wanted::Round => ROUNDS,
-        Wanted::Finish => "; each register is assigned once, then comes `finish`",
-        Wanted::Expression => "; an expression is missing here",
-        Wanted::Open | Wanted::Equals | Wanted::Number | Wanted::End => missing_word(wanted),
+        Expected::This(Token::Send) => "; a round begins with `send left` and `send right`",
+        Expected::This(Token::Left) => "; `send left` comes first, then `send right`",
+        Expected::This(Token::Right) => "; `send left` is followed by `send right`",
+        Expected::This(Token::Register(_)) => "; each register is assigned, in order",
+        Expected::This(Token::Round) => ROUNDS,
+        Expected::This(Token::Finish) => "; each register is assigned once, then comes `finish`",
+        Expected::Expression => "; an expression is missing here",
+        Expected::This(Token::Open)
+        | Expected::This(Token::Equals)
+        | Expected::Number
+        | Expected::End => missing_word(wanted),
         _ => "",
     }
 }
 
 // Returns advice on a text that ends where `wanted` can follow.
-pub(crate) fn end_advice(text: &[u8], wanted: Option<Wanted>) -> &'static str {
+pub(crate) fn end_advice(text: &[u8], wanted: Option<Expected>) -> &'static str {
     if text.is_empty() {
         return "; the text is empty, so no file was given";
     }
@@ -269,7 +277,7 @@ pub(crate) fn end_advice(text: &[u8], wanted: Option<Wanted>) -> &'static str {
         return "; a comment goes up to a line feed, and this text has none";
     }
     match wanted {
-        Some(Wanted::Rounds) => "; the text has only blanks and comments",
+        Some(Expected::This(Token::Rounds)) => "; the text has only blanks and comments",
         _ => "",
     }
 }

@@ -4,11 +4,9 @@
 mod advice;
 mod bounds;
 mod headers;
-mod laws;
 mod numbers;
 mod operands;
 mod placed;
-mod probe;
 mod programs;
 mod rings;
 mod scanning;
@@ -17,14 +15,10 @@ mod sizes;
 mod tables;
 mod texts;
 mod verdicts;
-mod wanted;
 mod words;
 
-pub use laws::faults_have_wanted;
-pub use probe::wanted_after;
 pub use programs::{check_note, ids_note};
 pub use rings::{place_note, ring_note, segments_note};
 pub use tables::{channel_note, form_note, long_note, window_note};
 pub use texts::text_note;
 pub use verdicts::{no_tuples_note, verdict_note};
-pub use wanted::Wanted;

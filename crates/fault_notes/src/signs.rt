@@ -1,7 +1,7 @@
 //! Advice on marks and bytes of other languages and of other files.
 
-use crate::wanted::Wanted;
 use crate::words::advice_at_start;
+use node_lang::{Expected, Token};
 
 const COMMENT: &str = "; a comment begins with `#`";
 
@@ -185,7 +185,7 @@ const BYTES: [(&[u8], &str); 19] = [
 
 // Returns advice on the mark with which a text begins that is not of the language, at a place where
 // `wanted` can follow.
-pub(crate) fn mark_advice(rest: &[u8], wanted: Option<Wanted>) -> &'static str {
+pub(crate) fn mark_advice(rest: &[u8], wanted: Option<Expected>) -> &'static str {
     match (rest, placed_advice(rest, wanted)) {
         ([0..=31 | 127, ..], _) => "; this byte does not belong in a text",
         ([b'.', b'0'..=b'9', ..], _) => WHOLE,
@@ -195,14 +195,17 @@ pub(crate) fn mark_advice(rest: &[u8], wanted: Option<Wanted>) -> &'static str {
 }
 
 // Returns the advice on a mark that it has at this place alone.
-fn placed_advice(rest: &[u8], wanted: Option<Wanted>) -> Option<&'static str> {
+fn placed_advice(rest: &[u8], wanted: Option<Expected>) -> Option<&'static str> {
     match wanted? {
-        Wanted::Rounds => advice_at_start(&FIRST, rest),
-        Wanted::Number => advice_at_start(&BEFORE_NUMBERS, rest),
-        Wanted::Expression => advice_at_start(&BEFORE_EXPRESSIONS, rest),
-        Wanted::Comma | Wanted::Close => advice_at_start(&BETWEEN_OPERANDS, rest),
-        Wanted::Open => advice_at_start(&BEFORE_OPERANDS, rest),
-        Wanted::Equals => advice_at_start(&ASSIGNMENTS, rest),
+        Expected::This(Token::Rounds) => advice_at_start(&FIRST, rest),
+        Expected::Number => advice_at_start(&BEFORE_NUMBERS, rest),
+        Expected::Expression => advice_at_start(&BEFORE_EXPRESSIONS, rest),
+        Expected::This(Token::Comma) | Expected::This(Token::Close) => advice_at_start(
+            &BETWEEN_OPERANDS,
+            rest,
+        ),
+        Expected::This(Token::Open) => advice_at_start(&BEFORE_OPERANDS, rest),
+        Expected::This(Token::Equals) => advice_at_start(&ASSIGNMENTS, rest),
         _ => None,
     }
 }

@@ -2,18 +2,16 @@
 
 ghost use Rattle.fault_notes.specs.Words.{wanted_part, first_word as word};
 ghost use Rattle.std.specs.Prelude.{◌≡◌, ◌≢◌, ◌≤◌, ◌++◌, codes, ℕ, List, ◌∷◌, Option, length, take, drop, IfOk, IfSome, IfNone, OnOk, string_bytes};
-ghost use Rattle.node_lang.specs.Lexemes.{tokens_of};
 ghost use Rattle.node_lang.specs.declared.fault.FaultKind.TheVariants as kind;
-ghost use Rattle.fault_notes.specs.Wanted.{IsWanted, SaysNothing};
+ghost use Rattle.node_lang.specs.declared.expected.Expected.{Expected};
+ghost use Rattle.node_lang.specs.Faults.{FaultsAt};
 ghost use Rattle.source_places.specs.Shown.{marked_line};
 ghost use Rattle.fault_notes.specs.TextNotes.{place_head, quoted, cause_of, IsTextNote, too_long_note};
 
 use crate::advice::{end_advice, place_advice, word_advice};
-use crate::probe::wanted_after;
 use crate::signs::byte_advice;
-use crate::wanted::Wanted;
 use crate::words::{first_word, write_wanted_part};
-use node_lang::{FaultKind, TextFault};
+use node_lang::{Expected, FaultKind, TextFault, expected_in};
 use node_program::OutOfMemory;
 use source_places::{column_of, line_of, write_marked_line, write_shown};
 use std::alloc::{AllocError, Global};
@@ -23,14 +21,15 @@ use std::fmt::Write;
 /// follow there, advice, and the line with a mark below the place. The note on a text that is too
 /// long has no place. Fails if memory was refused.
 pub fn text_note(alloc: Global, text: &[u8], fault: TextFault) -> Result<String, OutOfMemory>
-    requires { fault.offset ≤ length text.now }
+    requires within { fault.offset ≤ length text.now }
     ensures too_long { fault.kind ≡ kind.TooLong → IfOk result (λ note. string_bytes note ≡ too_long_note) }
-    ensures note { fault.kind ≢ kind.TooLong → IfOk result (λ note. IsTextNote text.now fault.kind fault.offset (string_bytes note)) }
+    ensures note { fault.kind ≢ kind.TooLong → FaultsAt text.now fault.kind fault.offset
+        → IfOk result (λ note. IsTextNote text.now fault.kind fault.offset (string_bytes note)) }
 {
     if fault.kind == FaultKind::TooLong {
         return Ok(format!(in alloc; "nbhd: a program text has at most 65536 bytes\n")?);
     }
-    let wanted = wanted_at(alloc, text, fault)?;
+    let wanted = expected_in(alloc, text)?;
     let mut note = String::new(alloc);
     write_note(&mut note, text, fault, wanted)?;
     Ok(note)
@@ -41,7 +40,7 @@ fn write_note(
     out: &mut String,
     text: &[u8],
     fault: TextFault,
-    wanted: Option<Wanted>,
+    wanted: Option<Expected>,
 ) -> Result<(), AllocError>
     requires { fault.offset ≤ length text.now }
     ensures { OnOk result ((advice : List ℕ) × (string_bytes out.new ≡ string_bytes out.old ++ (place_head text.now fault.offset
@@ -62,19 +61,6 @@ fn word_at(text: &[u8], offset: usize) -> &[u8]
     ensures { result.now ≡ word (drop offset text.entry.now) }
 {
     first_word(&text[offset..])
-}
-
-// Returns what can follow at the place of a fault, `None` for a byte above 127.
-fn wanted_at(alloc: Global, text: &[u8], fault: TextFault) -> Result<Option<Wanted>, OutOfMemory>
-    requires { fault.offset ≤ length text.now }
-    ensures exact { IfOk result (λ found. IfSome found (IsWanted (tokens_of (take fault.offset text.now)))) }
-    ensures silent { IfOk result (λ found. fault.kind ≡ kind.Unexpected → IfNone found (SaysNothing (take fault.offset text.now))) }
-    ensures silent_at_end { IfOk result (λ found. fault.kind ≡ kind.EndOfText → IfNone found (SaysNothing (take fault.offset text.now))) }
-{
-    if fault.kind == FaultKind::NotAscii {
-        return Ok(None);
-    }
-    wanted_after(alloc, &text[..fault.offset])
 }
 
 // Writes the line and the column of an offset.
@@ -101,7 +87,7 @@ fn fixed_cause(fault: FaultKind) -> &'static str
     requires no_word { fault ≢ kind.BadWord }
     requires no_place { fault ≢ kind.Unexpected }
     requires no_end { fault ≢ kind.EndOfText }
-    ensures { (word : List ℕ) (wanted : Option Wanted) → result.now ≡ cause_of fault word wanted }
+    ensures { (word : List ℕ) (wanted : Option Expected) → result.now ≡ cause_of fault word wanted }
 {
     match fault {
         FaultKind::NotAscii => "a byte over 127; a program text is ASCII, in its comments too",
@@ -123,7 +109,7 @@ fn write_cause(
     out: &mut String,
     fault: FaultKind,
     word: &[u8],
-    wanted: Option<Wanted>,
+    wanted: Option<Expected>,
 ) -> Result<(), AllocError>
     ensures { OnOk result (string_bytes out.new ≡ string_bytes out.old ++ cause_of fault word.now wanted) }
 {
@@ -142,7 +128,11 @@ fn write_cause(
 }
 
 // Writes that a word is not expected at its place.
-fn write_unexpected(out: &mut String, word: &[u8], wanted: Option<Wanted>) -> Result<(), AllocError>
+fn write_unexpected(
+    out: &mut String,
+    word: &[u8],
+    wanted: Option<Expected>,
+) -> Result<(), AllocError>
     ensures { OnOk result (string_bytes out.new ≡ string_bytes out.old ++ (codes "unexpected " ++ (quoted word.now ++ wanted_part wanted))) }
 {
     out.push_str("unexpected ")?;
@@ -151,7 +141,7 @@ fn write_unexpected(out: &mut String, word: &[u8], wanted: Option<Wanted>) -> Re
 }
 
 // Returns advice, or an empty text.
-fn advice_on(text: &[u8], fault: TextFault, word: &[u8], wanted: Option<Wanted>) -> &'static str
+fn advice_on(text: &[u8], fault: TextFault, word: &[u8], wanted: Option<Expected>) -> &'static str
     requires { fault.offset ≤ length text.now }
 {
     let (before, rest) = text.split_at(fault.offset);

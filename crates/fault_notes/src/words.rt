@@ -1,11 +1,11 @@
 //! The texts of notes for the word at a place, and for what can follow there.
 
-ghost use Rattle.std.specs.Prelude.{◌≡◌, ◌≢◌, ◌==◌, not, ℕ, ◌≤◌, ◌++◌, length, OnOk, string_bytes};
+ghost use Rattle.std.specs.Prelude.{◌≡◌, ◌==◌, not, ◌≤◌, ◌++◌, length, OnOk, string_bytes};
 ghost use Rattle.std.specs.List.{prefix_len};
 ghost use Rattle.node_lang.specs.Words.{is_word_byte as word_byte};
-ghost use Rattle.fault_notes.specs.Words.{wanted_text, wanted_part, first_word as first};
+ghost use Rattle.fault_notes.specs.Words.{spelled, wanted_text, wanted_part, first_word as first};
 
-use crate::wanted::Wanted;
+use node_lang::{Expected, Token};
 use source_places::first_of;
 use std::alloc::AllocError;
 use std::fmt::Write;
@@ -80,44 +80,46 @@ pub(crate) fn advice_at_start(
     None
 }
 
-// Returns the text for what can follow, if it is not the assignment of a register.
-fn fixed_text(wanted: Wanted) -> &'static str
-    requires { (register : ℕ) → wanted ≢ Wanted.Register register }
-    ensures { result.now ≡ wanted_text wanted }
+// Returns the text for a word or a mark that can follow.
+fn token_text(token: Token) -> &'static str
+    ensures { result.now ≡ spelled token }
 {
-    match wanted {
-        Wanted::Rounds => "`rounds`",
-        Wanted::Channels => "`channels`",
-        Wanted::Registers => "`registers`",
-        Wanted::Start => "`start`",
-        Wanted::Round => "`round`",
-        Wanted::Send => "`send`",
-        Wanted::Left => "`left`",
-        Wanted::Right => "`right`",
-        Wanted::Finish => "`finish`",
-        Wanted::Open => "`(`",
-        Wanted::Close => "`)`",
-        Wanted::Comma => "`,`",
-        Wanted::Equals => "`=`",
-        Wanted::Register(_) => unreachable!(),
-        Wanted::Number => "a number",
-        Wanted::Expression => "an expression",
-        Wanted::End => "the end of the text",
+    match token {
+        Token::Rounds => "`rounds`",
+        Token::Channels => "`channels`",
+        Token::Registers => "`registers`",
+        Token::Start => "`start`",
+        Token::Round => "`round`",
+        Token::Send => "`send`",
+        Token::Left => "`left`",
+        Token::Right => "`right`",
+        Token::Finish => "`finish`",
+        Token::Open => "`(`",
+        Token::Close => "`)`",
+        Token::Comma => "`,`",
+        Token::Equals => "`=`",
+        _ => "",
     }
 }
 
 // Writes the text for what can follow.
-fn write_wanted(out: &mut String, wanted: Wanted) -> Result<(), AllocError>
+fn write_wanted(out: &mut String, wanted: Expected) -> Result<(), AllocError>
     ensures { OnOk result (string_bytes out.new ≡ string_bytes out.old ++ wanted_text wanted) }
 {
     match wanted {
-        Wanted::Register(register) => write!(out, "the assignment of r{register}"),
-        _ => out.push_str(fixed_text(wanted)),
+        Expected::This(Token::Register(register)) => write!(out, "the assignment of r{register}"),
+        Expected::This(token) => out.push_str(token_text(token)),
+        Expected::Number => out.push_str("a number"),
+        Expected::Expression => out.push_str("an expression"),
+        Expected::End => out.push_str("the end of the text"),
     }
 }
 
 // Writes the part of a note for what can follow, if it is known.
-pub(crate) fn write_wanted_part(out: &mut String, wanted: Option<Wanted>) -> Result<(), AllocError>
+pub(crate) fn write_wanted_part(
+    out: &mut String,
+    wanted: Option<Expected>,
+) -> Result<(), AllocError>
     ensures { OnOk result (string_bytes out.new ≡ string_bytes out.old ++ wanted_part wanted) }
 {
     let Some(wanted) = wanted else {

@@ -8,9 +8,10 @@ use Rattle.std.proofs.lemmas.List.{length-take-le, get_or-take}
 use Rattle.std.proofs.lemmas.List.Sums.{sum_by-append}
 use Rattle.node_program.specs.declared.limits.TheConstants.{MAX_DEPTH, MAX_NODES}
 use Rattle.node_lang.specs.declared.limits.TheConstants.{LONGEST_TEXT}
+use Rattle.node_lang.specs.declared.expected.Expected.{Expected}
 use Rattle.node_lang.specs.declared.fault.FaultKind.{FaultKind}
 use Rattle.node_lang.specs.declared.fault.FaultKind.TheVariants as kind
-use Rattle.node_lang.specs.declared.fault.TextFault.{TextFault}
+use Rattle.node_lang.specs.declared.fault.Stop.{Stop}
 use Rattle.node_lang.specs.declared.parser.Parser.{Parser}
 use Rattle.node_lang.specs.declared.token.Token.{Token}
 use Rattle.node_lang.specs.declared.token.Token.TheVariants as token
@@ -19,13 +20,15 @@ use Rattle.node_program.specs.Limits.{IsWithinLimits}
 use Rattle.node_lang.specs.Lexemes.{Lexeme, tokens_in, lexemes_of, lexemes_from}
 use Rattle.node_lang.specs.Grammar.{spelling, Reads}
 use Rattle.node_lang.specs.Reading.{Read, Got, Fault, expression, program}
-use Rattle.node_lang.specs.Viable.{Stands, FirstFault, Mark, node, one_at, nodes_at}
+use Rattle.node_lang.specs.Viable.{Stands, unknown, large, out_of_range, unexpected, too_deep, too_many, FirstFault, Mark, node, one_at, nodes_at}
+use Rattle.node_lang.specs.Following.{FollowsAt, IsExpectedAt}
 use Rattle.node_lang.specs.Faults.{FaultsAt, IsFirstHighByte, too_long, not_ascii, in_lexemes}
 use Rattle.node_lang.specs.Laws.{ReadingStopsAtFirstFault, FirstFaultStopsReading, OneReading, OneTextFault, ReadableTextsAreRead, ReadableTextsHaveNoFault, ReadTextsAreReadable}
 use Rattle.node_lang.specs.Parsing.{Gives}
-use Rattle.node_lang.proofs.Rest.{Rest, Nothing, AnExpression, ANumber, depth_next, counted, Met, Stops, Goes, limited, checked, meets, step, a_program, read, went, read_next, program_read}
+use Rattle.node_lang.proofs.Rest.{Rest, Nothing, AnExpression, ANumber, depth_next, expected_of, counted, Met, Stops, Goes, limited, checked, meets, step, a_program, read, went, read_next, program_read}
 use Rattle.node_lang.proofs.SmallTokens.{is_small, small_tokens}
 use Rattle.node_lang.proofs.Marks.{Shallow, shallow_at, Fine, fine, program_matches}
+use Rattle.node_lang.proofs.Expecting.{follows_here, follows_later}
 use Rattle.node_lang.proofs.Places.{InRange, Place, first_place, next_of, none_of, next_nodes, whole_marks, whole_nodes, whole, Says, says, stands_met}
 
 -- reading goes on at a token that can come next, where it is within the limits
@@ -57,22 +60,25 @@ goes_in_program {n = n} {w = w} t ts p q limits e =
 -- the result is right: a program at whose end reading is, or the first fault
 abbrev pub Answers : List Token → List Lexeme → Read ProgramTree → Type 0
 Answers before ls (Got p count left) = Place (before ++ tokens_in ls) count (Nothing p)
-Answers before ls (Fault k from) = FirstFault before ls k from
+Answers before ls (Fault k e from) = FirstFault before ls k from × FollowsAt before ls from e
 
 -- reading these lexemes after these tokens returns the first fault, or the program within the limits, whichever there
 -- is
 pub record Judges (before : List Token) (ls : List Lexeme) (r : Read ProgramTree) : Type 0 where
   pub answers : Answers before ls r
-  pub first : (k : FaultKind) (from : ℕ) → FirstFault before ls k from → r ≡ Fault k from
+  pub first : (k : FaultKind) (from : ℕ) → FirstFault before ls k from → (e : Expected) × (r ≡ Fault k e from)
   pub reads : (p : ProgramTree) → IsWithinLimits p → spelling p ≡ before ++ tokens_in ls →
       r ≡ Got p (sum_by size (terms p)) []
 
 -- where something is left, the end of the text is a fault
 at_end : {before : List Token} {n : ℕ} {w : Rest} → Place before n w →
-    ((p : ProgramTree) → w ≡ Nothing p → ⊥) → Judges before [] (Fault kind.EndOfText 0)
-at_end {before} p some = record {
-  answers = (refl, refl, λ h. some h.program (none_of p h.program h.each_register (sym h.spells)));
-  first = λ k from f. λ i. Fault (sym f.0 i) (sym f.1 i);
+    ((p : ProgramTree) → w ≡ Nothing p → ⊥) → Judges before [] (Fault kind.EndOfText (expected_of w) 0)
+at_end {before} {w = w} p some = record {
+  answers = (
+    (refl, refl, λ h. some h.program (none_of p h.program h.each_register (sym h.spells))),
+    follows_here p [],
+  );
+  first = λ k from f. (expected_of w, λ i. Fault (sym f.0 i) (expected_of w) (sym f.1 i));
   reads = λ q limits e. absurd (some q (none_of p q limits.each_register (e ∙ append-nil before)));
 }
 
@@ -100,19 +106,19 @@ judged_through {before} l ls clean r h = record {
     answers : (r : Read ProgramTree) → Answers (before ++ l.token ∷ []) ls r → Answers before (l ∷ ls) r
     answers (Got p count left) h =
         subst (λ ts. Place ts count (Nothing p)) (append_assoc before (l.token ∷ []) (tokens_in ls)) h
-    answers (Fault k from) h = inr (clean, h)
+    answers (Fault k e from) h = (inr (clean, h.0), follows_later l h.1)
 
 -- at a token, reading stops at the first fault or goes on
 judged_met : {before : List Token} {n : ℕ} {w : Rest} (l : Lexeme) (ls : List Lexeme) → Place before n w →
     (m : Met) → meets w n l.token ≡ m → Says before (counted w n) l.token m →
     ((v : Rest) → Place (before ++ l.token ∷ []) (counted w n) v →
     Judges (before ++ l.token ∷ []) ls (read v (counted w n) ls)) →
-    Judges before (l ∷ ls) (went (counted w n) l.from ls m)
+    Judges before (l ∷ ls) (went (expected_of w) (counted w n) l.from ls m)
 judged_met {w = w} l ls p (Stops k) e here more = record {
-  answers = inl (here, refl);
+  answers = (inl (here, refl), follows_here p (l ∷ ls));
   first = λ j place f. elim f [
     | inl there ↦ let met = sym e ∙ stands_met w l.token j p there.0 in let same : k ≡ j = cc in
-        λ i. Fault (same i) (sym there.1 i)
+        (expected_of w, λ i. Fault (same i) (expected_of w) (sym there.1 i))
     | inr there ↦ absurd (there.0 k here)
   ];
   reads = λ q limits spelt.
@@ -138,7 +144,7 @@ program_judged ls r e = subst (Judges [] ls) (sym (program_read 0 ls) ∙ e) (ju
 
 -- the fault at which reading stops is the first fault
 pub first_fault_of : ReadingStopsAtFirstFault
-first_fault_of ls k from e = let judges = program_judged ls (Fault k from) e in judges.answers
+first_fault_of ls k e from read = let judges = program_judged ls (Fault k e from) read in judges.answers
 
 -- and reading stops at every first fault
 pub stops_at_first_fault : FirstFaultStopsReading
@@ -160,13 +166,13 @@ read_sooner [] (Nothing q) n m less e = (n, cc)
 read_sooner [] w n m less e = absurd (cc)
 read_sooner (l ∷ ls) {left} w n m {count} {p} less e =
     elim (meets w m l.token)
-    as (λ r. meets w m l.token ≡ r → went (counted w m) l.from ls r ≡ Got p count left →
+    as (λ r. meets w m l.token ≡ r → went (expected_of w) (counted w m) l.from ls r ≡ Got p count left →
     (c : ℕ) × (read w n (l ∷ ls) ≡ Got p c left)) [
       | Stops k ↦ λ met e. absurd (cc)
       | Goes v ↦ λ met e.
           let goes = goes_sooner w v n m l.token (step w l.token) less met in
           let rest = read_sooner ls v (counted w n) (counted w m) goes.1 e in
-          (rest.0, read_next w n l.from l.token ls ∙ ap (went (counted w n) l.from ls) goes.0 ∙ rest.1)
+          (rest.0, read_next w n l.from l.token ls ∙ ap (went (expected_of w) (counted w n) l.from ls) goes.0 ∙ rest.1)
     ] refl (sym (read_next w m l.from l.token ls) ∙ e)
 
 -- these lexemes spell a program within the limits
@@ -214,10 +220,37 @@ one_fault text k l m n (in_lexemes j i from short ascii at place) (too_long b) =
 one_fault text k l m n (in_lexemes j i from short ascii at place) (not_ascii o _ b) =
     absurd (has_no_high_byte text o ascii b)
 one_fault text k l m n (in_lexemes j i from short ascii at place) (in_lexemes h o since _ _ at' place') =
-    let same : Fault j from ≡ Fault h since = sym (stops_at_first_fault (lexemes_of text) j from at)
-    ∙ stops_at_first_fault (lexemes_of text) h since at' in
+    let a = stops_at_first_fault (lexemes_of text) j from at in
+    let b = stops_at_first_fault (lexemes_of text) h since at' in
+    let same : Fault j a.0 from ≡ Fault h b.0 since = sym a.1 ∙ b.1 in
     let rest : from ≡ since = cc in
     (cc, omega arith)
+
+-- a fault in the tokens is neither that the text is too long nor a byte over 127
+in_tokens : {before : List Token} {met : Token} (k : FaultKind) → Stands before met k →
+    (k ≢ kind.TooLong) × (k ≢ kind.NotAscii)
+in_tokens k (unknown _) = (λ e. cc, λ e. cc)
+in_tokens k (large _) = (λ e. cc, λ e. cc)
+in_tokens k (out_of_range _) = (λ e. cc, λ e. cc)
+in_tokens k (unexpected _ _ _ _) = (λ e. cc, λ e. cc)
+in_tokens k (too_deep _ _ _ _) = (λ e. cc, λ e. cc)
+in_tokens k (too_many _ _ _ _ _) = (λ e. cc, λ e. cc)
+
+first_in_tokens : (before : List Token) (ls : List Lexeme) (k : FaultKind) (from : ℕ) → FirstFault before ls k from →
+    (k ≢ kind.TooLong) × (k ≢ kind.NotAscii)
+first_in_tokens before [] k from first = let is = first.0 in (λ e. cc, λ e. cc)
+first_in_tokens before (l ∷ ls) k from first = elim first [
+  | inl here ↦ in_tokens k here.0
+  | inr there ↦ first_in_tokens (before ++ l.token ∷ []) ls k from there.1
+]
+
+-- so is every fault of a short ASCII text
+pub short_in_tokens : (text : List ℕ) (k : FaultKind) (n : ℕ) → length text ≤ LONGEST_TEXT → All (λ b. b < 128) text →
+    FaultsAt text k n → (k ≢ kind.TooLong) × (k ≢ kind.NotAscii)
+short_in_tokens text k n short ascii (too_long long) = absurd (omega (arith, short, long))
+short_in_tokens text k n short ascii (not_ascii j _ first) = absurd (has_no_high_byte text j ascii first)
+short_in_tokens text k n short ascii (in_lexemes j i from _ _ first place) =
+    first_in_tokens [] (lexemes_of text) j from first
 
 -- a text that reads as a program is read from the left as it
 pub readable_is_read : ReadableTextsAreRead
@@ -232,7 +265,7 @@ pub no_fault : ReadableTextsHaveNoFault
 no_fault text p k m reads (too_long long) = omega (arith, reads.short, long)
 no_fault text p k m reads (not_ascii n short first) = has_no_high_byte text n reads.ascii first
 no_fault text p k m reads (in_lexemes j n from short ascii at place) =
-    cc (readable_is_read text p reads, stops_at_first_fault (lexemes_of text) j from at)
+    let stops = stops_at_first_fault (lexemes_of text) j from at in cc (readable_is_read text p reads, stops.1)
 
 -- a text that is read from the left as a program reads as it
 pub read_is_readable : ReadTextsAreReadable
@@ -240,25 +273,35 @@ read_is_readable text p n left short ascii e =
     let spelt = read_is_spelt p 0 n (lexemes_of text) left (small_tokens text) e in
     record { short = short; ascii = ascii; tokens = spelt.tokens; limits = spelt.limits }
 
--- what the parser returns of a text: the program that it reads as, or its fault, with which it reads as none
-pub record Outcome (text : List ℕ) (r : Result ProgramTree TextFault) : Type 0 where
+-- what the parser returns of a text: the program that it reads as, or its fault, with which it reads as none, and what
+-- can follow there
+pub record Outcome (text : List ℕ) (r : Result ProgramTree Stop) : Type 0 where
   pub program : IfOk r (Reads text)
   pub fault : IfErr r (λ f. f.kind ≢ kind.OutOfMemory → FaultsAt text f.kind f.offset)
+  pub expected : IfErr r (λ f. f.kind ≢ kind.OutOfMemory → IsExpectedAt text f.offset f.expected)
   pub none : IfErr r (λ f. f.kind ≢ kind.OutOfMemory → (p : ProgramTree) → Reads text p → ⊥)
 
-pub outcome : (old new : Parser) (r : Result ProgramTree TextFault) → old.at ≡ 0 → old.nodes ≡ 0 →
+pub outcome : (old new : Parser) (r : Result ProgramTree Stop) → old.at ≡ 0 → old.nodes ≡ 0 →
     length old.text.now ≤ LONGEST_TEXT → All (λ b. b < 128) old.text.now →
     Gives (λ p. p) old new r program → Outcome old.text.now r
 outcome old new (Ok p) at nodes short ascii h = record {
   program = read_is_readable old.text.now p new.nodes (lexemes_from old.text.now new.at) short ascii
       (rw (at, nodes) at h.1);
   fault = tt;
+  expected = tt;
   none = tt;
 }
 outcome old new (Err f) at nodes short ascii h =
     let from = length old.text.now - f.offset in
+    let first : f.kind ≢ kind.OutOfMemory →
+    FirstFault [] (lexemes_of old.text.now) f.kind from × FollowsAt [] (lexemes_of old.text.now) from f.expected =
+    λ m. let stops = h.1 m in first_fault_of (lexemes_of old.text.now) f.kind f.expected from (rw (at, nodes) at stops.1) in
     let fault : f.kind ≢ kind.OutOfMemory → FaultsAt old.text.now f.kind f.offset = λ m.
     let stops = h.1 m in
-    let first = first_fault_of (lexemes_of old.text.now) f.kind from (rw (at, nodes) at stops.1) in
-    in_lexemes f.kind f.offset from short ascii first (omega (arith, stops.0)) in
-    record { program = tt; fault = fault; none = λ m p reads. no_fault old.text.now p f.kind f.offset reads (fault m) }
+    in_lexemes f.kind f.offset from short ascii (first m).0 (omega (arith, stops.0)) in
+    record {
+      program = tt;
+      fault = fault;
+      expected = λ m. (first m).1;
+      none = λ m p reads. no_fault old.text.now p f.kind f.offset reads (fault m);
+    }

@@ -7,4 +7,5 @@ pub mod PrintedTokens
 pub mod Rest
 pub mod Places
 pub mod Marks
+pub mod Expecting
 pub mod Judging

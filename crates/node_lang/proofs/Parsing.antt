@@ -2,7 +2,8 @@
 use Rattle.std.proofs.Common.{◌≡◌, ℕ, zero, suc, ◌+◌, ◌-◌, ◌<◌, true, List, [], ◌∷◌, ◌++◌, map, Some, Result, Err, Ok, refl, sym, ap, subst, length, ◌≤◌, ◌∙◌, arith}
 use Rattle.std.proofs.lemmas.Bool.{eqb-true}
 use Rattle.std.proofs.lemmas.List.{map-append}
-use Rattle.node_lang.specs.declared.fault.TextFault.{TextFault}
+use Rattle.node_lang.specs.declared.expected.Expected.TheVariants as expected
+use Rattle.node_lang.specs.declared.fault.Stop.{Stop}
 use Rattle.node_lang.specs.declared.parser.Parser.{Parser}
 use Rattle.node_lang.specs.declared.token.Token.{Token}
 use Rattle.node_lang.specs.declared.token.Token.TheVariants as token
@@ -51,7 +52,7 @@ one_read {tree = tree} {part} {high} {j} {parts} {now = now} v h done read more 
 }
 
 pub stops_there : {T A : Type 0} {tree : T → A} {part : ℕ → ℕ → List Lexeme → Read A} {high j : ℕ}
-    {parts : List T} {old now : Parser} (f : TextFault) → j < high →
+    {parts : List T} {old now : Parser} (f : Stop) → j < high →
     HasRead tree part high j parts old now → Gives tree now now (Err f) (part j) →
     Gives (λ xs. xs) old old (Err f) (each part high 0 [])
 stops_there {tree = tree} {part} {high} {j} {parts} {now = now} f h done stopped = (
@@ -66,20 +67,20 @@ pub same_after : {A B : Type 0} (first : Read A) (second other : A → ℕ → L
     ((a : A) (n : ℕ) (l : List Lexeme) → second a n l ≡ other a n l) →
     go_on first second ≡ go_on first other
 same_after (Got a n l) second other same = same a n l
-same_after (Fault k from) second other same = refl
+same_after (Fault k e from) second other same = refl
 
 regrouped : {A B C : Type 0} (first : Read A) (second : A → ℕ → List Lexeme → Read B)
     (third : B → ℕ → List Lexeme → Read C) (other : A → ℕ → List Lexeme → Read C) →
     ((a : A) (n : ℕ) (l : List Lexeme) → go_on (second a n l) third ≡ other a n l) →
     go_on (go_on first second) third ≡ go_on first other
 regrouped (Got a n l) second third other same = same a n l
-regrouped (Fault k from) second third other same = refl
+regrouped (Fault k e from) second third other same = refl
 
 -- going on and going on again
 pub go_on_assoc : {A B C : Type 0} (r : Read A) (f : A → ℕ → List Lexeme → Read B) (g : B → ℕ → List Lexeme → Read C) →
     go_on (go_on r f) g ≡ go_on r (λ a n ls. go_on (f a n ls) g)
 go_on_assoc (Got a n ls) f g = refl
-go_on_assoc (Fault k from) f g = refl
+go_on_assoc (Fault k e from) f g = refl
 
 -- the header, field by field
 pub header_is : (nodes : ℕ) (left : List Lexeme) → header nodes left ≡ (do
@@ -111,7 +112,7 @@ round_is registers nodes left =
     regrouped (exactly token.Send n l) _ _ _ (λ _ n l. regrouped (exactly token.Right n l) _ _ _ (λ _ n l. refl)))))))
 
 -- a method whose last step behaves as the rest of its reader
-pub gives_rest : {T A : Type 0} (tree : T → A) (old now new : Parser) (r : Result T TextFault)
+pub gives_rest : {T A : Type 0} (tree : T → A) (old now new : Parser) (r : Result T Stop)
     (whole rest : ℕ → List Lexeme → Read A) → now.text.now ≡ old.text.now →
     whole old.nodes (lexemes_from old.text.now old.at) ≡ rest now.nodes (lexemes_from now.text.now now.at) →
     Gives tree now new r rest → Gives tree old new r whole
@@ -121,12 +122,12 @@ gives_rest tree old now new (Err f) whole rest same begins given = (
   given.0,
   λ m.
       let at = given.1 m in
-      (subst (λ t. f.offset ≤ length t) same at.0, begins ∙ at.1 ∙ ap (λ t. Fault f.kind (length t - f.offset)) same),
+      (subst (λ t. f.offset ≤ length t) same at.0, begins ∙ at.1 ∙ ap (λ t. Fault f.kind f.expected (length t - f.offset)) same),
 )
 
 -- a method that reads one part and then behaves as the reader of the next
 pub gives_next : {T U A B : Type 0} (tree : T → A) (tree' : U → B) (old now new : Parser) (v : T)
-    (r : Result U TextFault) (first : ℕ → List Lexeme → Read A)
+    (r : Result U Stop) (first : ℕ → List Lexeme → Read A)
     (second : A → ℕ → List Lexeme → Read B) → Gives tree old now (Ok v) first →
     Gives tree' now new r (second (tree v)) → Gives tree' old new r (λ n l. go_on (first n l) second)
 gives_next tree tree' old now new v r first second given more =
@@ -134,9 +135,9 @@ gives_next tree tree' old now new v r first second given more =
     (ap (λ x. go_on x second) given.1 ∙ ap (λ t. second (tree v) now.nodes (lexemes_from t now.at)) (sym given.0)) more
 
 -- a method that reads the first token of an operation and then behaves as the rest of its reader
-pub gives_operation : {A : Type 0} (old now new : Parser) (levels : ℕ) (first : Token × ℕ) (r : Result Expr TextFault)
+pub gives_operation : {A : Type 0} (old now new : Parser) (levels : ℕ) (first : Token × ℕ) (r : Result Expr Stop)
     (inner : Reader A) (f : A → Reader Term) (rest : Reader Term) →
-    Gives (λ (t : Token × ℕ). record { from = length old.text.now - t.1; token = t.0 }) old now (Ok first) next →
+    Gives (λ (t : Token × ℕ). record { from = length old.text.now - t.1; token = t.0 }) old now (Ok first) (next expected.Expression) →
     after (operand levels) first.0 ≡ Some ((exactly token.Open >> inner) >>= f) →
     ((nodes : ℕ) (left : List Lexeme) → go_on (inner nodes left) f ≡ rest nodes left) →
     Gives term_of now new r (opened levels (length now.text.now - first.1) >> rest) →

@@ -4,6 +4,8 @@ use Rattle.std.proofs.Common.{ℕ, zero, suc, ◌+◌, ◌-◌, ◌==◌, nat_le
 use Rattle.std.specs.Prelude.{if◌then◌else◌}
 use Rattle.std.proofs.lemmas.Bool.Decides.{nat_tests}
 use Rattle.node_program.specs.declared.limits.TheConstants.{MAX_DEPTH, MAX_NODES, MAX_CHANNELS, MAX_REGISTERS, MAX_ROUNDS}
+use Rattle.node_lang.specs.declared.expected.Expected.{Expected}
+use Rattle.node_lang.specs.declared.expected.Expected.TheVariants as expected
 use Rattle.node_lang.specs.declared.fault.FaultKind.{FaultKind}
 use Rattle.node_lang.specs.declared.fault.FaultKind.TheVariants as kind
 use Rattle.node_lang.specs.declared.token.Token.{Token}
@@ -56,6 +58,13 @@ step (ANumber low high w) _ = None
 abbrev pub depth_next : Rest → ℕ
 depth_next (AnExpression d w) = d + 1
 depth_next _ = 0
+
+-- what can come next
+abbrev pub expected_of : Rest → Expected
+expected_of (Nothing p) = expected.End
+expected_of (AToken t w) = expected.This t
+expected_of (AnExpression d w) = expected.Expression
+expected_of (ANumber low high w) = expected.Number
 
 -- the number of nodes after one more token
 abbrev pub counted : Rest → ℕ → ℕ
@@ -118,16 +127,16 @@ read (AToken t w) nodes left = go_on (exactly t nodes left) (λ _ n ls. read w n
 read (AnExpression d w) nodes left = go_on (expression (MAX_DEPTH - d) nodes left) (λ e n ls. read (w e) n ls)
 read (ANumber low high w) nodes left = go_on (number low high nodes left) (λ k n ls. read (w k) n ls)
 
--- continues reading after a token
-abbrev pub went : ℕ → ℕ → List Lexeme → Met → Read ProgramTree
-went nodes from ls (Stops k) = Fault k from
-went nodes from ls (Goes v) = read v nodes ls
+-- continues reading after a token where this was expected
+abbrev pub went : Expected → ℕ → ℕ → List Lexeme → Met → Read ProgramTree
+went e nodes from ls (Stops k) = Fault k e from
+went e nodes from ls (Goes v) = read v nodes ls
 
 -- a node that is expected
 node_next : (d : ℕ) (w : Term → Rest) (n from : ℕ) (t : Token) (ls : List Lexeme) (more : Reader Term) (v : Rest) →
     (0 < MAX_DEPTH - d → go_on (more (n + 1) ls) (λ e. read (w e)) ≡ read v (n + 1) ls) →
     go_on (go_on (node (MAX_DEPTH - d) from n ls) (λ _. more)) (λ e. read (w e))
-    ≡ went (n + 1) from ls (limited (AnExpression d w) n t v)
+    ≡ went expected.Expression (n + 1) from ls (limited (AnExpression d w) n t v)
 node_next d w n from t ls more v h = grind (arith, nat_tests, h)
 
 below : (d : ℕ) → 0 < MAX_DEPTH - d → operand (MAX_DEPTH - d) ≡ expression (MAX_DEPTH - (d + 1))
@@ -135,7 +144,7 @@ below d some = operand_is (MAX_DEPTH - d) some ∙ ap expression (omega arith)
 
 term_next : (d : ℕ) (w : Term → Rest) (n from : ℕ) (t : Token) (ls : List Lexeme) →
     read (AnExpression d w) n (record { from = from; token = t } ∷ ls)
-    ≡ went (n + 1) from ls (meets (AnExpression d w) n t)
+    ≡ went expected.Expression (n + 1) from ls (meets (AnExpression d w) n t)
 unfolding expression one_of two_of three_of
 term_next d w n from (token.One o) ls =
     node_next d w n from (token.One o) ls _ _ (λ some. rw (below d some) (simp go_on_assoc))
@@ -146,7 +155,8 @@ term_next d w n from t ls = grind (arith, nat_tests)
 
 -- reading the rest is reading one token, then what is left after it
 pub read_next : (w : Rest) (n from : ℕ) (t : Token) (ls : List Lexeme) →
-    read w n (record { from = from; token = t } ∷ ls) ≡ went (counted w n) from ls (meets w n t)
+    read w n (record { from = from; token = t } ∷ ls) ≡
+    went (expected_of w) (counted w n) from ls (meets w n t)
 read_next (Nothing p) n from t ls = refl
 read_next (AToken s w) n from token.Unknown ls = refl
 read_next (AToken s w) n from token.LargeNumber ls = refl

@@ -10,6 +10,8 @@ use Rattle.node_lang.specs.Reading.{Got, Fault, program}
 use Rattle.node_lang.specs.Printed.{printed}
 use Rattle.node_lang.specs.Faults.{FaultsAt}
 use Rattle.node_lang.specs.Viable.{FirstFault}
+use Rattle.node_lang.specs.declared.expected.Expected.{Expected}
+use Rattle.node_lang.specs.Following.{FollowsAt}
 
 -- a text reads as at most one program
 abbrev pub OneReading : Type 0
@@ -44,12 +46,14 @@ abbrev pub ReadableTextsHaveNoFault : Type 0
 ReadableTextsHaveNoFault =
     (text : List ℕ) (p : ProgramTree) (k : FaultKind) (offset : ℕ) → Reads text p → FaultsAt text k offset → ⊥
 
--- where reading stops is the first fault of the lexemes
+-- where reading stops is the first fault of the lexemes, and what was expected there can follow
 abbrev pub ReadingStopsAtFirstFault : Type 0
 ReadingStopsAtFirstFault =
-    (lexemes : List Lexeme) (k : FaultKind) (from : ℕ) → program 0 lexemes ≡ Fault k from → FirstFault [] lexemes k from
+    (lexemes : List Lexeme) (k : FaultKind) (e : Expected) (from : ℕ) → program 0 lexemes ≡ Fault k e from →
+    FirstFault [] lexemes k from × FollowsAt [] lexemes from e
 
 -- and their first fault is where reading stops
 abbrev pub FirstFaultStopsReading : Type 0
 FirstFaultStopsReading =
-    (lexemes : List Lexeme) (k : FaultKind) (from : ℕ) → FirstFault [] lexemes k from → program 0 lexemes ≡ Fault k from
+    (lexemes : List Lexeme) (k : FaultKind) (from : ℕ) → FirstFault [] lexemes k from →
+    (e : Expected) × (program 0 lexemes ≡ Fault k e from)

@@ -6,6 +6,7 @@ pub mod Grammar
 pub mod Printed
 pub mod Reading
 pub mod Viable
+pub mod Following
 pub mod Faults
 pub mod Parsing
 pub mod Laws

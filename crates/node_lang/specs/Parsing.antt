@@ -2,7 +2,7 @@
 use Rattle.std.specs.Prelude.{◌≡◌, ◌≢◌, ◌-◌, ◌≤◌, ℕ, List, Result, Ok, Err, Box, box_value, length}
 use Rattle.std.specs.Global.{Global}
 use Rattle.node_lang.specs.declared.fault.FaultKind.TheVariants as kind
-use Rattle.node_lang.specs.declared.fault.TextFault.{TextFault}
+use Rattle.node_lang.specs.declared.fault.Stop.{Stop}
 use Rattle.node_lang.specs.declared.parser.Parser.{Parser}
 use Rattle.node_lang.specs.Lexemes.{Lexeme, lexemes_from}
 use Rattle.node_lang.specs.Reading.{Read, Reader, Got, Fault, ◌>>=◌, ◌>>◌, done, exactly, expression, node, number, operand}
@@ -16,7 +16,7 @@ use Rattle.node_program.specs.Term.{Term, One, Two, Choose, term_of}
 
 -- A method of the parser behaves as this reader: it returns the tree and moves the parser past the nodes and lexemes
 -- read, or it returns the reader's fault. For want of memory only the offset 0 is stated.
-abbrev pub Gives : {T A : Type 0} → (T → A) → Parser → Parser → Result T TextFault → (ℕ → List Lexeme → Read A) → Type 0
+abbrev pub Gives : {T A : Type 0} → (T → A) → Parser → Parser → Result T Stop → (ℕ → List Lexeme → Read A) → Type 0
 Gives tree old new (Ok v) read =
     (new.text.now ≡ old.text.now)
     × (read old.nodes (lexemes_from old.text.now old.at)
@@ -24,7 +24,7 @@ Gives tree old new (Ok v) read =
 Gives tree old new (Err f) read =
     (f.kind ≡ kind.OutOfMemory → f.offset ≡ 0)
     × (f.kind ≢ kind.OutOfMemory → (f.offset ≤ length old.text.now)
-    × (read old.nodes (lexemes_from old.text.now old.at) ≡ Fault f.kind (length old.text.now - f.offset)))
+    × (read old.nodes (lexemes_from old.text.now old.at) ≡ Fault f.kind f.expected (length old.text.now - f.offset)))
 
 -- a word of the header and its number
 abbrev pub field : Token → ℕ → ℕ → Reader ℕ

@@ -3,21 +3,23 @@ use Rattle.std.specs.Prelude.{◌&&◌, ◌++◌, ℕ, zero, suc, ◌+◌, ◌==
 use Rattle.node_program.specs.declared.limits.TheConstants.{MAX_CHANNELS, MAX_DEPTH, MAX_NODES, MAX_REGISTERS, MAX_ROUNDS}
 use Rattle.node_lang.specs.declared.fault.FaultKind.{FaultKind}
 use Rattle.node_lang.specs.declared.fault.FaultKind.TheVariants as kind
+use Rattle.node_lang.specs.declared.expected.Expected.{Expected}
+use Rattle.node_lang.specs.declared.expected.Expected.TheVariants as expected
 use Rattle.node_lang.specs.declared.token.Token.{Token}
 use Rattle.node_lang.specs.declared.token.Token.TheVariants as token
 use Rattle.node_program.specs.Term.{Term, Literal, Identifier, LeftMessage, RightMessage, RegisterValue, One, Two, Choose, Round, ProgramTree}
 use Rattle.node_lang.specs.Lexemes.{Lexeme}
 
--- What was read, with the number of expression nodes so far and the lexemes left; or a fault, with the number of bytes
--- from it to the end of the text.
+-- What was read, with the number of expression nodes so far and the lexemes left; or a fault, with what was expected
+-- there and the number of bytes from it to the end of the text.
 pub data Read (A : Type 0) : Type 0 where
   Got : A → ℕ → List Lexeme → Read A
-  Fault : FaultKind → ℕ → Read A
+  Fault : FaultKind → Expected → ℕ → Read A
 
 -- passes what was read to the next reader, or the fault on
 abbrev pub go_on : {A B : Type 0} → Read A → (A → ℕ → List Lexeme → Read B) → Read B
 go_on (Got a nodes left) next = next a nodes left
-go_on (Fault k from) next = Fault k from
+go_on (Fault k e from) next = Fault k e from
 
 -- a reader, from the number of nodes so far and the lexemes left
 abbrev pub Reader : Type 0 → Type 0
@@ -35,19 +37,19 @@ abbrev pub ◌>>◌ : {A B : Type 0} → (ℕ → List Lexeme → Read A) → (�
 abbrev pub done : {A : Type 0} → A → ℕ → List Lexeme → Read A
 done a nodes left = Got a nodes left
 
-abbrev pub refuse : {A : Type 0} → FaultKind → Lexeme → ℕ → List Lexeme → Read A
-refuse k l nodes left = Fault k l.from
+abbrev pub refuse : {A : Type 0} → FaultKind → Expected → Lexeme → ℕ → List Lexeme → Read A
+refuse k e l nodes left = Fault k e l.from
 
 -- passes a token of the language, and refuses any other
-abbrev pub lawful : Token → Lexeme → Reader Lexeme
-lawful token.LargeNumber l = refuse kind.NumberTooLarge l
-lawful token.Unknown l = refuse kind.BadWord l
-lawful _ l = done l
+abbrev pub lawful : Expected → Token → Lexeme → Reader Lexeme
+lawful e token.LargeNumber l = refuse kind.NumberTooLarge e l
+lawful e token.Unknown l = refuse kind.BadWord e l
+lawful e _ l = done l
 
--- the next token
-abbrev pub next : Reader Lexeme
-next nodes [] = Fault kind.EndOfText 0
-next nodes (l ∷ ls) = lawful l.token l nodes ls
+-- the next token, where this is expected
+abbrev pub next : Expected → Reader Lexeme
+next e nodes [] = Fault kind.EndOfText e 0
+next e nodes (l ∷ ls) = lawful e l.token l nodes ls
 
 -- whether two tokens are the same; operations are never expected, and so are not compared
 abbrev pub same_token : Token → Token → Bool
@@ -70,13 +72,13 @@ same_token _ _ = false
 -- expects this token
 abbrev pub exactly : Token → Reader (Unit {0})
 exactly t = do
-  l ← next
-  if same_token l.token t then done tt else refuse kind.Unexpected l
+  l ← next (expected.This t)
+  if same_token l.token t then done tt else refuse kind.Unexpected (expected.This t) l
 
 -- counts an expression node with this many levels left
 abbrev pub node : ℕ → ℕ → Reader (Unit {0})
-node levels from nodes left = if levels == 0 then Fault kind.TooDeep from
-    else if nat_le MAX_NODES nodes then Fault kind.TooManyNodes from else Got tt (nodes + 1) left
+node levels from nodes left = if levels == 0 then Fault kind.TooDeep expected.Expression from
+    else if nat_le MAX_NODES nodes then Fault kind.TooManyNodes expected.Expression from else Got tt (nodes + 1) left
 
 -- operands in parentheses, each by the given reader
 unfoldable pub one_of : Reader Term → Reader Term
@@ -120,18 +122,18 @@ after operand _ = None
 
 -- the token is judged first, then the depth, then the number of nodes
 abbrev pub begun : ℕ → Lexeme → Option (Reader Term) → Reader Term
-begun levels l None = refuse kind.Unexpected l
+begun levels l None = refuse kind.Unexpected expected.Expression l
 begun levels l (Some more) = node levels l.from >> more
 
 -- an expression with this many levels left, with the given reader for its operands
 abbrev pub level : ℕ → Reader Term → Reader Term
 level levels operand = do
-  l ← next
+  l ← next expected.Expression
   begun levels l (after operand l.token)
 
 -- an operand of an expression with this many levels left
 abbrev pub operand : ℕ → Reader Term
-operand zero nodes left = Fault kind.TooDeep 0
+operand zero nodes left = Fault kind.TooDeep expected.Expression 0
 operand (suc n) nodes left = level n (operand n) nodes left
 
 -- an expression of at most this many levels
@@ -140,12 +142,12 @@ expression levels = level levels (operand levels)
 
 -- a number of the header, from low to high
 abbrev pub in_range : ℕ → ℕ → Lexeme → Token → Reader ℕ
-in_range low high l (token.Number n) = if nat_le low n && nat_le n high then done n else refuse kind.HeaderRange l
-in_range low high l _ = refuse kind.Unexpected l
+in_range low high l (token.Number n) = if nat_le low n && nat_le n high then done n else refuse kind.HeaderRange expected.Number l
+in_range low high l _ = refuse kind.Unexpected expected.Number l
 
 abbrev pub number : ℕ → ℕ → Reader ℕ
 number low high = do
-  l ← next
+  l ← next expected.Number
   in_range low high l l.token
 
 -- the numbers of the header
@@ -174,7 +176,7 @@ fault_of _ = kind.Unexpected
 -- expects the end of the text
 abbrev pub end : Reader (Unit {0})
 end nodes [] = Got tt nodes []
-end nodes (l ∷ ls) = Fault (fault_of l.token) l.from
+end nodes (l ∷ ls) = Fault (fault_of l.token) expected.End l.from
 
 -- `count` parts from the j-th on, appended to those read before
 abbrev pub each : {A : Type 0} → (ℕ → ℕ → List Lexeme → Read A) → ℕ → ℕ → List A → ℕ → List Lexeme → Read (List A)

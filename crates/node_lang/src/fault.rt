@@ -1,7 +1,9 @@
 //! The faults of program texts.
 ghost use Rattle.std.specs.Prelude.{◌≡◌};
 ghost use Rattle.node_lang.specs.declared.fault.FaultKind.TheVariants.{OutOfMemory};
+ghost use Rattle.node_lang.specs.declared.expected.Expected.TheVariants.{End};
 
+use crate::expected::Expected;
 use std::alloc::{AllocError, AllocFailed};
 
 /// Why a program text is refused. A report names each kind by `N` and its number.
@@ -58,6 +60,46 @@ impl From<AllocError> for TextFault {
     fn from(_refused: AllocError) -> TextFault {
         TextFault {
             kind: FaultKind::OutOfMemory,
+            offset: 0,
+        }
+    }
+}
+
+// The place at which reading stops: its fault, and what was expected there.
+#[derive(Clone, Copy)]
+pub(crate) struct Stop {
+    pub(crate) kind: FaultKind,
+    pub(crate) expected: Expected,
+    pub(crate) offset: usize,
+}
+
+impl Stop {
+    pub(crate) fn at(kind: FaultKind, expected: Expected, offset: usize) -> Stop
+        ensures { result ≡ record { kind = kind; expected = expected; offset = offset } }
+    {
+        Stop {
+            kind,
+            expected,
+            offset,
+        }
+    }
+}
+
+impl<T: Drop> From<AllocFailed<T>> for Stop {
+    ghost from_gives = { λ _ f. f ≡ record { kind = OutOfMemory; expected = End; offset = 0 } };
+
+    fn from(_refused: AllocFailed<T>) -> Stop {
+        Stop::from(AllocError)
+    }
+}
+
+impl From<AllocError> for Stop {
+    ghost from_gives = { λ _ f. f ≡ record { kind = OutOfMemory; expected = End; offset = 0 } };
+
+    fn from(_refused: AllocError) -> Stop {
+        Stop {
+            kind: FaultKind::OutOfMemory,
+            expected: Expected::End,
             offset: 0,
         }
     }

@@ -2,6 +2,7 @@
 //! Programs as trees are in `node_program`.
 #![tactic(auto)]
 
+mod expected;
 mod fault;
 mod laws;
 mod lexer;
@@ -12,6 +13,7 @@ mod text;
 mod token;
 mod words;
 
+pub use expected::Expected;
 pub use fault::{FaultKind, TextFault};
 pub use laws::{first_fault, one_reading, one_text_fault, printed_is_read_back, reading_is_exact};
 pub use lexer::{Placed, token_from};
@@ -21,5 +23,5 @@ pub use node_program::{
     OutOfMemory, Program, Round, UnOp,
 };
 pub use printing::{print, write_word};
-pub use text::parse;
+pub use text::{expected_in, parse};
 pub use token::Token;

@@ -2,7 +2,8 @@
 ghost use Rattle.std.specs.Prelude.{◌≤◌, length};
 ghost use Rattle.node_program.specs.declared.limits.TheConstants.{MAX_NODES};
 
-use crate::fault::{FaultKind, TextFault};
+use crate::expected::Expected;
+use crate::fault::{FaultKind, Stop};
 use crate::lexer::token_from;
 use crate::token::Token;
 use node_program::{
@@ -37,17 +38,17 @@ impl<'a> Parser<'a> {
     ghost use Rattle.node_lang.specs.Parsing.{Gives, after_if, after_one, after_two, boxed, expression_after, field, marked, opened, pair_of};
 
     // Returns the next token and its offset.
-    fn next(&mut self) -> Result<(Token, usize), TextFault>
-        ensures reads { Gives (λ t. record { from = length self.old.text.now - t.1; token = t.0 }) self.old self.new result next }
+    fn next(&mut self, expected: Expected) -> Result<(Token, usize), Stop>
+        ensures reads { Gives (λ t. record { from = length self.old.text.now - t.1; token = t.0 }) self.old self.new result (next expected) }
         ensures place { IfOk result (λ t. t.1 ≤ length self.old.text.now) }
     {
         let Some(placed) = token_from(self.text, self.at) else {
-            return Err(TextFault::at(FaultKind::EndOfText, self.text.len()));
+            return Err(Stop::at(FaultKind::EndOfText, expected, self.text.len()));
         };
         let offset = placed.start;
         match placed.token {
-            Token::Unknown => Err(TextFault::at(FaultKind::BadWord, offset)),
-            Token::LargeNumber => Err(TextFault::at(FaultKind::NumberTooLarge, offset)),
+            Token::Unknown => Err(Stop::at(FaultKind::BadWord, expected, offset)),
+            Token::LargeNumber => Err(Stop::at(FaultKind::NumberTooLarge, expected, offset)),
             token => {
                 self.at = placed.end;
                 Ok((token, offset))
@@ -57,13 +58,14 @@ impl<'a> Parser<'a> {
 
     // Consumes the next token, which must be this one.
     #[tactic(auto, using(crate::proofs::Parsing::same_token_is))]
-    fn expect(&mut self, token: Token) -> Result<(), TextFault>
+    fn expect(&mut self, token: Token) -> Result<(), Stop>
         requires { same_token token token ≡ true }
         ensures { Gives (λ _. tt) self.old self.new result (exactly token) }
     {
-        let (found, offset) = self.next()?;
+        let expected = Expected::This(token);
+        let (found, offset) = self.next(expected)?;
         if found != token {
-            return Err(TextFault::at(FaultKind::Unexpected, offset));
+            return Err(Stop::at(FaultKind::Unexpected, expected, offset));
         }
         Ok(())
     }
@@ -71,17 +73,17 @@ impl<'a> Parser<'a> {
     // Counts an expression node at `offset` with `levels` levels left, and returns the number of
     // levels left for its operands.
     #[tactic(auto, using(crate::proofs::Parsing::operand_is))]
-    fn count_node(&mut self, levels: u32, offset: usize) -> Result<u32, TextFault>
+    fn count_node(&mut self, levels: u32, offset: usize) -> Result<u32, Stop>
         requires { offset ≤ length self.old.text.now }
         ensures reads { Gives (λ _. tt) self.old self.new result (node levels (length self.old.text.now - offset)) }
         ensures below { IfOk result (λ below. operand levels ≡ expression below) }
         ensures fewer { IfOk result (λ below. below < levels) }
     {
         if levels == 0 {
-            return Err(TextFault::at(FaultKind::TooDeep, offset));
+            return Err(Stop::at(FaultKind::TooDeep, Expected::Expression, offset));
         }
         if self.nodes >= MAX_NODES {
-            return Err(TextFault::at(FaultKind::TooManyNodes, offset));
+            return Err(Stop::at(FaultKind::TooManyNodes, Expected::Expression, offset));
         }
         self.nodes += 1;
         Ok(levels - 1)
@@ -89,7 +91,7 @@ impl<'a> Parser<'a> {
 
     // Counts the node of an operation at `offset`, as `count_node` does, and consumes the
     // parenthesis that opens its operands.
-    fn open(&mut self, levels: u32, offset: usize) -> Result<u32, TextFault>
+    fn open(&mut self, levels: u32, offset: usize) -> Result<u32, Stop>
         requires { offset ≤ length self.old.text.now }
         ensures reads { Gives (λ _. tt) self.old self.new result (opened levels (length self.old.text.now - offset)) }
         ensures below { IfOk result (λ below. operand levels ≡ expression below) }
@@ -103,10 +105,10 @@ impl<'a> Parser<'a> {
     // Parses an expression of at most `levels` levels.
     #[cycle(expr)]
     #[tactic(auto, unfolding(crate::specs::Reading::expression))]
-    fn expr(&mut self, levels: u32) -> Result<Expr, TextFault>
+    fn expr(&mut self, levels: u32) -> Result<Expr, Stop>
         ensures { Gives term_of self.old self.new result (expression levels) }
     {
-        let (token, offset) = self.next()?;
+        let (token, offset) = self.next(Expected::Expression)?;
         let leaf = match token {
             Token::Number(number) => Expr::Number(number),
             Token::Id => Expr::Id,
@@ -116,7 +118,7 @@ impl<'a> Parser<'a> {
             Token::One(op) => return self.one(op, levels, offset),
             Token::Two(op) => return self.two(op, levels, offset),
             Token::If => return self.choose(levels, offset),
-            _ => return Err(TextFault::at(FaultKind::Unexpected, offset)),
+            _ => return Err(Stop::at(FaultKind::Unexpected, Expected::Expression, offset)),
         };
         self.count_node(levels, offset)?;
         Ok(leaf)
@@ -124,7 +126,7 @@ impl<'a> Parser<'a> {
 
     // Parses an operand and the mark after it.
     #[cycle(expr)]
-    fn operand(&mut self, levels: u32, mark: Token) -> Result<Box<Expr>, TextFault>
+    fn operand(&mut self, levels: u32, mark: Token) -> Result<Box<Expr>, Stop>
         requires { same_token mark mark ≡ true }
         ensures { Gives boxed self.old self.new result (marked (expression levels) mark) }
     {
@@ -136,7 +138,7 @@ impl<'a> Parser<'a> {
 
     // Parses the last two operands of an operation, and the parenthesis that closes them.
     #[cycle(expr)]
-    fn pair(&mut self, levels: u32) -> Result<(Box<Expr>, Box<Expr>), TextFault>
+    fn pair(&mut self, levels: u32) -> Result<(Box<Expr>, Box<Expr>), Stop>
         ensures { Gives (λ p. (boxed p.0, boxed p.1)) self.old self.new result (pair_of (expression levels)) }
     {
         let a = self.operand(levels, Token::Comma)?;
@@ -146,7 +148,7 @@ impl<'a> Parser<'a> {
 
     // Parses the operand of an operation whose name is at `offset`.
     #[cycle(expr)]
-    fn one(&mut self, op: UnOp, levels: u32, offset: usize) -> Result<Expr, TextFault>
+    fn one(&mut self, op: UnOp, levels: u32, offset: usize) -> Result<Expr, Stop>
         requires { offset ≤ length self.old.text.now }
         ensures { Gives term_of self.old self.new result (after_one op levels (length self.old.text.now - offset)) }
     {
@@ -157,7 +159,7 @@ impl<'a> Parser<'a> {
 
     // Parses the two operands of an operation whose name is at `offset`.
     #[cycle(expr)]
-    fn two(&mut self, op: BinOp, levels: u32, offset: usize) -> Result<Expr, TextFault>
+    fn two(&mut self, op: BinOp, levels: u32, offset: usize) -> Result<Expr, Stop>
         requires { offset ≤ length self.old.text.now }
         ensures { Gives term_of self.old self.new result (after_two op levels (length self.old.text.now - offset)) }
     {
@@ -168,7 +170,7 @@ impl<'a> Parser<'a> {
 
     // Parses the three operands of an `if` at `offset`.
     #[cycle(expr)]
-    fn choose(&mut self, levels: u32, offset: usize) -> Result<Expr, TextFault>
+    fn choose(&mut self, levels: u32, offset: usize) -> Result<Expr, Stop>
         requires { offset ≤ length self.old.text.now }
         ensures { Gives term_of self.old self.new result (after_if levels (length self.old.text.now - offset)) }
     {
@@ -179,24 +181,24 @@ impl<'a> Parser<'a> {
     }
 
     // Parses this word of the header and its number, from `low` to `high`.
-    fn field(&mut self, word: Token, low: u32, high: u32) -> Result<u32, TextFault>
+    fn field(&mut self, word: Token, low: u32, high: u32) -> Result<u32, Stop>
         requires { same_token word word ≡ true }
         ensures { Gives (λ n. n) self.old self.new result (field word low high) }
     {
         self.expect(word)?;
-        let (token, offset) = self.next()?;
+        let (token, offset) = self.next(Expected::Number)?;
         let Token::Number(number) = token else {
-            return Err(TextFault::at(FaultKind::Unexpected, offset));
+            return Err(Stop::at(FaultKind::Unexpected, Expected::Number, offset));
         };
         if number < low || number > high {
-            return Err(TextFault::at(FaultKind::HeaderRange, offset));
+            return Err(Stop::at(FaultKind::HeaderRange, Expected::Number, offset));
         }
         Ok(number)
     }
 
     // Parses the header, up to and including `start`.
     #[tactic(auto, using(crate::proofs::Parsing::header_is))]
-    fn header(&mut self) -> Result<Header, TextFault>
+    fn header(&mut self) -> Result<Header, Stop>
         ensures { Gives (λ h. record { rounds = h.rounds; channels = h.channels; registers = h.registers }) self.old self.new result header }
     {
         let rounds = self.field(Token::Rounds, 0, MAX_ROUNDS)?;
@@ -211,7 +213,7 @@ impl<'a> Parser<'a> {
     }
 
     // Checks that the text ends here.
-    fn end(&mut self) -> Result<(), TextFault>
+    fn end(&mut self) -> Result<(), Stop>
         ensures { Gives (λ _. tt) self.old self.new result end }
     {
         let Some(extra) = token_from(self.text, self.at) else {
@@ -222,12 +224,12 @@ impl<'a> Parser<'a> {
             Token::LargeNumber => FaultKind::NumberTooLarge,
             _ => FaultKind::Unexpected,
         };
-        Err(TextFault::at(kind, extra.start))
+        Err(Stop::at(kind, Expected::End, extra.start))
     }
 
     // Consumes two tokens, which must be these, and parses the expression after them.
     #[tactic(auto, unfolding(crate::specs::Parsing::expression_after))]
-    fn expr_after(&mut self, first: Token, second: Token) -> Result<Expr, TextFault>
+    fn expr_after(&mut self, first: Token, second: Token) -> Result<Expr, Stop>
         requires first { same_token first first ≡ true }
         requires second { same_token second second ≡ true }
         ensures { Gives term_of self.old self.new result (expression_after first second) }
@@ -239,7 +241,7 @@ impl<'a> Parser<'a> {
 
     // Parses an assignment to each register.
     #[tactic(auto, using(crate::proofs::Parsing::one_read, crate::proofs::Parsing::stops_there, std::proofs::lemmas::Result::err_from_is_err_and), unfolding(crate::specs::Reading::assigns, crate::specs::Reading::assign, crate::specs::Parsing::expression_after))]
-    fn assigns(&mut self, registers: u32) -> Result<Vec<Expr>, TextFault>
+    fn assigns(&mut self, registers: u32) -> Result<Vec<Expr>, Stop>
         ensures { Gives (λ v. map term_of v.items) self.old self.new result (assigns registers) }
     {
         let mut expressions = Vec::new(self.alloc);
@@ -251,7 +253,7 @@ impl<'a> Parser<'a> {
     }
 
     #[tactic(auto, using(crate::proofs::Parsing::round_is))]
-    fn round(&mut self, registers: u32) -> Result<Round, TextFault>
+    fn round(&mut self, registers: u32) -> Result<Round, Stop>
         ensures { Gives step_of self.old self.new result (round registers) }
     {
         self.expect(Token::Round)?;
@@ -262,7 +264,7 @@ impl<'a> Parser<'a> {
     }
 
     #[tactic(auto, using(crate::proofs::Parsing::stops_there, std::proofs::lemmas::Result::err_from_is_err_and), unfolding(crate::specs::Reading::rounds))]
-    fn rounds(&mut self, count: u32, registers: u32) -> Result<Vec<Round>, TextFault>
+    fn rounds(&mut self, count: u32, registers: u32) -> Result<Vec<Round>, Stop>
         ensures { Gives (λ v. map step_of v.items) self.old self.new result (rounds count registers) }
     {
         let mut steps = Vec::new(self.alloc);
@@ -275,7 +277,7 @@ impl<'a> Parser<'a> {
 
     // Parses a whole program, up to the end of the text.
     #[tactic(auto, unfolding(crate::specs::Reading::program))]
-    pub(crate) fn whole(&mut self) -> Result<Program, TextFault>
+    pub(crate) fn whole(&mut self) -> Result<Program, Stop>
         ensures { Gives (λ p. p) self.old self.new result program }
     {
         let header = self.header()?;

@@ -100,8 +100,8 @@ text_answer readable stops text = by_length (cases_lt LONGEST_TEXT (length text)
     by_reading : length text ≤ LONGEST_TEXT → IsAscii text → (r : Read ProgramTree) →
         program 0 (lexemes_of text) ≡ r → TextAnswer text
     by_reading short ascii (Got p nodes left) is = inl (p, readable text p nodes left short ascii is)
-    by_reading short ascii (Fault k from) is =
-        let first = stops (lexemes_of text) k from is in
+    by_reading short ascii (Fault k e from) is =
+        let first = (stops (lexemes_of text) k e from is).0 in
         let le = fault_within (length text) [] (lexemes_of text) k from (lexemes_within text) first in
         inr (k, length text - from, in_lexemes k (length text - from) from short ascii first (omega (arith, le)))
 

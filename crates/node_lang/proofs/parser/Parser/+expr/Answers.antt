@@ -1,5 +1,6 @@
 -- An operation is read by the method for its number of operands.
-use Rattle.std.proofs.Common.{ℕ, ap, refl}
+use Rattle.std.proofs.Common.{ℕ, ap, refl, rules}
+use Rattle.std.proofs.lemmas.Result.{err_from_is_err_and}
 use Rattle.node_lang.specs.declared.token.Token.{Token}
 use Rattle.node_lang.specs.Reading.{after, one_of, operand, three_of, two_of}
 use Rattle.node_lang.proofs.Parsing.{gives_operation, go_on_assoc}
@@ -26,3 +27,17 @@ expr-returns-in-If t c =
     gives_operation c.args.self.now c.next.new.self c.choose.new.self c.args.levels first c.choose.result _ _ _
     c.in_ok-token.ensures.reads (ap (after (operand c.args.levels)) c.in-If.is) (λ n l. simp go_on_assoc)
     c.choose.ensures
+
+-- The fault is one of the last two operands.
+pub choose-returns-in_err-a : goal.choose-returns-in_err-a
+choose-returns-in_err-a t c =
+    let p = err_from_is_err_and c.from_residual-in_err-a.result c.from_residual-in_err-a.ensures.1 in
+    rw (
+      p.1,
+      p.2,
+      c.in_ok-below.ensures.below,
+      c.in_ok-below.ensures.reads.1,
+      ← c.in_ok-below.ensures.reads.0,
+      c.in_ok-c.ensures.1,
+      ← c.in_ok-c.ensures.0,
+    ) (search rules)
