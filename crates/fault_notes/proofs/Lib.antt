@@ -1,4 +1,3 @@
 pub mod Joined
 pub mod Causes
-pub mod Shapes
 pub mod MostIds

@@ -6,7 +6,3 @@ pub mod FaultTokens
 pub mod CausePlaces
 pub mod BoundNotes
 pub mod ProgramNotes
-pub mod RingNotes
-pub mod VerdictNotes
-pub mod TableSizes
-pub mod TableNotes

@@ -1,7 +1,7 @@
 -- Notes with the place of the cause in a text.
 use Rattle.std.specs.Prelude.{ℕ, ◌++◌, List, [], ◌∷◌, codes, Option, Some, None}
+use Rattle.source_places.specs.Heads.{place_head}
 use Rattle.source_places.specs.Shown.{marked_line}
-use Rattle.fault_notes.specs.TextNotes.{place_head}
 
 -- a cause with its place, or without one
 abbrev pub placed_note : List ℕ → List ℕ → Option ℕ → List ℕ

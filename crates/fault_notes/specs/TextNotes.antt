@@ -1,18 +1,12 @@
 -- The note on a fault of a program text.
 use Rattle.std.specs.Prelude.{◌≡◌, ℕ, ◌++◌, List, [], ◌∷◌, drop, codes, Option}
-use Rattle.std.specs.Fmt.{decimal}
 use Rattle.node_lang.specs.declared.fault.FaultKind.{FaultKind}
 use Rattle.node_lang.specs.declared.fault.FaultKind.TheVariants as kind
 use Rattle.node_lang.specs.declared.expected.Expected.{Expected}
 use Rattle.node_lang.specs.Following.{IsExpected}
-use Rattle.source_places.specs.Places.{line_number, column}
+use Rattle.source_places.specs.Heads.{place_head}
 use Rattle.source_places.specs.Shown.{shown, marked_line}
 use Rattle.fault_notes.specs.Words.{wanted_part, first_word}
-
--- the start of a note on a place of a text
-abbrev pub place_head : List ℕ → ℕ → List ℕ
-place_head text offset = codes "nbhd: line "
-    ++ (decimal (line_number text offset) ++ (codes ", column " ++ (decimal (column text offset) ++ codes ": ")))
 
 -- a word in quotes, as it is shown
 abbrev pub quoted : List ℕ → List ℕ

@@ -5,10 +5,9 @@ ghost use Rattle.fault_notes.specs.FaultTokens.{place_of_cause};
 ghost use Rattle.fault_notes.specs.Placed.{placed_note};
 
 use crate::scanning::place_of;
-use crate::texts::write_head;
 use lang_check::CheckFault;
 use node_program::OutOfMemory;
-use source_places::write_marked_line;
+use source_places::{write_marked_line, write_place_head};
 use std::alloc::Global;
 
 // Returns the note on the cause of a refusal, with the place of the first lexeme that is the cause.
@@ -24,7 +23,7 @@ pub(crate) fn placed_note(
         return Ok(format!(in alloc; "nbhd: {cause}\n")?);
     };
     let mut note = String::new(alloc);
-    write_head(&mut note, text, offset)?;
+    write_place_head(&mut note, text, offset)?;
     note.push_str(cause)?;
     note.push_str("\n")?;
     write_marked_line(&mut note, text, offset)?;

@@ -5,15 +5,16 @@ ghost use Rattle.std.specs.Prelude.{◌≡◌, ◌≢◌, ◌≤◌, ◌++◌, c
 ghost use Rattle.node_lang.specs.declared.fault.FaultKind.TheVariants as kind;
 ghost use Rattle.node_lang.specs.declared.expected.Expected.{Expected};
 ghost use Rattle.node_lang.specs.Faults.{FaultsAt};
+ghost use Rattle.source_places.specs.Heads.{place_head};
 ghost use Rattle.source_places.specs.Shown.{marked_line};
-ghost use Rattle.fault_notes.specs.TextNotes.{place_head, quoted, cause_of, IsTextNote, too_long_note};
+ghost use Rattle.fault_notes.specs.TextNotes.{quoted, cause_of, IsTextNote, too_long_note};
 
 use crate::advice::{end_advice, place_advice, word_advice};
 use crate::signs::byte_advice;
 use crate::words::{first_word, write_wanted_part};
 use node_lang::{Expected, FaultKind, TextFault, expected_in};
 use node_program::OutOfMemory;
-use source_places::{column_of, line_of, write_marked_line, write_shown};
+use source_places::{write_marked_line, write_place_head, write_shown};
 use std::alloc::{AllocError, Global};
 use std::fmt::Write;
 
@@ -47,7 +48,7 @@ fn write_note(
         ++ (cause_of fault.kind (word (drop fault.offset text.now)) wanted ++ (advice ++ 10 ∷ marked_line text.now fault.offset))))) }
 {
     let word = word_at(text, fault.offset);
-    write_head(out, text, fault.offset)?;
+    write_place_head(out, text, fault.offset)?;
     write_cause(out, fault.kind, word, wanted)?;
     out.push_str(advice_on(text, fault, word, wanted))?;
     out.push_str("\n")?;
@@ -61,16 +62,6 @@ fn word_at(text: &[u8], offset: usize) -> &[u8]
     ensures { result.now ≡ word (drop offset text.entry.now) }
 {
     first_word(&text[offset..])
-}
-
-// Writes the line and the column of an offset.
-pub(crate) fn write_head(out: &mut String, text: &[u8], offset: usize) -> Result<(), AllocError>
-    requires { offset ≤ length text.now }
-    ensures { OnOk result (string_bytes out.new ≡ string_bytes out.old ++ place_head text.now offset) }
-{
-    let line = line_of(text, offset);
-    let column = column_of(text, offset);
-    write!(out, "nbhd: line {line}, column {column}: ")
 }
 
 // Writes a word in quotes.

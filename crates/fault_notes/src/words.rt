@@ -1,6 +1,6 @@
 //! The texts of notes for the word at a place, and for what can follow there.
 
-ghost use Rattle.std.specs.Prelude.{◌≡◌, ◌==◌, not, ◌≤◌, ◌++◌, length, OnOk, string_bytes};
+ghost use Rattle.std.specs.Prelude.{◌≡◌, ◌≤◌, ◌++◌, length, OnOk, string_bytes};
 ghost use Rattle.std.specs.List.{prefix_len};
 ghost use Rattle.node_lang.specs.Words.{is_word_byte as word_byte};
 ghost use Rattle.fault_notes.specs.Words.{spelled, wanted_text, wanted_part, first_word as first};
@@ -17,12 +17,11 @@ pub(crate) fn is_word_byte(byte: u8) -> bool
     matches!(byte, b'0'..=b'9' | b'A'..=b'Z' | b'a'..=b'z')
 }
 
-// Returns the number of bytes before the first byte of this value, or before the end.
-pub(crate) fn front_len(text: &[u8], end: u8) -> usize
-    ensures value { result ≡ prefix_len (λ b. not (b == end)) text.now }
-    ensures within { result ≤ length text.now }
+// Returns the number of bytes before the first blank, or before the end.
+fn front_len(words: &[u8]) -> usize
+    ensures { result ≤ length words.now }
 {
-    text.iter().take_while(|byte| **byte != end).count()
+    words.iter().take_while(|byte| **byte != b' ').count()
 }
 
 // Returns the number of letters and digits at the start.
@@ -48,7 +47,7 @@ pub(crate) fn first_word(text: &[u8]) -> &[u8]
 fn is_among(word: &[u8], words: &[u8]) -> bool {
     let mut rest = words;
     'words: while !rest.is_empty() {
-        let len = front_len(rest, b' ');
+        let len = front_len(rest);
         if &rest[..len] == word {
             return true;
         }

@@ -12,9 +12,9 @@ use Rattle.table_text.specs.declared.fault.TableFault.TheVariants as table
 use Rattle.table_text.specs.declared.limits.TheConstants.{LONGEST_TABLE_TEXT}
 use Rattle.fault_notes.specs.TextNotes.{IsTextNote, too_long_note}
 use Rattle.fault_notes.specs.ProgramNotes.{IsCheckNote}
-use Rattle.fault_notes.specs.RingNotes.{place_note, ring_note, segments_note}
-use Rattle.fault_notes.specs.TableNotes.{long_note, IsFormNote, IsWindowNote, channel_note}
-use Rattle.fault_notes.specs.VerdictNotes.{no_tuples_note, verdict_note, HasPlaces}
+use Rattle.table_notes.specs.RingNotes.{place_note, ring_note, segments_note}
+use Rattle.table_notes.specs.TableNotes.{long_note, IsFormNote, IsWindowNote, channel_note}
+use Rattle.table_notes.specs.VerdictNotes.{no_tuples_note, verdict_note, HasPlaces}
 use Rattle.refutation.specs.declared.fault.RefuteError.TheVariants as refute
 use Rattle.reports.specs.Causes.{Reason, of_text, of_program, of_ring, of_place, of_segments, of_table_text, of_formula, of_refutation, of_no, of_no_tuples}
 use Rattle.reports.specs.FormulaNotes.{IsFormulaNote, refutation_note}

@@ -7,12 +7,13 @@ ghost use Rattle.table_text.specs.Faults.{IsFault};
 
 use crate::cause::Cause;
 use crate::formula_notes::{formula_note, refutation_note};
-use fault_notes::{
-    channel_note, check_note, form_note, long_note, no_tuples_note, place_note, ring_note,
-    segments_note, text_note, verdict_note, window_note,
-};
+use fault_notes::{check_note, text_note};
 use node_program::OutOfMemory;
 use std::alloc::Global;
+use table_notes::{
+    channel_note, form_note, long_note, no_tuples_note, place_note, ring_note, segments_note,
+    verdict_note, window_note,
+};
 use table_text::{LONGEST_TABLE_TEXT, TableFault};
 
 /// Returns the note on a cause in this input. Fails if memory was refused.

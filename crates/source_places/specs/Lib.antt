@@ -1,3 +1,5 @@
 -- The definitions that the contracts cite.
 pub mod Places
+pub mod Heads
 pub mod Shown
+pub mod Lists

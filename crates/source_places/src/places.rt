@@ -30,8 +30,8 @@ fn last_line_len(text: &[u8]) -> usize
     text.iter().rev().take_while(|byte| **byte != b'\n').count()
 }
 
-// Returns the number of bytes before the first line feed.
-fn first_line_len(text: &[u8]) -> usize
+/// Returns the number of bytes before the first line feed, or of all if there is none.
+pub fn first_line_len(text: &[u8]) -> usize
     ensures value { result ≡ prefix_len in_line text.now }
     ensures within { result ≤ length text.now }
 {

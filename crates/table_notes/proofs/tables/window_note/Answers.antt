@@ -1,0 +1,10 @@
+use Rattle.std.proofs.Common.{◌∙◌, ap}
+use Rattle.table_notes.specs.TableNotes.{of_window, line_note}
+use Rattle.std.proofs.lemmas.Result.{IfOk-weaker}
+use Rattle.table_notes.proofs.tables.window_note.Goals as goal
+
+pub returns-in-Some : goal.returns-in-Some
+returns-in-Some c =
+    IfOk-weaker c.line_note.result _ _
+    (λ note is. of_window c.in-Some.window.items (let due = rw c.in-Some.is at c.in_ok-due.ensures.window in due)
+    (is ∙ ap (line_note c.args.line) c.deref.ensures.value)) c.line_note.ensures

@@ -1,0 +1,5 @@
+-- The definitions that the contracts cite.
+pub mod RingNotes
+pub mod VerdictNotes
+pub mod TableSizes
+pub mod TableNotes

@@ -1,0 +1,12 @@
+//! Notes on rings and on table texts that are refused, and on the verdicts of tables.
+#![tactic(auto)]
+
+mod headers;
+mod rings;
+mod sizes;
+mod tables;
+mod verdicts;
+
+pub use rings::{place_note, ring_note, segments_note};
+pub use tables::{channel_note, form_note, long_note, window_note};
+pub use verdicts::{no_tuples_note, verdict_note};

@@ -1,0 +1,210 @@
+//! The notes on a text that is not the text of a table.
+
+ghost use Rattle.std.specs.Prelude.{◌≡◌, ◌+◌, ◌*◌, ◌<◌, ◌≤◌, ℕ, List, Some, length, slice_get, IfOk, IfSome, IfNone, string_bytes};
+ghost use Rattle.win_index.specs.Windows.{windows};
+ghost use Rattle.table_notes.specs.TableSizes.{IsDue};
+ghost use Rattle.table_notes.specs.TableNotes.{long_note, IsFormNote, IsWindowNote, line_note, channel_note};
+
+use crate::headers::header_advice;
+use crate::sizes::shape_of;
+use decimal_texts::field;
+use node_program::OutOfMemory;
+use source_places::{first_line_len, write_joined, write_marked_line, write_place_head};
+use std::alloc::{AllocError, Global};
+use std::fmt::Write;
+use win_index::Shape;
+
+const PROGRAM: &str = "; this looks like a program: `nbhd judge` takes one";
+
+const PRINTED: &str = "; this is what `nbhd` printed in place of a table";
+
+const STOPPED: &str = "; the text stops in this line: lines are missing";
+
+/// Returns the note on a text that is too long. Fails if memory was refused.
+pub fn long_note(alloc: Global) -> Result<String, OutOfMemory>
+    ensures { IfOk result (λ note. string_bytes note ≡ long_note) }
+{
+    Ok(format!(in alloc; "nbhd: the text of a table has at most 134217728 bytes\n")?)
+}
+
+/// Returns the note on the line at this offset, which does not have its form. Fails if memory was
+/// refused.
+pub fn form_note(alloc: Global, text: &[u8], offset: usize) -> Result<String, OutOfMemory>
+    requires { offset ≤ length text.now }
+    ensures { IfOk result (λ note. IsFormNote text.now offset (string_bytes note)) }
+{
+    let mut note = String::new(alloc);
+    write_place_head(&mut note, text, offset)?;
+    note.push_str("this line does not have the form that `nbhd table` writes")?;
+    note.push_str(form_advice(text, offset))?;
+    note.push_str("\n")?;
+    write_marked_line(&mut note, text, offset)?;
+    Ok(note)
+}
+
+// Returns advice on a text whose line at this offset does not have its form.
+fn form_advice(text: &[u8], offset: usize) -> &'static str
+    requires { offset ≤ length text.now }
+{
+    if text.is_empty() {
+        return "; the text is empty, so no file was given";
+    }
+    if text.contains(&b'\r') {
+        return "; lines end with a carriage return, which `tr -d '\\r'` takes out";
+    }
+    if offset == 0 {
+        return first_advice(text);
+    }
+    let (before, rest) = text.split_at(offset);
+    if first_line_len(before).saturating_add(1) == offset {
+        return second_advice(text, rest);
+    }
+    if before.ends_with(b"\nend\n") && !rest.starts_with(b"\n") {
+        return "; nothing follows the line `end`";
+    }
+    line_advice(rest)
+}
+
+// Returns advice on a text that does not begin like a table text.
+fn first_advice(text: &[u8]) -> &'static str {
+    if matches!(text, [b'0'..=b'9', ..]) {
+        return "; its first two lines are missing";
+    }
+    match field(text, b"rounds ", b' ') {
+        Some((_, rest)) if rest.starts_with(b"ids ") => {
+            "; its first line, `nbhd-table 2` or `nbhd-table 1`, is missing"
+        }
+        _ => other_advice(text),
+    }
+}
+
+// Returns advice on a text that is not the rest of a table text.
+fn other_advice(text: &[u8]) -> &'static str {
+    match text {
+        [0xef, 0xbb, 0xbf, ..] => {
+            "; the text begins with a byte order mark: save the file without one"
+        }
+        [b'#', ..] => PROGRAM,
+        _ if text.starts_with(b"rounds") => PROGRAM,
+        _ if text.starts_with(b"nbhd-table ") => {
+            "; its first line is `nbhd-table 2`, or `nbhd-table 1`"
+        }
+        _ if is_printed(text) => PRINTED,
+        _ => "; its first line is `nbhd-table` and the version",
+    }
+}
+
+// Returns whether a text begins as what `nbhd` prints in place of a table.
+fn is_printed(text: &[u8]) -> bool {
+    let is_fault = text.starts_with(b"text ") || text.starts_with(b"check ");
+    is_fault || text.starts_with(b"yes:") || text.starts_with(b"no:")
+}
+
+// Returns advice on the second line of a text, which does not have its form; `rest` is the text
+// from that line on.
+fn second_advice(text: &[u8], rest: &[u8]) -> &'static str {
+    let line = &rest[..first_line_len(rest)];
+    if line.len() == rest.len() {
+        return STOPPED;
+    }
+    if line.contains(&b',') {
+        return "; this line has no commas";
+    }
+    header_advice(text.starts_with(b"nbhd-table 1\n"), rest)
+}
+
+// Returns advice on a line that does not have its form, from the text from the line on.
+fn line_advice(rest: &[u8]) -> &'static str {
+    if rest.is_empty() {
+        return "; the text stops before its end, which is a line `end`: lines are missing";
+    }
+    if matches!(rest, b"end") {
+        return "; the last line has no line end";
+    }
+    let line = &rest[..first_line_len(rest)];
+    if line.len() == rest.len() {
+        return STOPPED;
+    }
+    bytes_advice(line)
+}
+
+// Returns advice on the bytes of a line that does not have its form.
+fn bytes_advice(line: &[u8]) -> &'static str {
+    match line {
+        [] => "; the line is blank",
+        b"end" => "; lines are missing before it",
+        [b'#', ..] => "; there are no comments in tables",
+        b"END" | b"End" => "; the last line is `end`",
+        [.., b':'] | [.., b':', b' '] => "; its channel is missing",
+        [.., b' '] => "; it ends with a blank",
+        [b'0', b'0'..=b'9', ..] => "; numbers have no zeros before them",
+        _ if line.contains(&b',') || line.contains(&b'\t') => {
+            "; numbers are parted by single blanks"
+        }
+        _ if line.contains(&b'-') || line.contains(&b'.') => "; a number has only digits",
+        _ => "; a line is the identifiers of a window, ` : ` and a channel",
+    }
+}
+
+// Returns the window of this shape with this number.
+fn window_in(alloc: Global, shape: Shape, number: u32) -> Result<Vec<u32>, AllocError>
+    requires { number < length (windows (2 * shape.rounds + 1) shape.ids) }
+    ensures { IfOk result (λ window. slice_get (windows (2 * shape.rounds + 1) shape.ids) number ≡ Some window.items) }
+{
+    let rounds = shape.rounds();
+    let mut window = vec![in alloc; 0u32; 2 * rounds as usize + 1]?;
+    shape.window(rounds, number, &mut window);
+    Ok(window)
+}
+
+// Returns the window that a line of a table text is to have.
+fn due_window(alloc: Global, text: &[u8], line: u32) -> Result<Option<Vec<u32>>, AllocError>
+    ensures window { IfOk result (λ due. IfSome due (λ window. IsDue text.now line window.items)) }
+    ensures none { IfOk result (λ due. IfNone due ((window : List ℕ) → ¬ IsDue text.now line window)) }
+{
+    let Some(shape) = shape_of(text) else {
+        return Ok(None);
+    };
+    if line < 3 {
+        return Ok(None);
+    }
+    if line - 3 >= shape.count(shape.rounds()) {
+        return Ok(None);
+    }
+    Ok(Some(window_in(alloc, shape, line - 3)?))
+}
+
+/// Returns the note on a line of a table text that does not have its window, which follows from the
+/// second line. Lines are counted from 1. Fails if memory was refused.
+pub fn window_note(alloc: Global, text: &[u8], line: u32) -> Result<String, OutOfMemory>
+    ensures { IfOk result (λ note. IsWindowNote text.now line (string_bytes note)) }
+{
+    let due = due_window(alloc, text, line)?;
+    match due {
+        Some(window) => line_note(alloc, line, &window),
+        None => Ok(format!(in alloc;
+            "nbhd: line {line} is not the line of the window that follows there\n"
+        )?),
+    }
+}
+
+// Returns the note on the line that should have this window.
+fn line_note(alloc: Global, line: u32, window: &[u32]) -> Result<String, OutOfMemory>
+    ensures { IfOk result (λ note. string_bytes note ≡ line_note line window.now) }
+{
+    let mut note = String::new(alloc);
+    write!(note, "nbhd: line {line} is not the line of window ")?;
+    write_joined(&mut note, window, " ")?;
+    note.push_str("\n")?;
+    Ok(note)
+}
+
+/// Returns the note on a line whose channel is too large. Lines are counted from 1. Fails if memory
+/// was refused.
+pub fn channel_note(alloc: Global, line: u32) -> Result<String, OutOfMemory>
+    ensures { IfOk result (λ note. string_bytes note ≡ channel_note line) }
+{
+    Ok(format!(in alloc;
+        "nbhd: line {line} has a channel that is not below the number of channels of line 2\n"
+    )?)
+}

@@ -1,0 +1,134 @@
+//! The notes on a no of the judge, and on a yes about no ring.
+
+ghost use Rattle.std.specs.Prelude.{◌≡◌, ◌++◌, ◌<◌, ◌≤◌, length, codes, IfOk, OnOk, string_bytes};
+ghost use Rattle.win_index.specs.Arcs.{window_around};
+ghost use Rattle.win_index.specs.declared.limits.TheConstants.{MAX_IDS, MAX_ROUNDS};
+ghost use Rattle.source_places.specs.Lists.{joined};
+ghost use Rattle.table_notes.specs.VerdictNotes.{distance_text, pair_text, channels_text, no_tuples_note, windows_text, verdict_note, HasPlaces};
+
+use node_program::OutOfMemory;
+use source_places::write_joined;
+use std::alloc::{AllocError, Global};
+use std::fmt::Write;
+
+/// Returns the note on a yes of the judge about no ring: `ids` identifiers are too few for a ring
+/// of `nodes` nodes, the least that is judged. Fails if memory was refused.
+pub fn no_tuples_note(alloc: Global, nodes: usize, ids: u32) -> Result<String, OutOfMemory>
+    ensures { IfOk result (λ note. string_bytes note ≡ no_tuples_note nodes ids) }
+{
+    let note = format!(in alloc;
+        "nbhd: no ring was judged: {ids} identifiers are too few for a ring of at least {nodes} nodes\n"
+    )?;
+    Ok(note)
+}
+
+/// Returns the note on a no of the judge for `rounds` rounds: the ring, the nodes at the two
+/// places, their channels and their windows. Fails if memory was refused.
+pub fn verdict_note(
+    alloc: Global,
+    rounds: u32,
+    ring: &[u32],
+    places: (u32, u32),
+    channels: (u32, u32),
+) -> Result<String, OutOfMemory>
+    requires { HasPlaces rounds ring.now places }
+    ensures { IfOk result (λ note. string_bytes note ≡ verdict_note rounds ring.now places channels) }
+{
+    let mut note = String::new(alloc);
+    note.push_str("nbhd: on the ring ")?;
+    write_joined(&mut note, ring, ",")?;
+    note.push_str(distance_text(places))?;
+    write_pair(&mut note, ring, places)?;
+    write_channels(&mut note, channels)?;
+    write_windows(alloc, &mut note, rounds, ring, places)?;
+    Ok(note)
+}
+
+// Returns the text that says whether the two places are neighbours.
+fn distance_text(places: (u32, u32)) -> &'static str
+    requires { places.0 < MAX_IDS }
+    ensures { result.now ≡ distance_text places }
+{
+    let (first, second) = places;
+    if second == first + 1 {
+        return " the neighbours ";
+    }
+    " the nodes at distance two "
+}
+
+// Writes the nodes at the two places.
+fn write_pair(out: &mut String, ring: &[u32], places: (u32, u32)) -> Result<(), AllocError>
+    requires first { places.0 < length ring.now }
+    requires second { places.1 < length ring.now }
+    ensures { OnOk result (string_bytes out.new ≡ string_bytes out.old ++ pair_text ring.now places) }
+{
+    let (first, second) = places;
+    let first_id = ring[first as usize];
+    let second_id = ring[second as usize];
+    write!(
+        out,
+        "{first_id} and {second_id} (places {first} and {second}) have "
+    )
+}
+
+// Writes the channels.
+fn write_channels(out: &mut String, channels: (u32, u32)) -> Result<(), AllocError>
+    ensures { OnOk result (string_bytes out.new ≡ string_bytes out.old ++ channels_text channels) }
+{
+    let (first, second) = channels;
+    if first == second {
+        return write!(out, "channel {first}");
+    }
+    write!(out, "channels {first} and {second}")
+}
+
+// Returns the window of a place.
+fn window_of(alloc: Global, rounds: u32, ring: &[u32], place: u32) -> Result<Vec<u32>, AllocError>
+    requires rounds { rounds ≤ MAX_ROUNDS }
+    requires long { rounds ≤ length ring.now }
+    requires few { length ring.now ≤ MAX_IDS }
+    requires place { place < length ring.now }
+    ensures { IfOk result (λ window. window.items ≡ window_around ring.now rounds place) }
+{
+    let start = place as usize + ring.len() - rounds as usize;
+    let count = 2 * rounds as usize + 1;
+    (0..count)
+        .map(|step| ring[(start + step) % ring.len()])
+        .collect(alloc)
+}
+
+// Writes the window of a place.
+fn write_window(
+    alloc: Global,
+    out: &mut String,
+    rounds: u32,
+    ring: &[u32],
+    place: u32,
+) -> Result<(), AllocError>
+    requires rounds { rounds ≤ MAX_ROUNDS }
+    requires long { rounds ≤ length ring.now }
+    requires few { length ring.now ≤ MAX_IDS }
+    requires place { place < length ring.now }
+    ensures { OnOk result (string_bytes out.new ≡ string_bytes out.old ++ joined (codes " ") (window_around ring.now rounds place)) }
+{
+    let window = window_of(alloc, rounds, ring, place)?;
+    write_joined(out, &window, " ")
+}
+
+// Writes the windows of the two places.
+fn write_windows(
+    alloc: Global,
+    out: &mut String,
+    rounds: u32,
+    ring: &[u32],
+    places: (u32, u32),
+) -> Result<(), AllocError>
+    requires { HasPlaces rounds ring.now places }
+    ensures { OnOk result (string_bytes out.new ≡ string_bytes out.old ++ windows_text rounds ring.now places) }
+{
+    out.push_str("; their windows are ")?;
+    write_window(alloc, out, rounds, ring, places.0)?;
+    out.push_str(" and ")?;
+    write_window(alloc, out, rounds, ring, places.1)?;
+    out.push_str("\n")
+}
