@@ -133,6 +133,7 @@ OTHER_FILES = [
         "nbhd: line 1, column 7: a byte over 127; a program text is ASCII, in its comments too; this is a blank that does not break",
     ),
     (b"", "nbhd: line 1, column 1: unexpected end of the text; expected `rounds`; the text is empty, so no file was given"),
+    (b" " * 65_530 + b"start", "nbhd: line 1, column 65531: unexpected `start`; expected `rounds`"),
     (
         b"# Pighvani\n\nPighvani compiles",
         "nbhd: line 3, column 1: unknown word `Pighvani`; a program begins with `rounds`",
