@@ -1,12 +1,11 @@
-//! Advice on faults of a program text: replacements for words of other languages, and other common
-//! mistakes.
+//! Advice on words that are not of the language: replacements for those of other languages, and other
+//! common mistakes.
 
-use crate::operands::{is_operation, operands_advice};
-use crate::signs::{comment_advice, mark_advice};
+use crate::around::{after_word, is_joined};
+use crate::operands::{bracket_advice, is_operation_in_capitals};
+use crate::signs::mark_advice;
 use crate::words::{advice_in, is_word_byte};
 use node_lang::{Expected, Token};
-
-const INFIX: &str = "; an operation is written before its operands, as in `add(a, b)`";
 
 const UNEQUAL: &str = "; write `ne(a, b)`, or `eq(x, 0)` where x is to be 0";
 
@@ -14,12 +13,10 @@ const ASSIGNED: &str = "; an assignment is written `r0 = ..`";
 
 const DIGITS: &str = "; write a number in digits";
 
-const BRACKETED: &str =
+pub(crate) const BRACKETED: &str =
     "; the operands of an operation are written in brackets, as in `if(c, a, b)`";
 
-const OPEN: &str = "; a bracket is open";
-
-const ROUNDS: &str = "; there are as many rounds as `rounds` says";
+pub(crate) const OPEN: &str = "; a bracket is open";
 
 const ENDED: &str = "; the expression of `finish` ends the program";
 
@@ -103,6 +100,9 @@ pub(crate) fn word_advice(word: &[u8], rest: &[u8], wanted: Option<Expected>) ->
 
 // Returns advice on letters and digits that are no word of the language.
 fn letters_advice(word: &[u8], rest: &[u8], wanted: Expected) -> &'static str {
+    if is_joined(word) {
+        return "; a blank is missing in it";
+    }
     match wanted {
         Expected::Number
         | Expected::This(Token::Channels)
@@ -114,22 +114,33 @@ fn letters_advice(word: &[u8], rest: &[u8], wanted: Expected) -> &'static str {
             if !matches!(word, b"both" | b"all") => missing_word(wanted),
         Expected::This(Token::Rounds) if rest.starts_with(b"p cnf") =>
             "; this is a formula for a solver",
-        _ => advice_in(&WORDS, word).unwrap_or(unknown_advice(word, wanted)),
+        _ => advice_in(&WORDS, word).unwrap_or(unknown_advice(word, rest, wanted)),
     }
 }
 
 // Returns advice on letters and digits of which nothing is known.
-fn unknown_advice(word: &[u8], wanted: Expected) -> &'static str {
+fn unknown_advice(word: &[u8], rest: &[u8], wanted: Expected) -> &'static str {
+    let is_name = matches!(after_word(word, rest), [b'(', ..]);
     match wanted {
-        Expected::Expression | Expected::This(Token::Register(_)) => spelling_advice(word),
+        Expected::Expression if is_name => name_advice(word),
+        Expected::Expression => bracket_advice(word).unwrap_or(spelling_advice(word)),
+        Expected::This(Token::Register(_)) => spelling_advice(word),
         Expected::This(Token::Comma) => "; operands are separated by commas",
         Expected::This(Token::Close) => OPEN,
         _ => missing_word(wanted),
     }
 }
 
+// Returns advice on a word before a bracket that is not the name of an operation.
+fn name_advice(word: &[u8]) -> &'static str {
+    if is_operation_in_capitals(word) {
+        return "; the names of operations have small letters";
+    }
+    "; there is no operation of this name"
+}
+
 // Returns advice that names the word that can follow.
-fn missing_word(wanted: Expected) -> &'static str {
+pub(crate) fn missing_word(wanted: Expected) -> &'static str {
     match wanted {
         Expected::This(Token::Rounds) => "; a program begins with `rounds`",
         Expected::This(Token::Channels) => "; expected `channels`",
@@ -155,116 +166,6 @@ fn spelling_advice(word: &[u8]) -> &'static str {
         [b'0'..=b'9', ..] => "; a number has only digits",
         [b'r' | b'R', b'0'..=b'9', ..] => "; registers are `r0` to `r7`",
         _ => "; registers are `r0` to `r7`, and have no other names",
-    }
-}
-
-// Returns advice on a word or a mark of the language, with which `rest` begins, that cannot follow
-// the text before it, after which `wanted` can follow.
-pub(crate) fn place_advice(
-    before: &[u8],
-    word: &[u8],
-    rest: &[u8],
-    wanted: Expected,
-) -> &'static str {
-    match word {
-        b"=" => equals_advice(rest, wanted),
-        b"(" => open_advice(rest, wanted),
-        b")" => close_advice(before, wanted),
-        b"," => comma_advice(before),
-        _ if is_operation(word) => operation_advice(before, wanted),
-        _ => known_advice(before, word, wanted),
-    }
-}
-
-// Returns advice on a `=` at a place where `wanted` can follow.
-fn equals_advice(rest: &[u8], wanted: Expected) -> &'static str {
-    match wanted {
-        Expected::This(Token::Comma) | Expected::This(Token::Close) =>
-            "; write `eq(a, b)` to compare",
-        _ if rest.starts_with(b"==") => "; write `eq(a, b)` to compare",
-        _ => "; `=` is only written after the register of an assignment",
-    }
-}
-
-// Returns advice on a `(` at a place where `wanted` can follow.
-fn open_advice(rest: &[u8], wanted: Expected) -> &'static str {
-    match wanted {
-        Expected::This(Token::Rounds) => comment_advice(rest),
-        Expected::Expression => "; an expression has no brackets around it",
-        Expected::Number => "; write a number in digits, without brackets",
-        Expected::This(Token::Left) => "; write `send left ..`, without brackets",
-        Expected::This(Token::Right) => "; write `send right ..`, without brackets",
-        _ => "; no brackets are allowed here",
-    }
-}
-
-// Returns advice on a `)` after a text, at a place where `wanted` can follow.
-fn close_advice(before: &[u8], wanted: Expected) -> &'static str {
-    let advice = operands_advice(before);
-    match wanted {
-        Expected::This(Token::Open) => BRACKETED,
-        _ if advice.is_empty() => "; this bracket closes nothing",
-        _ => advice,
-    }
-}
-
-// Returns advice on a `,` after a text.
-fn comma_advice(before: &[u8]) -> &'static str {
-    let advice = operands_advice(before);
-    if advice.is_empty() {
-        return "; commas only separate operands";
-    }
-    advice
-}
-
-// Returns advice on the name of an operation after a text, at a place where `wanted` can follow.
-fn operation_advice(before: &[u8], wanted: Expected) -> &'static str {
-    match wanted {
-        Expected::This(Token::Comma)
-        | Expected::This(Token::Close)
-        | Expected::This(Token::Round)
-        | Expected::This(Token::Send)
-        | Expected::This(Token::Right)
-        | Expected::This(Token::Register(_))
-        | Expected::This(Token::Finish)
-        | Expected::End => INFIX,
-        _ => known_advice(before, b"", wanted),
-    }
-}
-
-// Returns advice on another word that cannot follow the text before it.
-fn known_advice(before: &[u8], word: &[u8], wanted: Expected) -> &'static str {
-    match wanted {
-        Expected::This(Token::Comma) => operands_advice(before),
-        Expected::This(Token::Close) => OPEN,
-        Expected::This(Token::Rounds) if matches!(word, [b'0'..=b'9', ..]) => {
-            "; leave out the numbers of the lines"
-        }
-        Expected::This(Token::Finish) if matches!(word, b"round") => ROUNDS,
-        _ => wanted_advice(wanted),
-    }
-}
-
-// Returns advice on the words that can follow at a place.
-fn wanted_advice(wanted: Expected) -> &'static str {
-    match wanted {
-        Expected::This(Token::Rounds)
-        | Expected::This(Token::Channels)
-        | Expected::This(Token::Registers) => {
-            "; a program begins with `rounds`, `channels` and `registers`"
-        }
-        Expected::This(Token::Send) => "; a round begins with `send left` and `send right`",
-        Expected::This(Token::Left) => "; `send left` comes first, then `send right`",
-        Expected::This(Token::Right) => "; `send left` is followed by `send right`",
-        Expected::This(Token::Register(_)) => "; each register is assigned, in order",
-        Expected::This(Token::Round) => ROUNDS,
-        Expected::This(Token::Finish) => "; each register is assigned once, then comes `finish`",
-        Expected::Expression => "; an expression is missing here",
-        Expected::This(Token::Open)
-        | Expected::This(Token::Equals)
-        | Expected::Number
-        | Expected::End => missing_word(wanted),
-        _ => "",
     }
 }
 

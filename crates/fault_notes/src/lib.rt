@@ -3,7 +3,9 @@
 #![tactic(auto)]
 
 mod advice;
+mod around;
 mod bounds;
+mod misplaced;
 mod operands;
 mod placed;
 mod programs;

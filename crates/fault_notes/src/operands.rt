@@ -2,6 +2,7 @@
 
 ghost use Rattle.std.specs.Prelude.{◌<◌, length, IfSome};
 
+use crate::around::is_token;
 use crate::words::{advice_in, is_word_byte};
 
 // The operations, each with advice on the number of its operands.
@@ -66,4 +67,24 @@ pub(crate) fn operands_advice(text: &[u8]) -> &'static str {
 // Returns whether a word is the name of an operation.
 pub(crate) fn is_operation(word: &[u8]) -> bool {
     advice_in(&OPERANDS, word).is_some()
+}
+
+// Returns whether a word is the name of an operation but for capitals.
+pub(crate) fn is_operation_in_capitals(word: &[u8]) -> bool {
+    OPERANDS
+        .iter()
+        .any(|(name, _)| name.eq_ignore_ascii_case(word))
+}
+
+// Returns advice on a word that begins with the name of an operation: its first operand may follow
+// there, without a bracket between. One with a number may be a name of its own, and has no advice.
+pub(crate) fn bracket_advice(word: &[u8]) -> Option<&'static str> {
+    for (name, _) in &OPERANDS {
+        match word.strip_prefix(*name) {
+            Some([b'0'..=b'9', ..]) => return Some(""),
+            Some(operand) if is_token(operand) => return Some("; a `(` is missing in it"),
+            _ => {}
+        }
+    }
+    None
 }

@@ -9,7 +9,8 @@ ghost use Rattle.source_places.specs.Heads.{place_head};
 ghost use Rattle.source_places.specs.Shown.{marked_line};
 ghost use Rattle.fault_notes.specs.TextNotes.{quoted, cause_of, IsTextNote, too_long_note};
 
-use crate::advice::{end_advice, place_advice, word_advice};
+use crate::advice::{end_advice, word_advice};
+use crate::misplaced::place_advice;
 use crate::signs::byte_advice;
 use crate::words::{first_word, write_wanted_part};
 use node_lang::{Expected, FaultKind, TextFault, expected_in};
