@@ -42,23 +42,28 @@ BRACKETS = [
     ("finish r0", "finish not()", "line 10, column 12: unexpected `)`; expected an expression; `not` takes 1 operand"),
     ("finish r0", "finish if(r0, , 1)", "line 10, column 15: unexpected `,`; expected an expression; `if` takes 3 operands"),
     ("finish r0", "finish min(, r0)", "line 10, column 12: unexpected `,`; expected an expression; `min` takes 2 operands"),
-    ("finish r0", "finish sub(r0; 1)", "line 10, column 14: unknown word `;`; operands are separated by commas"),
+    ("finish r0", "finish sub(r0; 1)", "line 10, column 14: unknown word `;`; expected `,`; operands are separated by commas"),
     (
         "finish r0",
         "finish not r0",
-        "line 10, column 12: unexpected `r0`; expected `(`; the operands of an operation are written in brackets, as in `if(c, a, b)`",
+        "line 10, column 12: unexpected `r0`; expected `(`"
+        "; the operands of an operation are written in brackets, as in `if(c, a, b)`",
     ),
-    ("finish r0", "finish [r0]", "line 10, column 8: unknown word `[`; leave this bracket out"),
-    ("finish r0", "finish {r0}", "line 10, column 8: unknown word `{`; leave this bracket out"),
-    ("finish r0", "finish max[r0, 1]", "line 10, column 11: unknown word `[`; operands are written in `(` and `)`"),
+    ("finish r0", "finish [r0]", "line 10, column 8: unknown word `[`; expected an expression; leave this bracket out"),
+    ("finish r0", "finish {r0}", "line 10, column 8: unknown word `{`; expected an expression; leave this bracket out"),
+    (
+        "finish r0",
+        "finish max[r0, 1]",
+        "line 10, column 11: unknown word `[`; expected `(`; operands are written in `(` and `)`",
+    ),
     (
         "send left 0",
         "send(left, 0)",
         "line 7, column 5: unexpected `(`; expected `left`; write `send left ..`, without brackets",
     ),
     ("start", "start()", "line 4, column 6: unexpected `(`; expected the assignment of r0; no brackets are allowed here"),
-    ("start", "start {", "line 4, column 7: unknown word `{`; a program has no such brackets"),
-    ("round\nsend", "round {\nsend", "line 6, column 7: unknown word `{`; a program has no such brackets"),
+    ("start", "start {", "line 4, column 7: unknown word `{`; expected the assignment of r0; a program has no such brackets"),
+    ("round\nsend", "round {\nsend", "line 6, column 7: unknown word `{`; expected `send`; a program has no such brackets"),
     ("round\nsend", "round()\nsend", "line 6, column 6: unexpected `(`; expected `send`; no brackets are allowed here"),
 ]
 
@@ -71,8 +76,8 @@ HEADER = [
     ),
     ("channels 6", "channel 6", "line 2, column 1: unknown word `channel`; expected `channels`"),
     ("registers 1", "register 1", "line 3, column 1: unknown word `register`; expected `registers`"),
-    ("channels 6", "channels six", "line 2, column 10: unknown word `six`; write a number in digits"),
-    ("rounds 1", "rounds T", "line 1, column 8: unknown word `T`; write a number in digits"),
+    ("channels 6", "channels six", "line 2, column 10: unknown word `six`; expected a number; write a number in digits"),
+    ("rounds 1", "rounds T", "line 1, column 8: unknown word `T`; expected a number; write a number in digits"),
     (
         "registers 1",
         "registers r0",
@@ -87,9 +92,9 @@ HEADER = [
     ("channels 6", "colours 6", "line 2, column 1: unknown word `colours`; expected `channels`"),
     ("registers 1", "variables 1", "line 3, column 1: unknown word `variables`; expected `registers`"),
     ("registers 1", "regs 1", "line 3, column 1: unknown word `regs`; expected `registers`"),
-    ("rounds 1", "steps 1", "line 1, column 1: unknown word `steps`; a program begins with `rounds`"),
-    ("rounds 1", "rounds -1", "line 1, column 8: unknown word `-`; numbers have no sign"),
-    ("rounds 1", "rounds 1.0", "line 1, column 9: unknown word `.`; numbers are whole"),
+    ("rounds 1", "steps 1", "line 1, column 1: unknown word `steps`; expected `rounds`"),
+    ("rounds 1", "rounds -1", "line 1, column 8: unknown word `-`; expected a number; numbers have no sign"),
+    ("rounds 1", "rounds 1.0", "line 1, column 9: unknown word `.`; expected `channels`; numbers are whole"),
     ("rounds 1", "rounds", "line 2, column 1: unexpected `channels`; expected a number; write a number in digits"),
     (
         "channels 6\n",
@@ -127,15 +132,39 @@ WORDS = [
     ("finish r0", "done", "line 10, column 1: unknown word `done`; expected `finish`"),
     ("finish r0", "colour r0", "line 10, column 1: unknown word `colour`; expected `finish`"),
     ("send right r0", "receive right", "line 8, column 1: unknown word `receive`; expected `send`"),
-    ("r0 = id", "set r0 = id", "line 5, column 1: unknown word `set`; an assignment is written `r0 = ..`"),
-    ("r0 = id", "let r0 = id", "line 5, column 1: unknown word `let`; an assignment is written `r0 = ..`"),
-    ("r0 = id", "int r0 = id", "line 5, column 1: unknown word `int`; an assignment is written `r0 = ..`"),
-    ("r0 = id", "x = id", "line 5, column 1: unknown word `x`; registers are `r0` to `r7`, and have no other names"),
-    ("r0 = id", "r0 <- id", "line 5, column 4: unknown word `<`; an assignment is written `r0 = ..`"),
+    (
+        "r0 = id",
+        "set r0 = id",
+        "line 5, column 1: unknown word `set`; expected the assignment of r0; an assignment is written `r0 = ..`",
+    ),
+    (
+        "r0 = id",
+        "let r0 = id",
+        "line 5, column 1: unknown word `let`; expected the assignment of r0; an assignment is written `r0 = ..`",
+    ),
+    (
+        "r0 = id",
+        "int r0 = id",
+        "line 5, column 1: unknown word `int`; expected the assignment of r0; an assignment is written `r0 = ..`",
+    ),
+    (
+        "r0 = id",
+        "x = id",
+        "line 5, column 1: unknown word `x`; expected the assignment of r0; registers are `r0` to `r7`, and have no other names",
+    ),
+    ("r0 = id", "r0 <- id", "line 5, column 4: unknown word `<`; expected `=`; an assignment is written `r0 = ..`"),
     ("r0 = id", "r0 id", "line 5, column 4: unexpected `id`; expected `=`; an assignment is written `r0 = ..`"),
-    ("r0 = id", "r0 is id", "line 5, column 4: unknown word `is`; an assignment is written `r0 = ..`"),
-    ("send right r0", "send right r0 + 1", "line 8, column 15: unknown word `+`; write `add(a, b)`"),
-    ("finish r0", "finish identifier", "line 10, column 8: unknown word `identifier`; the identifier is `id`"),
+    ("r0 = id", "r0 is id", "line 5, column 4: unknown word `is`; expected `=`; an assignment is written `r0 = ..`"),
+    (
+        "send right r0",
+        "send right r0 + 1",
+        "line 8, column 15: unknown word `+`; expected the assignment of r0; write `add(a, b)`",
+    ),
+    (
+        "finish r0",
+        "finish identifier",
+        "line 10, column 8: unknown word `identifier`; expected an expression; the identifier is `id`",
+    ),
 ]
 
 # Operations between operands, and numbers: parts of `CV1`, their replacements, and the notes.
@@ -143,7 +172,8 @@ INFIX = [
     (
         "finish r0",
         "finish r0 or 1",
-        "line 10, column 11: unexpected `or`; expected the end of the text; an operation is written before its operands, as in `add(a, b)`",
+        "line 10, column 11: unexpected `or`; expected the end of the text"
+        "; an operation is written before its operands, as in `add(a, b)`",
     ),
     (
         "r0 = id",
@@ -153,76 +183,93 @@ INFIX = [
     (
         "finish r0",
         "finish r0 min 5",
-        "line 10, column 11: unexpected `min`; expected the end of the text; an operation is written before its operands, as in `add(a, b)`",
+        "line 10, column 11: unexpected `min`; expected the end of the text"
+        "; an operation is written before its operands, as in `add(a, b)`",
     ),
-    ("r0 = id", "r0 = id >> 1", "line 5, column 9: unknown word `>`; write `shr(a, k)`"),
-    ("r0 = id", "r0 = id & 1", "line 5, column 9: unknown word `&`; write `and(a, b)`"),
-    ("r0 = id", "r0 = id ^ 5", "line 5, column 9: unknown word `^`; write `xor(a, b)`"),
+    ("r0 = id", "r0 = id >> 1", "line 5, column 9: unknown word `>`; expected `round`; write `shr(a, k)`"),
+    ("r0 = id", "r0 = id & 1", "line 5, column 9: unknown word `&`; expected `round`; write `and(a, b)`"),
+    ("r0 = id", "r0 = id ^ 5", "line 5, column 9: unknown word `^`; expected `round`; write `xor(a, b)`"),
     (
         "finish r0",
         "finish r0 != 1",
-        "line 10, column 11: unknown word `!`; write `ne(a, b)`, or `eq(x, 0)` where x is to be 0",
+        "line 10, column 11: unknown word `!`; expected the end of the text; write `ne(a, b)`, or `eq(x, 0)` where x is to be 0",
     ),
     (
         "finish r0",
         "finish if(r0, 1, r0 = 1)",
         "line 10, column 21: unexpected `=`; expected `)`; write `eq(a, b)` to compare",
     ),
-    ("finish r0", "finish r0 <= 5", "line 10, column 11: unknown word `<`; write `le(a, b)` for a <= b"),
-    ("finish r0", "finish r0 >= 5", "line 10, column 11: unknown word `>`; write `le(b, a)` for a >= b"),
+    (
+        "finish r0",
+        "finish r0 <= 5",
+        "line 10, column 11: unknown word `<`; expected the end of the text; write `le(a, b)` for a <= b",
+    ),
+    (
+        "finish r0",
+        "finish r0 >= 5",
+        "line 10, column 11: unknown word `>`; expected the end of the text; write `le(b, a)` for a >= b",
+    ),
     (
         "finish r0",
         "finish !r0",
-        "line 10, column 8: unknown word `!`; write `ne(a, b)`, or `eq(x, 0)` where x is to be 0",
+        "line 10, column 8: unknown word `!`; expected an expression; write `ne(a, b)`, or `eq(x, 0)` where x is to be 0",
     ),
-    ("r0 = id", "r0 = ~id", "line 5, column 6: unknown word `~`; write `not(a)`"),
-    ("r0 = id", "r0 += id", "line 5, column 4: unknown word `+`; write `r0 = add(r0, ..)`"),
-    ("r0 = id", "r0++", "line 5, column 3: unknown word `+`; write `r0 = add(r0, 1)`"),
-    ("r0 = id", "r0 -= 1", "line 5, column 4: unknown word `-`; write `r0 = sub(r0, ..)`"),
-    ("finish r0", "finish r0 ? 1 : 0", "line 10, column 11: unknown word `?`; write `if(c, a, b)`"),
-    ("finish r0", "finish r0 && 1", "line 10, column 11: unknown word `&`; write `and(a, b)`"),
-    ("finish r0", "finish r0 || 1", "line 10, column 11: unknown word `|`; write `or(a, b)`"),
+    ("r0 = id", "r0 = ~id", "line 5, column 6: unknown word `~`; expected an expression; write `not(a)`"),
+    ("r0 = id", "r0 += id", "line 5, column 4: unknown word `+`; expected `=`; write `r0 = add(r0, ..)`"),
+    ("r0 = id", "r0++", "line 5, column 3: unknown word `+`; expected `=`; write `r0 = add(r0, 1)`"),
+    ("r0 = id", "r0 -= 1", "line 5, column 4: unknown word `-`; expected `=`; write `r0 = sub(r0, ..)`"),
+    (
+        "finish r0",
+        "finish r0 ? 1 : 0",
+        "line 10, column 11: unknown word `?`; expected the end of the text; write `if(c, a, b)`",
+    ),
+    ("finish r0", "finish r0 && 1", "line 10, column 11: unknown word `&`; expected the end of the text; write `and(a, b)`"),
+    ("finish r0", "finish r0 || 1", "line 10, column 11: unknown word `|`; expected the end of the text; write `or(a, b)`"),
     (
         "r0 = id",
         "r0 = id / 2",
-        "line 5, column 9: unknown word `/`; a comment begins with `#`, and half of x is `shr(x, 1)`",
+        "line 5, column 9: unknown word `/`; expected `round`; a comment begins with `#`, and half of x is `shr(x, 1)`",
     ),
     (
         "r0 = id",
         "r0 = id % 3",
-        "line 5, column 9: unknown word `%`; a comment begins with `#`, "
+        "line 5, column 9: unknown word `%`; expected `round`; a comment begins with `#`, "
         "and there is no remainder: that of 2 is `and(x, 1)`",
     ),
     (
         "finish r0",
         "finish r(0)",
-        "line 10, column 8: unknown word `r`; the message from the right is `R`, and registers are `r0` to `r7`",
+        "line 10, column 8: unknown word `r`; expected an expression"
+        "; the message from the right is `R`, and registers are `r0` to `r7`",
     ),
     (
         "finish r0",
         "finish r_0",
-        "line 10, column 8: unknown word `r`; the message from the right is `R`, and registers are `r0` to `r7`",
+        "line 10, column 8: unknown word `r`; expected an expression"
+        "; the message from the right is `R`, and registers are `r0` to `r7`",
     ),
     (
         "finish r0",
         "finish r 1",
-        "line 10, column 8: unknown word `r`; the message from the right is `R`, and registers are `r0` to `r7`",
+        "line 10, column 8: unknown word `r`; expected an expression"
+        "; the message from the right is `R`, and registers are `r0` to `r7`",
     ),
     (
         "finish r0",
         "finish r0.bit",
-        "line 10, column 10: unknown word `.`; numbers are whole, and an operation is written before its operands, as in `bit(a, i)`",
+        "line 10, column 10: unknown word `.`; expected the end of the text"
+        "; numbers are whole, and an operation is written before its operands, as in `bit(a, i)`",
     ),
     (
         "finish r0",
         "finish 1,000",
         "line 10, column 9: unexpected `,`; expected the end of the text; commas only separate operands",
     ),
-    ("finish r0", "finish 1e3", "line 10, column 8: unknown word `1e3`; a number has only digits"),
-    ("finish r0", "finish 5u", "line 10, column 8: unknown word `5u`; a number has only digits"),
-    ("finish r0", "finish 0b101", "line 10, column 8: unknown word `0b101`; numbers are decimal"),
-    ("finish r0", "finish .5", "line 10, column 8: unknown word `.`; numbers are whole"),
-    ("finish r0", "finish +1", "line 10, column 8: unknown word `+`; numbers have no sign"),
+    ("finish r0", "finish 1e3", "line 10, column 8: unknown word `1e3`; expected an expression; a number has only digits"),
+    ("finish r0", "finish 5u", "line 10, column 8: unknown word `5u`; expected an expression; a number has only digits"),
+    ("finish r0", "finish 0b101", "line 10, column 8: unknown word `0b101`; expected an expression; numbers are decimal"),
+    ("finish r0", "finish .5", "line 10, column 8: unknown word `.`; expected an expression; numbers are whole"),
+    ("finish r0", "finish +1", "line 10, column 8: unknown word `+`; expected an expression; numbers have no sign"),
     (
         "finish r0",
         "finish r0, r0",
@@ -233,43 +280,62 @@ INFIX = [
 # Texts that are no programs, and the notes.
 FILES = [
     (b"(* a program *)\nrounds 1\n", "line 1, column 1: unexpected `(`; expected `rounds`; a comment begins with `#`"),
-    (b"<!-- a program -->\n", "line 1, column 1: unknown word `<`; a comment begins with `#`"),
-    (b";; a program\nrounds 1\n", "line 1, column 1: unknown word `;`; a comment begins with `#`"),
-    (b"REM a program\nrounds 1\n", "line 1, column 1: unknown word `REM`; a comment begins with `#`"),
-    (b"'''a program'''\nrounds 1\n", "line 1, column 1: unknown word `'`; a comment begins with `#`"),
-    (b"! a program\nrounds 1\n", "line 1, column 1: unknown word `!`; a comment begins with `#`"),
-    (b"> rounds 1\n> channels 6\n", "line 1, column 1: unknown word `>`; leave out the prompt before each line"),
+    (b"<!-- a program -->\n", "line 1, column 1: unknown word `<`; expected `rounds`; a comment begins with `#`"),
+    (b";; a program\nrounds 1\n", "line 1, column 1: unknown word `;`; expected `rounds`; a comment begins with `#`"),
+    (b"REM a program\nrounds 1\n", "line 1, column 1: unknown word `REM`; expected `rounds`; a comment begins with `#`"),
+    (b"'''a program'''\nrounds 1\n", "line 1, column 1: unknown word `'`; expected `rounds`; a comment begins with `#`"),
+    (b"! a program\nrounds 1\n", "line 1, column 1: unknown word `!`; expected `rounds`; a comment begins with `#`"),
+    (
+        b"> rounds 1\n> channels 6\n",
+        "line 1, column 1: unknown word `>`; expected `rounds`; leave out the prompt before each line",
+    ),
     (
         b"1: rounds 1\n2: channels 6\n",
         "line 1, column 1: unexpected `1`; expected `rounds`; leave out the numbers of the lines",
     ),
-    (b"```\nrounds 1\n```\n", "line 1, column 1: unknown word ```; leave out the marks around the program"),
-    (b'{"rounds": 1}\n', "line 1, column 1: unknown word `{`; a program begins with `rounds`, without brackets"),
+    (b"```\nrounds 1\n```\n", "line 1, column 1: unknown word ```; expected `rounds`; leave out the marks around the program"),
+    (
+        b'{"rounds": 1}\n',
+        "line 1, column 1: unknown word `{`; expected `rounds`; a program begins with `rounds`, without brackets",
+    ),
     (
         b"# a program\rrounds 1\rchannels 6\r",
-        "line 1, column 33: unexpected end of the text; expected `rounds`; a comment goes up to a line feed, and this text has none",
+        "line 1, column 33: unexpected end of the text; expected `rounds`"
+        "; a comment goes up to a line feed, and this text has none",
     ),
-    (b"+rounds 1\n+channels 6\n", "line 1, column 1: unknown word `+`; this is a patch, not a program"),
-    (b"--- a/cv1.txt\n+++ b/cv1.txt\n", "line 1, column 1: unknown word `-`; this is a patch, not a program"),
-    (b"\x7fELF\x02\x01\x01\x00", "line 1, column 1: unknown word `\\x7f`; this byte does not belong in a text"),
-    (b"# only a comment\n", "line 2, column 1: unexpected end of the text; expected `rounds`; the text has only blanks and comments"),
+    (b"+rounds 1\n+channels 6\n", "line 1, column 1: unknown word `+`; expected `rounds`; this is a patch, not a program"),
+    (
+        b"--- a/cv1.txt\n+++ b/cv1.txt\n",
+        "line 1, column 1: unknown word `-`; expected `rounds`; this is a patch, not a program",
+    ),
+    (
+        b"\x7fELF\x02\x01\x01\x00",
+        "line 1, column 1: unknown word `\\x7f`; expected `rounds`; this byte does not belong in a text",
+    ),
+    (
+        b"# only a comment\n",
+        "line 2, column 1: unexpected end of the text; expected `rounds`; the text has only blanks and comments",
+    ),
     (
         b"rounds 1 \xe2\x80\x93 one\n",
-        "line 1, column 10: a byte over 127; a program text is ASCII, in its comments too; this is a dash or a minus sign that is not ASCII",
+        "line 1, column 10: a byte over 127; a program text is ASCII, in its comments too"
+        "; this is a dash or a minus sign that is not ASCII",
     ),
     (
         b"rounds 1\n# \xe2\x80\x9cone\xe2\x80\x9d\n",
-        "line 2, column 3: a byte over 127; a program text is ASCII, in its comments too; this is a typographic quotation mark: write a plain one",
+        "line 2, column 3: a byte over 127; a program text is ASCII, in its comments too"
+        "; this is a typographic quotation mark: write a plain one",
     ),
     (
         b"# na\xefve\nrounds 1\n",
-        "line 1, column 5: a byte over 127; a program text is ASCII, in its comments too; the file may be Latin-1: save it as ASCII",
+        "line 1, column 5: a byte over 127; a program text is ASCII, in its comments too"
+        "; the file may be Latin-1: save it as ASCII",
     ),
     (
         b"rounds 1\xef\xbc\x8cchannels 6\n",
         "line 1, column 9: a byte over 127; a program text is ASCII, in its comments too; write letters and marks of ASCII",
     ),
-    (b"p cnf 360 1200\n1 2 3 0\n", "line 1, column 1: unknown word `p`; this is a formula for a solver"),
+    (b"p cnf 360 1200\n1 2 3 0\n", "line 1, column 1: unknown word `p`; expected `rounds`; this is a formula for a solver"),
 ]
 
 # The advice on a second line that has its words, and whose numbers are each in their range.

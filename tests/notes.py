@@ -43,7 +43,11 @@ REGISTERS_AND_ROUNDS = [
     ),
     ("r0 = id", "r1 = id", "nbhd: line 5, column 1: unexpected `r1`; expected the assignment of r0"),
     ("rounds 1", "rounds 5", "nbhd: line 1, column 8: a number out of its range: `rounds` is 0 to 4"),
-    ("channels 6", "channels 0", "nbhd: line 2, column 10: a number out of its range: `rounds` is 0 to 4, `channels` 1 to 4096"),
+    (
+        "channels 6",
+        "channels 0",
+        "nbhd: line 2, column 10: a number out of its range: `rounds` is 0 to 4, `channels` 1 to 4096",
+    ),
     (
         "channels 6",
         "channels 5000",
@@ -61,7 +65,8 @@ OPERANDS = [
     (
         "finish r0",
         "finish if r0 then 1 else 2",
-        "nbhd: line 10, column 11: unexpected `r0`; expected `(`; the operands of an operation are written in brackets, as in `if(c, a, b)`",
+        "nbhd: line 10, column 11: unexpected `r0`; expected `(`"
+        "; the operands of an operation are written in brackets, as in `if(c, a, b)`",
     ),
     ("finish r0", "finish if(r0, 1)", "nbhd: line 10, column 16: unexpected `)`; expected `,`; `if` takes 3 operands"),
     ("finish r0", "finish not(r0, 1)", "nbhd: line 10, column 14: unexpected `,`; expected `)`; `not` takes 1 operand"),
@@ -75,47 +80,76 @@ OPERANDS = [
 ]
 
 WORDS_OF_OTHER_LANGUAGES = [
-    ("rounds", "Rounds", "nbhd: line 1, column 1: unknown word `Rounds`; write `rounds`"),
-    ("L)", "l)", "nbhd: line 9, column 22: unknown word `l`; the message from the left is `L`"),
-    ("r0 = id", "r10 = id", "nbhd: line 5, column 1: unknown word `r10`; registers are `r0` to `r7`"),
-    ("finish r0", "finish R0", "nbhd: line 10, column 8: unknown word `R0`; registers are `r0` to `r7`"),
-    ("finish r0", "finish r0 + 1", "nbhd: line 10, column 11: unknown word `+`; write `add(a, b)`"),
-    ("r0 = id", "r0 = 2*id", "nbhd: line 5, column 7: unknown word `*`; there is no product"),
-    ("r0 = id", "r0 = mul(2, id)", "nbhd: line 5, column 6: unknown word `mul`; there is no product"),
+    (
+        "rounds",
+        "Rounds",
+        "nbhd: line 1, column 1: unknown word `Rounds`; expected `rounds`; the words of a program have small letters",
+    ),
+    ("L)", "l)", "nbhd: line 9, column 22: unknown word `l`; expected an expression; the message from the left is `L`"),
+    (
+        "r0 = id",
+        "r10 = id",
+        "nbhd: line 5, column 1: unknown word `r10`; expected the assignment of r0; registers are `r0` to `r7`",
+    ),
+    (
+        "finish r0",
+        "finish R0",
+        "nbhd: line 10, column 8: unknown word `R0`; expected an expression; registers are `r0` to `r7`",
+    ),
+    (
+        "finish r0",
+        "finish r0 + 1",
+        "nbhd: line 10, column 11: unknown word `+`; expected the end of the text; write `add(a, b)`",
+    ),
+    ("r0 = id", "r0 = 2*id", "nbhd: line 5, column 7: unknown word `*`; expected `round`; there is no product"),
+    ("r0 = id", "r0 = mul(2, id)", "nbhd: line 5, column 6: unknown word `mul`; expected an expression; there is no product"),
     (
         "r0 = id",
         "r0 = mod(id, 2)",
-        "nbhd: line 5, column 6: unknown word `mod`; there is no remainder: that of 2 is `and(x, 1)`",
+        "nbhd: line 5, column 6: unknown word `mod`; expected an expression; there is no remainder: that of 2 is `and(x, 1)`",
     ),
-    ("ldb(r0, L), 1", "gt(r0, L), 1", "nbhd: line 9, column 14: unknown word `gt`; write `lt(b, a)` for a > b"),
-    ("finish r0", "finish -1", "nbhd: line 10, column 8: unknown word `-`; write `sub(a, b)`, which stops at 0"),
-    ("finish r0", "finish 0x5", "nbhd: line 10, column 8: unknown word `0x5`; numbers are decimal"),
-    ("r0 = id", "r0 := id", "nbhd: line 5, column 4: unknown word `:`; an assignment is written `r0 = ..`"),
-    ("rounds 1", "rounds 1;", "nbhd: line 1, column 9: unknown word `;`; lines end without a mark"),
+    (
+        "ldb(r0, L), 1",
+        "gt(r0, L), 1",
+        "nbhd: line 9, column 14: unknown word `gt`; expected an expression; write `lt(b, a)` for a > b",
+    ),
+    (
+        "finish r0",
+        "finish -1",
+        "nbhd: line 10, column 8: unknown word `-`; expected an expression; write `sub(a, b)`, which stops at 0",
+    ),
+    ("finish r0", "finish 0x5", "nbhd: line 10, column 8: unknown word `0x5`; expected an expression; numbers are decimal"),
+    ("r0 = id", "r0 := id", "nbhd: line 5, column 4: unknown word `:`; expected `=`; an assignment is written `r0 = ..`"),
+    ("rounds 1", "rounds 1;", "nbhd: line 1, column 9: unknown word `;`; expected `channels`; lines end without a mark"),
     (
         "r0 = id",
         "colour = id",
-        "nbhd: line 5, column 1: unknown word `colour`; registers are `r0` to `r7`, and have no other names",
+        "nbhd: line 5, column 1: unknown word `colour`; expected the assignment of r0"
+        "; registers are `r0` to `r7`, and have no other names",
     ),
-    ("finish r0", "return r0", "nbhd: line 10, column 1: unknown word `return`; the last line is `finish`"),
+    ("finish r0", "return r0", "nbhd: line 10, column 1: unknown word `return`; expected `finish`; the last line is `finish`"),
     (
         "left 0\nsend right r0",
         "both r0",
-        "nbhd: line 7, column 6: unknown word `both`; write `send left` and `send right`",
+        "nbhd: line 7, column 6: unknown word `both`; expected `left`; write `send left` and `send right`",
     ),
-    ("finish r0", "finish \"r0\"", "nbhd: line 10, column 8: unknown word `\"`; there are no texts in programs"),
+    (
+        "finish r0",
+        "finish \"r0\"",
+        "nbhd: line 10, column 8: unknown word `\"`; expected an expression; there are no texts in programs",
+    ),
     (
         "finish r0\n",
         "finish r0\nend\n",
-        "nbhd: line 11, column 1: unknown word `end`; the expression of `finish` ends the program",
+        "nbhd: line 11, column 1: unknown word `end`; expected the end of the text; the expression of `finish` ends the program",
     ),
     ("finish r0\n", "finish r0\nrounds 1\n", "nbhd: line 11, column 1: unexpected `rounds`; expected the end of the text"),
 ]
 
 # Texts that are no programs, and the starts of the notes.
 OTHER_FILES = [
-    (b"// a program", "nbhd: line 1, column 1: unknown word `/`; a comment begins with `#`"),
-    (b"/* a program */", "nbhd: line 1, column 1: unknown word `/`; a comment begins with `#`"),
+    (b"// a program", "nbhd: line 1, column 1: unknown word `/`; expected `rounds`; a comment begins with `#`"),
+    (b"/* a program */", "nbhd: line 1, column 1: unknown word `/`; expected `rounds`; a comment begins with `#`"),
     (
         b"# the node\xe2\x80\x99s\nrounds 1",
         "nbhd: line 1, column 11: a byte over 127; a program text is ASCII, in its comments too",
@@ -130,18 +164,22 @@ OTHER_FILES = [
     ),
     (
         b"rounds\xc2\xa01",
-        "nbhd: line 1, column 7: a byte over 127; a program text is ASCII, in its comments too; this is a blank that does not break",
+        "nbhd: line 1, column 7: a byte over 127; a program text is ASCII, in its comments too"
+        "; this is a blank that does not break",
     ),
     (b"", "nbhd: line 1, column 1: unexpected end of the text; expected `rounds`; the text is empty, so no file was given"),
     (b" " * 65_530 + b"start", "nbhd: line 1, column 65531: unexpected `start`; expected `rounds`"),
     (
         b"# Pighvani\n\nPighvani compiles",
-        "nbhd: line 3, column 1: unknown word `Pighvani`; a program begins with `rounds`",
+        "nbhd: line 3, column 1: unknown word `Pighvani`; expected `rounds`",
     ),
-    (b"nbhd-table 2\n", "nbhd: line 1, column 1: unknown word `nbhd`; the text of a table is for `nbhd audit`"),
+    (
+        b"nbhd-table 2\n",
+        "nbhd: line 1, column 1: unknown word `nbhd`; expected `rounds`; the text of a table is for `nbhd audit`",
+    ),
     (
         b"text fault N3 at 0\n",
-        "nbhd: line 1, column 1: unknown word `text`; this is output of `nbhd`, not a program",
+        "nbhd: line 1, column 1: unknown word `text`; expected `rounds`; this is output of `nbhd`, not a program",
     ),
     (b"rounds 1\r\n\tchanels 6", "nbhd: line 2, column 2: unknown word `chanels`"),
     (
@@ -232,7 +270,8 @@ OTHERS = [
     (
         "judge --ids 4 --far 2",
         ID0_OF_4,
-        "nbhd: on the ring 0,2,1 the nodes at distance two 0 and 1 (places 0 and 2) have channels 0 and 1; their windows are 0 and 1\n",
+        "nbhd: on the ring 0,2,1 the nodes at distance two 0 and 1 (places 0 and 2) have channels 0 and 1"
+        "; their windows are 0 and 1\n",
     ),
     ("judge --ids 2 --far 1", ID0, NO_RING),
     ("judge --ids 2 --far 1 --workers 3", ID0, NO_RING),

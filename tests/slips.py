@@ -1,13 +1,15 @@
-"""Slips that a program can have: a token left out, or written twice. Of each it is known what was done, so that it can be said
-whether the note's advice misleads: advice is right if it names the slip, or if it holds of every text with this fault.
+"""Slips that a program can have: a token left out, or written twice. Of each it is known what can follow before the fault, and what
+was done, so that it can be said whether the note's advice misleads: advice is right if it names the slip, or if it holds of every
+text with this fault.
 """
 
 import re
+from functools import partial
 from pathlib import Path
 
+from grammar import OPERANDS, TOKENS, expected_after
+
 ROOT = Path(__file__).resolve().parent.parent
-TOKENS = re.compile(r"#[^\n]*|([A-Za-z0-9]+|[^\sA-Za-z0-9])")
-OPERATIONS = "not and or xor shl shr add sub min max ldb bit eq ne lt le if".split()
 OPERAND = re.compile(r"id|L|R|r[0-7]|[0-9]+")
 # The longest program whose slips are tried.
 LONGEST = 4000
@@ -15,7 +17,7 @@ LONGEST = 4000
 TAKES = r"`\w+` takes \d operands?"
 HEADER = "a program begins with `rounds`, `channels` and `registers`"
 MISSING = "an expression is missing here"
-OPERANDS = "the operands of an operation are written in brackets, as in `if\\(c, a, b\\)`"
+IN_BRACKETS = "the operands of an operation are written in brackets, as in `if\\(c, a, b\\)`"
 BRACKETS = "brackets are only written after the name of an operation"
 ASSIGNED = "an assignment is written `r0 = ..`"
 ONLY_ASSIGNED = "`=` is only written after the register of an assignment"
@@ -25,7 +27,7 @@ SAME = "the same word stands right before it"
 LEFT_OUT = {
     "operation": [BRACKETS, "the name of an operation is missing before it"],
     "operand": [TAKES, MISSING, "write a number in digits", ONLY_ASSIGNED],
-    "(": [OPERANDS, "a `\\(` is missing in it", "there is no operation of this name", SAME],
+    "(": [IN_BRACKETS, "a `\\(` is missing in it", "there is no operation of this name", SAME],
     ")": [TAKES, "a bracket is open"],
     ",": ["a comma is missing before it", SAME, "a blank is missing in it"],
     "=": [ASSIGNED],
@@ -48,16 +50,17 @@ TWICE = {
     "operand": [SAME, ASSIGNED],
 }
 
-# What a note says before its advice: the place, the token, and what was expected.
+# The place of a fault, and what its note says before the advice: the place, the token, and what was expected.
+PLACE = re.compile(rb"text fault N\d at (\d+)\n")
 FAULT = re.compile(
     r"nbhd: line \d+, column \d+: (?:unexpected (?:`.`|`\w+`|end of the text)|unknown word (?:`.`|`\w+`))"
-    r"(?:; expected (?:`.`|`\w+`|an? \w+|the assignment of r\d|the end of the text))?"
+    r"; expected (`.`|`\w+`|an? \w+|the assignment of r\d|the end of the text)"
 )
 
 
 def kind_of(token):
     """What a token is, for the advice on it."""
-    return "operation" if token in OPERATIONS else "operand" if OPERAND.fullmatch(token) else token
+    return "operation" if token in OPERANDS else "operand" if OPERAND.fullmatch(token) else token
 
 
 def programs():
@@ -80,13 +83,19 @@ def slips():
                 yield text[:end] + " " + text[start:], TWICE.get(kind, [SAME])
 
 
-def misleads(note, right):
-    """Whether the advice of the first line of a note is another one."""
-    told = FAULT.sub("", note.split("\n")[0], count=1)
-    return told != "" and not any(re.fullmatch("; " + it, told) for it in right)
+def is_right(text, right, answer):
+    """Whether a note says what can follow before the fault, and has no other advice than that."""
+    _, out, note = answer
+    place = PLACE.fullmatch(out)
+    said = FAULT.match(note) if place else None
+    if not said:
+        return False
+    told = note[said.end() :].split("\n")[0]
+    is_expected = said[1] == expected_after(text[: int(place[1])])
+    return is_expected and (told == "" or any(re.fullmatch("; " + it, told) for it in right))
 
 
 def rows():
-    """Words, inputs and the advice that is right."""
+    """Words, inputs, and whether an answer is right."""
     for text, right in slips():
-        yield "print", text.encode(), right
+        yield "print", text.encode(), partial(is_right, text, right)

@@ -16,7 +16,7 @@ quoted word = codes "`" ++ (shown word ++ codes "`")
 abbrev pub cause_of : FaultKind → List ℕ → Option Expected → List ℕ
 cause_of kind.TooLong word w = []
 cause_of kind.NotAscii word w = codes "a byte over 127; a program text is ASCII, in its comments too"
-cause_of kind.BadWord word w = codes "unknown word " ++ quoted word
+cause_of kind.BadWord word w = codes "unknown word " ++ (quoted word ++ wanted_part w)
 cause_of kind.NumberTooLarge word w = codes "a number is at most 4294967295"
 cause_of kind.HeaderRange word w =
     codes "a number out of its range: `rounds` is 0 to 4, `channels` 1 to 4096, `registers` 1 to 8"

@@ -18,10 +18,12 @@ pub(crate) const BRACKETED: &str =
 
 pub(crate) const OPEN: &str = "; a bracket is open";
 
+const SMALL: &str = "; the words of a program have small letters";
+
 const ENDED: &str = "; the expression of `finish` ends the program";
 
 // Words that are not of the language, those with the same advice together.
-const WORDS: [(&[u8], &str); 31] = [
+const WORDS: [(&[u8], &str); 24] = [
     // Names that other languages have for operations, and other words.
     (
         b"mul times mult",
@@ -75,15 +77,14 @@ const WORDS: [(&[u8], &str); 31] = [
     ),
     // Words with a capital.
     (b"ID Id", "; write `id`"),
-    (b"Rounds ROUNDS", "; write `rounds`"),
-    (b"Channels CHANNELS", "; write `channels`"),
-    (b"Registers REGISTERS", "; write `registers`"),
-    (b"Start START", "; write `start`"),
-    (b"Round ROUND", "; write `round`"),
-    (b"Send SEND", "; write `send`"),
-    (b"Left LEFT", "; write `left`"),
-    (b"Right RIGHT", "; write `right`"),
-    (b"Finish FINISH", "; write `finish`"),
+    (
+        b"Rounds ROUNDS Channels CHANNELS Registers REGISTERS Start START",
+        SMALL,
+    ),
+    (
+        b"Round ROUND Send SEND Left LEFT Right RIGHT Finish FINISH",
+        SMALL,
+    ),
 ];
 
 // Returns advice on a word or a mark that is not of the language, with which `rest` begins, at a
@@ -139,18 +140,9 @@ fn name_advice(word: &[u8]) -> &'static str {
     "; there is no operation of this name"
 }
 
-// Returns advice that names the word that can follow.
+// Returns advice on what can follow.
 pub(crate) fn missing_word(wanted: Expected) -> &'static str {
     match wanted {
-        Expected::This(Token::Rounds) => "; a program begins with `rounds`",
-        Expected::This(Token::Channels) => "; expected `channels`",
-        Expected::This(Token::Registers) => "; expected `registers`",
-        Expected::This(Token::Start) => "; expected `start`",
-        Expected::This(Token::Round) => "; expected `round`",
-        Expected::This(Token::Send) => "; expected `send`",
-        Expected::This(Token::Left) => "; expected `left`",
-        Expected::This(Token::Right) => "; expected `right`",
-        Expected::This(Token::Finish) => "; expected `finish`",
         Expected::This(Token::Open) => BRACKETED,
         Expected::This(Token::Equals) => ASSIGNED,
         Expected::Number => DIGITS,

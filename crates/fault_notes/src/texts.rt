@@ -106,11 +106,8 @@ fn write_cause(
     ensures { OnOk result (string_bytes out.new ≡ string_bytes out.old ++ cause_of fault word.now wanted) }
 {
     match fault {
-        FaultKind::BadWord => {
-            out.push_str("unknown word ")?;
-            write_quoted(out, word)
-        }
-        FaultKind::Unexpected => write_unexpected(out, word, wanted),
+        FaultKind::BadWord => write_word(out, "unknown word ", word, wanted),
+        FaultKind::Unexpected => write_word(out, "unexpected ", word, wanted),
         FaultKind::EndOfText => {
             out.push_str("unexpected end of the text")?;
             write_wanted_part(out, wanted)
@@ -119,15 +116,16 @@ fn write_cause(
     }
 }
 
-// Writes that a word is not expected at its place.
-fn write_unexpected(
+// Writes a word behind `head`, and what is expected at its place.
+fn write_word(
     out: &mut String,
+    head: &str,
     word: &[u8],
     wanted: Option<Expected>,
 ) -> Result<(), AllocError>
-    ensures { OnOk result (string_bytes out.new ≡ string_bytes out.old ++ (codes "unexpected " ++ (quoted word.now ++ wanted_part wanted))) }
+    ensures { OnOk result (string_bytes out.new ≡ string_bytes out.old ++ (head.now ++ (quoted word.now ++ wanted_part wanted))) }
 {
-    out.push_str("unexpected ")?;
+    out.push_str(head)?;
     write_quoted(out, word)?;
     write_wanted_part(out, wanted)
 }
