@@ -10,7 +10,7 @@ use Rattle.win_index.specs.Successor.{IsNext, IsLast}
 use Rattle.win_index.proofs.Kept.{kept, kept_at, kept_is, kept_suc, kept_rises}
 use Rattle.win_index.proofs.Unused.{lacks, unused_at}
 use Rattle.win_index.proofs.Positions.{window_place, free_at}
-use Rattle.win_index.proofs.FrontPlaces.{slice_window, last_place, last_of_run}
+use Rattle.win_index.proofs.FrontPlaces.{slice_window, last_place}
 use Rattle.win_index.proofs.Numbers.{window_parts, window_from_parts, windows_all, unused_left, windows_more, length-windows}
 
 -- the first number from low on that the list lacks
@@ -152,7 +152,7 @@ module _ (k m last : ℕ) (list : List ℕ) (more : k ≡ last + 1) (window : Is
       (unused_at (take last list) m (get_or list last 0) (window.below last 0 lt)
       (free_at list last window.distinct lt))
 
-  pub next_in_run :
+  next_in_run :
       (y : ℕ) → first_lacked m (take last list) (get_or list last 0 + 1) ≡ Some y
       → IsNext k m list (set list last y) × IsWindow k m (set list last y)
   next_in_run y found =
@@ -162,11 +162,8 @@ module _ (k m last : ℕ) (list : List ℕ) (more : k ≡ last + 1) (window : Is
       let next = rw (all, all_set) at (next_in_last_cell k m last y list more (omega arith) found) in
       (next, next_is_window k m list (set list last y) window next)
 
-  -- a window is the last of its run if its prefix lacks no number after the last one
-  pub ends_run : first_lacked m (take last list) (get_or list last 0 + 1) ≡ None → IsLastOfRun k m list
-  ends_run none = last_of_run last k m list more window (none_at _ _ (next_lacked ∙ none))
-
-  pub run_ends : IsLastOfRun k m list → first_lacked m (take last list) (get_or list last 0 + 1) ≡ None
+  -- the prefix of the last window of a run lacks no number after the last one
+  run_ends : IsLastOfRun k m list → first_lacked m (take last list) (get_or list last 0 + 1) ≡ None
   run_ends greatest =
       let before : k - 1 ≡ last = omega arith in
       let x : ℕ = get_or list last 0 in

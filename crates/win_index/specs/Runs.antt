@@ -23,14 +23,6 @@ pub record IsEndOfSame (k m : ℕ) (window last : List ℕ) : Type 0 where
   pub same : take (k - 1) last ≡ take (k - 1) window
   pub none_larger : IsLastOfRun k m last
 
--- a window was replaced by the next one with the same prefix, or it is the last of its run and unchanged
-pub record IsReplacedInRun (k m : ℕ) (is_replaced : Bool) (old new : List ℕ) : Type 0 where
-  pub next : OnTrue is_replaced (IsNext k m old new)
-  pub front : take (k - 1) new ≡ take (k - 1) old
-  pub last : OnFalse is_replaced (IsLastOfRun k m old)
-  pub same : OnFalse is_replaced (new ≡ old)
-  pub window : IsWindow k m new
-
 -- a window was replaced by the first one after its run, or its run is the last one and the window is unchanged
 pub record IsReplacedByRun (k m : ℕ) (is_replaced : Bool) (old new : List ℕ) : Type 0 where
   pub next : OnTrue is_replaced ((last : List ℕ) → IsEndOfSame k m old last → IsNext k m last new)

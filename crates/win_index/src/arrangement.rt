@@ -3,7 +3,7 @@ ghost use Rattle.std.specs.Prelude.{◌≡◌, ◌≢◌, ℕ, ◌+◌, ◌-◌,
 ghost use Rattle.std.specs.Bool.{OnTrue, OnFalse};
 ghost use Rattle.std.specs.List.{range_with_len};
 ghost use Rattle.win_index.specs.Windows.{is_used, unused, windows, number_of, IsWindow};
-ghost use Rattle.win_index.specs.Runs.{IsRunStart, IsReplacedInRun, IsReplacedByRun};
+ghost use Rattle.win_index.specs.Runs.{IsRunStart, IsReplacedByRun};
 ghost use Rattle.win_index.specs.Successor.{IsNext, IsLast, IsReplaced};
 
 // The lists of one length, in order. There are fewer than 2^64 of them, and of each smaller length.
@@ -75,23 +75,6 @@ impl Lists {
         ensures { IsReplaced self.len self.ids result list.old list.new }
     {
         write_next(self.ids, list, self.len)
-    }
-
-    // Replaces the list by the next one with the same prefix, which differs in the last number
-    // alone, or returns `false` if there is none.
-    pub(crate) fn write_next_in_run(self, list: &mut [u32]) -> bool
-        requires some { 1 ≤ self.len }
-        requires window { IsWindow self.len self.ids list.old }
-        ensures { IsReplacedInRun self.len self.ids result list.old list.new }
-    {
-        let Lists { ids, len } = self;
-        let last = len - 1;
-        let current = list[last];
-        let Some(next) = least_unused(ids, &list[..last], current + 1) else {
-            return false;
-        };
-        list[last] = next;
-        true
     }
 
     // Replaces the list by the next one with another prefix, which differs before the last number,

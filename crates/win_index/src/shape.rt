@@ -35,7 +35,7 @@ pub struct Shape {
 impl Shape {
     ghost use Rattle.std.specs.Prelude.{◌≡◌, ℕ, List, ◌+◌, ◌*◌, ◌<◌, ◌↔◌, IsTrue, IfOk, IfErr, IfSome, IsOk, Some, length, take, slice_get};
     ghost use Rattle.win_index.specs.Windows.{windows, number_of, IsWindow};
-    ghost use Rattle.win_index.specs.Runs.{IsRunStart, IsReplacedInRun, IsReplacedByRun};
+    ghost use Rattle.win_index.specs.Runs.{IsRunStart, IsReplacedByRun};
     ghost use Rattle.win_index.specs.Successor.{IsReplaced};
     ghost use Rattle.win_index.specs.ShapeRange.{IsShape, IsExtra};
     ghost use Rattle.win_index.specs.ShapeFaults.{IsFirstShapeFault};
@@ -146,16 +146,6 @@ impl Shape {
         ensures { IsReplaced (2 * level + 1) self.now.ids result window.old window.new }
     {
         self.lists(2 * level + 1).write_next(window)
-    }
-
-    /// Replaces a window of this level by the next one with the same prefix, all identifiers but
-    /// the last, and returns `true`, or returns `false` without a change if there is none.
-    pub fn next_in_run(&self, level: u32, window: &mut [u32]) -> bool
-        requires level { level ≤ self.now.rounds }
-        requires window { IsWindow (2 * level + 1) self.now.ids window.old }
-        ensures { IsReplacedInRun (2 * level + 1) self.now.ids result window.old window.new }
-    {
-        self.lists(2 * level + 1).write_next_in_run(window)
     }
 
     /// Replaces a window of this level by the first one after it with another prefix and returns
