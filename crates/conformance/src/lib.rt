@@ -26,6 +26,8 @@ mod parts;
 #[cfg(test)]
 mod plain_runs;
 #[cfg(test)]
+mod refutations;
+#[cfg(test)]
 mod slow_devices;
 #[cfg(test)]
 mod slow_inputs;

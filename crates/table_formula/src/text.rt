@@ -134,28 +134,3 @@ fn write_literal(l: Literal, bytes: &mut [u8; LITERAL_LEN]) -> usize
     bytes[start - 1] = b'-';
     start - 1
 }
-
-#[cfg(test)]
-mod tests {
-    use super::*;
-    use channel_tables::Separation;
-    use win_index::Shape;
-
-    // Returns the text of the formula of two identifiers, no rounds and two channels, in which
-    // neighbours' channels differ.
-    fn text_of_two(alloc: Global) -> Option<Vec<u8>> {
-        let shape = Shape::new(2, 0).ok()?;
-        let separation = Separation { near: 1, far: 0 };
-        let formula = Formula::new(alloc, shape, 2, separation).ok()?;
-        let mut writer = Watched::new(Vec::new(alloc));
-        write_formula(alloc, &formula, &mut writer).ok()?;
-        Some(writer.into_device())
-    }
-
-    #[test]
-    fn the_text_of_two_identifiers(rt: HostRuntime) {
-        let text = text_of_two(rt.alloc());
-        let want = b"p cnf 4 6\n1 2 0\n3 4 0\n-1 -3 0\n-2 -4 0\n-3 -1 0\n-4 -2 0\n";
-        assert!(rt; text.is_some_and(|text| text.as_slice() == want.as_slice()));
-    }
-}
