@@ -1,8 +1,11 @@
-//! Worked examples that cross the crates, as tests through the public calls.
+//! Worked examples, as tests through the public calls. They stand in one crate, because a crate with
+//! tests is proved twice, and each program of tests is linked with all crates below it.
 #![tactic(auto)]
 
 #[cfg(test)]
 mod blocks;
+#[cfg(test)]
+mod borders;
 #[cfg(test)]
 mod columns;
 #[cfg(test)]
@@ -18,6 +21,8 @@ mod formulas;
 #[cfg(test)]
 mod gates;
 #[cfg(test)]
+mod hold;
+#[cfg(test)]
 mod memo;
 #[cfg(test)]
 mod operations;
@@ -27,6 +32,10 @@ mod parts;
 mod plain_runs;
 #[cfg(test)]
 mod refutations;
+#[cfg(test)]
+mod ring_gates;
+#[cfg(test)]
+mod segments;
 #[cfg(test)]
 mod slow_devices;
 #[cfg(test)]

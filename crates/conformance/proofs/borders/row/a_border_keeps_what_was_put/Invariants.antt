@@ -1,4 +1,4 @@
-use Rattle.ring_tests.proofs.borders.row.a_border_keeps_what_was_put.Given as goal
+use Rattle.conformance.proofs.borders.row.a_border_keeps_what_was_put.Given as goal
 
 -- each side's ledger has the name and the parts of its blank
 abbrev pub ghosts-puts_and_takes-R-Ledger : goal.ghosts-puts_and_takes-R-Ledger

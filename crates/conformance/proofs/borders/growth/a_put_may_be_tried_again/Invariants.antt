@@ -1,4 +1,4 @@
-use Rattle.ring_tests.proofs.borders.growth.a_put_may_be_tried_again.Given as goal
+use Rattle.conformance.proofs.borders.growth.a_put_may_be_tried_again.Given as goal
 
 -- each side's ledger has the name and the parts of its blank
 abbrev pub ghosts-after_eight_puts-R-Ledger : goal.ghosts-after_eight_puts-R-Ledger
