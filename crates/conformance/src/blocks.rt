@@ -55,15 +55,15 @@ fn fault_without_blocks(alloc: Global, plan: &Plan, level: u32, number: u32) -> 
     make_block(alloc, plan, &mut nothing, level, number, 0).err()
 }
 
-// The first block of level 0.
-fn first_block<'p>(alloc: Global, plan: &'p Plan) -> Option<Block<'p>>
+/// The first block of level 0, by this maker.
+pub(crate) fn first_block<'p>(alloc: Global, plan: &'p Plan, maker: u32) -> Option<Block<'p>>
     ensures { IfSome result (λ block. block.plan ≡ plan.entry.now) }
 {
     if !has_block(plan, 0, 0) {
         return None;
     }
     let mut nothing = FirstBlockSource { plan, blocks: &[] };
-    make_block(alloc, plan, &mut nothing, 0, 0, 3).ok()
+    make_block(alloc, plan, &mut nothing, 0, 0, maker).ok()
 }
 
 // The level, the number, the maker, the length and the first state of a block.
@@ -93,7 +93,7 @@ fn second_block<'s>(alloc: Global, plan: &'s Plan, below: &'s [Block<'s>]) -> Op
 
 // The length of the first block of level 0, and what is found in the second block of level 1.
 fn blocks_of_two_levels(alloc: Global, plan: &Plan) -> Option<(u32, Found)> {
-    let below = [first_block(alloc, plan)?];
+    let below = [first_block(alloc, plan, 3)?];
     let len = below[0].len();
     Some((len, second_block(alloc, plan, &below)?))
 }

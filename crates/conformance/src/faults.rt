@@ -4,18 +4,29 @@ use devices::fault::{EngineFault, OutFault};
 use std::test::Fail;
 
 #[test]
-fn faults_are_displayed(rt: HostRuntime) -> Result<(), Fail> {
-    let alloc = rt.alloc();
+fn faults_of_a_task_are_displayed(rt: HostRuntime) -> Result<(), Fail> {
     let rows = [
-        (EngineFault::Read.to_string(alloc)?, "read failed"),
-        (EngineFault::Write.to_string(alloc)?, "write failed"),
-        (EngineFault::Memory.to_string(alloc)?, "out of memory"),
-        (EngineFault::Thread.to_string(alloc)?, "no thread"),
-        (EngineFault::Stranger.to_string(alloc)?, "stranger"),
-        (OutFault::Write.to_string(alloc)?, "write failed"),
-        (OutFault::Memory.to_string(alloc)?, "out of memory"),
+        (EngineFault::Read, "read failed"),
+        (EngineFault::Write, "write failed"),
+        (EngineFault::Memory, "out of memory"),
+        (EngineFault::Thread, "no thread"),
+        (EngineFault::Stranger, "stranger"),
     ];
-    for (text, what) in rows {
+    for (fault, what) in rows {
+        let text = fault.to_string(rt.alloc())?;
+        assert!(rt; text.as_str().strip_prefix("nbhd: ") == Some(what));
+    }
+    Ok(())
+}
+
+#[test]
+fn faults_of_an_output_are_displayed(rt: HostRuntime) -> Result<(), Fail> {
+    let rows = [
+        (OutFault::Write, "write failed"),
+        (OutFault::Memory, "out of memory"),
+    ];
+    for (fault, what) in rows {
+        let text = fault.to_string(rt.alloc())?;
         assert!(rt; text.as_str().strip_prefix("nbhd: ") == Some(what));
     }
     Ok(())

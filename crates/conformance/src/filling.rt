@@ -6,6 +6,7 @@ use round_eval::OpenGate;
 use shared_memo::Memo;
 use std::alloc::Global;
 use std::sync::Wait;
+use std::test::Fail;
 use std::thread::Threads;
 use table_fill::{FillFault, compile};
 use test_programs::{CV1, plan_of};
@@ -50,16 +51,12 @@ fn row_of<R: Threads + Wait + Sync>(rt: &R, alloc: Global, plan: &Plan) -> Optio
     Some((entries.len(), entry, channels))
 }
 
-/// Returns what the table of `CV1` by one worker has.
-fn row_of_cv1<R: Threads + Wait + Sync>(rt: &R, alloc: Global) -> Option<Channels> {
-    let plan = plan_of(alloc, CV1, 8).ok()?;
-    row_of(rt, alloc, &plan)
-}
-
 #[test]
-fn cv1_has_a_channel_at_each_window(rt: HostRuntime) {
+fn cv1_has_a_channel_at_each_window(rt: HostRuntime) -> Result<(), Fail> {
+    let plan = plan_of(rt.alloc(), CV1, 8)?;
     let channels = [Some(2), Some(2), None];
-    assert!(rt; row_of_cv1(&rt, rt.alloc()) == Some((336, Some(2), channels)));
+    assert!(rt; row_of(&rt, rt.alloc(), &plan) == Some((336, Some(2), channels)));
+    Ok(())
 }
 
 /// Returns the faults of a table by no worker and by 65.
@@ -75,27 +72,12 @@ fn faults_of<R: Threads + Wait + Sync>(
     ])
 }
 
-/// Returns those faults for `CV1`.
-fn faults_of_cv1<R: Threads + Wait + Sync>(
-    rt: &R,
-    alloc: Global,
-) -> Option<[Option<FillFault>; 2]> {
-    let plan = plan_of(alloc, CV1, 8).ok()?;
-    faults_of(rt, alloc, &plan)
-}
-
 #[test]
-fn a_table_takes_1_to_64_workers(rt: HostRuntime) {
+fn a_table_takes_1_to_64_workers(rt: HostRuntime) -> Result<(), Fail> {
+    let plan = plan_of(rt.alloc(), CV1, 8)?;
     let faults = [Some(FillFault::WorkersOutOfRange); 2];
-    assert!(rt; faults_of_cv1(&rt, rt.alloc()) == Some(faults));
-}
-
-/// Returns whether a table by four workers is this one.
-fn agrees<R: Threads + Wait + Sync>(rt: &R, alloc: Global, plan: &Plan, one: &Table) -> bool {
-    match table_by(rt, alloc, plan, 4) {
-        Some(table) => table.entries() == one.entries(),
-        None => false,
-    }
+    assert!(rt; faults_of(&rt, rt.alloc(), &plan) == Some(faults));
+    Ok(())
 }
 
 /// Returns how many of `runs` tables by four workers are the table of one worker.
@@ -108,20 +90,16 @@ fn agreeing_runs<R: Threads + Wait + Sync>(
     let one = table_by(rt, alloc, plan, 1)?;
     let mut agreeing = 0u32;
     for _run in 0..runs {
-        if agrees(rt, alloc, plan, &one) {
+        if table_by(rt, alloc, plan, 4)?.entries() == one.entries() {
             agreeing = agreeing.saturating_add(1);
         }
     }
     Some(agreeing)
 }
 
-/// Returns how many of so many runs of `CV1` agree.
-fn agreeing_runs_of_cv1<R: Threads + Wait + Sync>(rt: &R, alloc: Global, runs: u32) -> Option<u32> {
-    let plan = plan_of(alloc, CV1, 8).ok()?;
-    agreeing_runs(rt, alloc, &plan, runs)
-}
-
 #[test]
-fn a_thousand_runs_agree(rt: HostRuntime) {
-    assert!(rt; agreeing_runs_of_cv1(&rt, rt.alloc(), 1000) == Some(1000));
+fn a_thousand_runs_agree(rt: HostRuntime) -> Result<(), Fail> {
+    let plan = plan_of(rt.alloc(), CV1, 8)?;
+    assert!(rt; agreeing_runs(&rt, rt.alloc(), &plan, 1000) == Some(1000));
+    Ok(())
 }

@@ -1,9 +1,6 @@
 //! The findings on a program and a ring from one call.
 
-ghost use Rattle.std.specs.Prelude.{◌≡◌, length};
-
 use headline::{Findings, FindingsFault, compile_run_and_judge};
-use lang_check::Plan;
 use nbhd_check::{Separation, Verdict};
 use ring_exec::RunFault;
 use round_eval::OpenGate;
@@ -49,44 +46,6 @@ fn are_of(found: &Findings, row: &Row<'_>) -> bool {
         && found_in(&found.verdict) == row.no
 }
 
-// Returns whether the findings on a plan and a ring are those of a row, or their fault.
-fn found_on_ring<R: Threads + Wait + Sync>(
-    rt: &R,
-    alloc: Global,
-    plan: &Plan,
-    ring: &Ring,
-    row: &Row<'_>,
-) -> Result<bool, FindingsFault>
-    requires ids { ring.now.ids ≡ plan.now.ids }
-    requires rounds { ring.now.rounds ≡ length plan.now.program.steps }
-{
-    match compile_run_and_judge(
-        rt,
-        alloc,
-        plan,
-        ring,
-        NEIGHBOURS_DIFFER,
-        row.workers,
-        row.segments,
-        &OpenGate,
-    ) {
-        Ok(found) => Ok(are_of(&found, row)),
-        Err(fault) => Err(fault),
-    }
-}
-
-// Returns the same for a plan.
-fn found_for_plan<R: Threads + Wait + Sync>(
-    rt: &R,
-    alloc: Global,
-    plan: &Plan,
-    row: &Row<'_>,
-) -> Option<Result<bool, FindingsFault>> {
-    let ids = [5, 1, 3, 7].to_vec(alloc).ok()?;
-    let ring = Ring::new(plan.shape(), ids).ok()?;
-    Some(found_on_ring(rt, alloc, plan, &ring, row))
-}
-
 // Returns whether the findings of a row's call are the row's, or their fault.
 fn found<R: Threads + Wait + Sync>(
     rt: &R,
@@ -94,7 +53,22 @@ fn found<R: Threads + Wait + Sync>(
     row: &Row<'_>,
 ) -> Option<Result<bool, FindingsFault>> {
     let plan = plan_of(alloc, row.text, 8).ok()?;
-    found_for_plan(rt, alloc, &plan, row)
+    let ids = [5, 1, 3, 7].to_vec(alloc).ok()?;
+    let ring = Ring::new(plan.shape(), ids).ok()?;
+    let found = compile_run_and_judge(
+        rt,
+        alloc,
+        &plan,
+        &ring,
+        NEIGHBOURS_DIFFER,
+        row.workers,
+        row.segments,
+        &OpenGate,
+    );
+    Some(match found {
+        Ok(found) => Ok(are_of(&found, row)),
+        Err(fault) => Err(fault),
+    })
 }
 
 // Returns the row of `CV1` for these numbers of workers and segments.

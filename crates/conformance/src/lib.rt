@@ -43,4 +43,6 @@ mod slow_inputs;
 #[cfg(test)]
 mod slow_outputs;
 #[cfg(test)]
+mod slow_tasks;
+#[cfg(test)]
 mod windows;

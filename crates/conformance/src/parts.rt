@@ -6,6 +6,7 @@ use lang_check::Plan;
 use nbhd_check::{Separation, judge_part, tuple_count};
 use std::alloc::Global;
 use std::sync::Wait;
+use std::test::Fail;
 use std::thread::Threads;
 use test_programs::plan_of;
 
@@ -39,16 +40,12 @@ fn least_of_three<R: Threads + Wait + Sync>(
     ])
 }
 
-// Returns the same for the program above.
-fn least_of_repeated<R: Threads + Wait + Sync>(rt: &R, alloc: Global) -> Option<[Option<u64>; 3]> {
-    let plan = plan_of(alloc, REPEATED, 128).ok()?;
-    least_of_three(rt, alloc, &plan)
-}
-
 // The nodes 32 and 127 have one channel: the tuple of 32 and 127 has the number 4190, that of 127
 // and 32 the number 16,161.
 #[test]
-fn a_part_has_its_least_bad_tuple(rt: HostRuntime) {
+fn a_part_has_its_least_bad_tuple(rt: HostRuntime) -> Result<(), Fail> {
+    let plan = plan_of(rt.alloc(), REPEATED, 128)?;
     let want = [None, Some(4190), Some(16_161)];
-    assert!(rt; least_of_repeated(&rt, rt.alloc()) == Some(want));
+    assert!(rt; least_of_three(&rt, rt.alloc(), &plan) == Some(want));
+    Ok(())
 }

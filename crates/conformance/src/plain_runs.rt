@@ -1,33 +1,16 @@
 //! Runs of a ring on one thread, without messages.
 
-ghost use Rattle.std.specs.Prelude.{◌≡◌, length};
-
-use lang_check::Plan;
 use round_eval::plain_run;
 use std::alloc::Global;
 use test_programs::{CV1, RED, plan_of};
 use win_index::Ring;
 
-// Returns whether a run on a ring gives these channels.
-fn gives_on_ring(alloc: Global, plan: &Plan, ring: &Ring, channels: &[u32]) -> Option<bool>
-    requires ids { ring.now.ids ≡ plan.now.ids }
-    requires rounds { ring.now.rounds ≡ length plan.now.program.steps }
-{
-    let found = plain_run(alloc, plan, ring).ok()?;
-    Some(found.as_slice() == channels)
-}
-
-// Returns whether a run of a plan on a ring of these identifiers gives these channels.
-fn gives_for_plan(alloc: Global, plan: &Plan, ids: &[u32], channels: &[u32]) -> Option<bool> {
-    let ids = ids.to_vec(alloc).ok()?;
-    let ring = Ring::new(plan.shape(), ids).ok()?;
-    gives_on_ring(alloc, plan, &ring, channels)
-}
-
 // Returns whether a run of a program for 8 identifiers on a ring gives these channels.
 fn gives(alloc: Global, text: &[u8], ids: &[u32], channels: &[u32]) -> Option<bool> {
     let plan = plan_of(alloc, text, 8).ok()?;
-    gives_for_plan(alloc, &plan, ids, channels)
+    let ring = Ring::new(plan.shape(), ids.to_vec(alloc).ok()?).ok()?;
+    let found = plain_run(alloc, &plan, &ring).ok()?;
+    Some(found.as_slice() == channels)
 }
 
 #[test]

@@ -5,6 +5,12 @@ use std::alloc::Global;
 use table_formula::{Formula, Separation};
 use win_index::Shape;
 
+/// A refutation of the formula of two identifiers, no rounds and one channel.
+pub(crate) const REFUTATION: &[u8] = b"5 0 1 2 3 0\n";
+
+/// The report on it.
+pub(crate) const REFUTED: &[u8] = b"refuted: ids 2 rounds 0 channels 1 near 1 far 0\n";
+
 // Texts that refute it: by a step, and by exchanges.
 const REFUTATIONS: [&str; 4] = [
     "c one step\n5 d 4 9 0\n\n6 0 01 2 3 0\nnot read",

@@ -9,9 +9,9 @@ use std::io::{ErrorKind, Read, Write};
 /// `failing`, counted from 1, fails with an error of this kind.
 #[derive(Clone, Copy)]
 pub(crate) struct Pace {
-    most: usize,
+    pub(crate) most: usize,
     failing: usize,
-    kind: ErrorKind,
+    pub(crate) kind: ErrorKind,
 }
 
 impl Pace {
@@ -38,12 +38,12 @@ impl Pace {
     }
 }
 
-/// A reader of a text.
+/// A reader of a text, with the number of its calls.
 #[derive(Drop)]
 pub(crate) struct SlowReader<'a> {
     rest: &'a [u8],
     pace: Pace,
-    calls: usize,
+    pub(crate) calls: usize,
 }
 
 impl<'a> SlowReader<'a> {
@@ -54,11 +54,6 @@ impl<'a> SlowReader<'a> {
             pace,
             calls: 0,
         }
-    }
-
-    /// Returns the number of calls.
-    pub(crate) fn calls(&self) -> usize {
-        self.calls
     }
 }
 
@@ -74,12 +69,12 @@ impl<'a> Read for SlowReader<'a> {
     }
 }
 
-/// A writer to memory.
+/// A writer to memory, with the bytes that it took and the number of its calls.
 #[derive(Drop)]
 pub(crate) struct SlowWriter {
-    taken: Vec<u8>,
+    pub(crate) taken: Vec<u8>,
     pace: Pace,
-    calls: usize,
+    pub(crate) calls: usize,
 }
 
 impl SlowWriter {
@@ -90,16 +85,6 @@ impl SlowWriter {
             pace,
             calls: 0,
         }
-    }
-
-    /// Returns the number of calls.
-    pub(crate) fn calls(&self) -> usize {
-        self.calls
-    }
-
-    /// Returns the bytes that it took.
-    pub(crate) fn taken(&self) -> &[u8] {
-        &self.taken
     }
 }
 

@@ -51,16 +51,18 @@ fn segments_are(
     Some(segments_of(&world) == segments)
 }
 
+// Numbers of events, and the rounds and the registers of the two segments after them.
+const ROWS: [(usize, [(u32, &[u32]); 2]); 3] = [
+    (6, [(0, &[5, 1]), (0, &[3, 7])]),
+    (7, [(1, &[2, 4]), (0, &[3, 7])]),
+    (8, [(1, &[2, 4]), (1, &[3, 5])]),
+];
+
 #[test]
 fn a_segment_advances_once_both_neighbours_have_sent(rt: HostRuntime) -> Result<(), Fail> {
     let plan = plan_of(rt.alloc(), CV1, 8)?;
     let ring = ring_of(rt.alloc(), &plan, &[5, 1, 3, 7]).ok_or("a ring")?;
-    let rows = [
-        (6, [(0, [5, 1].as_slice()), (0, [3, 7].as_slice())]),
-        (7, [(1, [2, 4].as_slice()), (0, [3, 7].as_slice())]),
-        (8, [(1, [2, 4].as_slice()), (1, [3, 5].as_slice())]),
-    ];
-    for (done, segments) in rows {
+    for (done, segments) in ROWS {
         let is_so = segments_are(rt.alloc(), &plan, &ring, &EVENTS[..done], segments);
         assert!(rt; is_so == Some(true), "{done}");
     }
