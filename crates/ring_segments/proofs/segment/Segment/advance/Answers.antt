@@ -38,3 +38,9 @@ invariant_of-self c =
     (advance_keeps c.stretches_are_rows.ensures now was.first was.end (vec_len was.spare) (vec_len was.states) c.value-from_left.result c.value-from_right.result
     was.states.items c.round_of_row.new.out
     c.self.invariant more (search rules) (size ∙ (search rules)) from_left from_right made)
+
+pub returns-then-not-is_from-clause-exactly : goal.returns-then-not-is_from-clause-exactly
+returns-then-not-is_from-clause-exactly c = search rules fits 100
+
+pub returns-clause-exactly : goal.returns-clause-exactly
+returns-clause-exactly c = search rules fits 100

@@ -1,4 +1,4 @@
-use Rattle.std.proofs.Common.{◌-◌, ◌<◌, length, ◌∙◌, ap, arith}
+use Rattle.std.proofs.Common.{◌-◌, ◌<◌, length, ◌∙◌, ap, arith, rules}
 use Rattle.node_program.specs.Node.{to_right}
 use Rattle.round_eval.specs.Rows.{rows}
 use Rattle.ring_segments.proofs.Stretches.{row_of_stretch}
@@ -20,3 +20,6 @@ invariant_of-rightward c =
           (row_of_stretch p x was.round was.first count (was.end - was.first - 1) (was.end - 1)
           (rows (length p.start) count was.states.items) c.row_at.result.now kept.rows_are last (omega arith) read);
     }
+
+pub invariant_of-leftward : goal.invariant_of-leftward
+invariant_of-leftward c = search rules
