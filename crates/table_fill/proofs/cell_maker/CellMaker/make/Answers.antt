@@ -45,3 +45,6 @@ returns-clause-goes_on c = record {
   same_plan = search rules;
   grows = record { kept = λ level number b was. c.keep.ensures.learns.kept level number b (c.make.ensures.asked.asked.grows.kept level number b was) };
 }
+
+pub returns-clause-fresh : goal.returns-clause-fresh
+returns-clause-fresh c = search rules

@@ -39,7 +39,8 @@ loop-job-preserved g c =
     let level = c.job-level.result.0 in
     let block = c.job-level.result.1 in
     let all : drawn c.draw.new.ticket ≡ jobs ++ job ∷ [] = search rules in
-    let at : slice_get (jobs_of plan.ids (length plan.program.steps)) job ≡ Some (level, block) = search rules in
+    let at : slice_get (jobs_of plan.ids (length plan.program.steps)) job ≡ Some (level, block) =
+    rw (c.shape-shape.ensures.ids, c.shape-shape.ensures.rounds, c.plan.ensures) at c.job-level.ensures.job in
     let filled : is_some (new level block) ≡ true = search rules in
     let last = block_of_job plan new job level block c.jobs_have_numbers.ensures.at at filled in
     let known_all : AreKnown plan new (jobs ++ job ∷ []) =
