@@ -5,30 +5,31 @@ ghost use Rattle.shared_memo.specs.Passes.{memo_plan};
 
 use crate::miss::Miss;
 use crate::plans::{has_block, plan_of};
-use crate::tell::{other_call, retried, tell_numbers, value_or_refusal};
+use crate::tell::{again, tell, tell_numbers, value_or};
 use lang_check::Plan;
+use node_lang::OutOfMemory;
 use round_columns::Code;
 use shared_memo::{Memo, Reader};
 use test_programs::CV1;
-use unroll::BlockMaker;
+use unroll::{BlockMaker, MakeFault};
 use window_states::Block;
 
 /// `BlockMaker`: prints the number of states of the first block of level 0, and its first state. A
 /// maker that was refused memory for the block makes it a second time.
 pub(crate) fn do_block_maker<R: AllocGlobal + Print>(rt: &R) -> Result<(), Miss> {
-    let plan = plan_of(rt.alloc(), CV1, 8)?;
+    let plan = plan_of(rt.alloc(), CV1)?;
     tell_block_of(rt, &plan)
 }
 
 // Makes the first block of level 0 of a plan, and prints its states.
 fn tell_block_of<R: AllocGlobal + Print>(rt: &R, plan: &Plan) -> Result<(), Miss> {
-    let code = other_call(Code::new(rt.alloc(), plan))?;
+    let code = value_or(Code::new(rt.alloc(), plan), Miss::OtherCall)?;
     tell_first_block(rt, &code)
 }
 
 // Makes the first block of level 0 of the code's plan, and prints its states.
 fn tell_first_block<R: AllocGlobal + Print>(rt: &R, code: &Code<'_>) -> Result<(), Miss> {
-    let memo = other_call(Memo::new(rt.alloc(), code.plan()))?;
+    let memo = value_or(Memo::new(rt.alloc(), code.plan()), Miss::OtherCall)?;
     tell_block_with(rt, code, &memo)
 }
 
@@ -40,7 +41,7 @@ fn tell_block_with<R: AllocGlobal + Print>(
 ) -> Result<(), Miss>
     requires { memo_plan memo.now ≡ code.now }
 {
-    let mut pass = other_call(memo.pass(rt.alloc()))?;
+    let mut pass = value_or(memo.pass(rt.alloc()), Miss::OtherCall)?;
     tell_made_block(rt, code, &mut Reader::new(memo, &mut pass))
 }
 
@@ -79,10 +80,8 @@ fn maker_of<'c, 'p, R: AllocGlobal + Print>(
 ) -> Result<BlockMaker<'c, 'p>, Miss>
     ensures { IfOk result (λ maker. maker ≡ code.entry.now) }
 {
-    match value_or_refusal(rt, BlockMaker::new(rt.alloc(), code))? {
-        Some(maker) => Ok(maker),
-        None => retried(BlockMaker::new(rt.alloc(), code)),
-    }
+    let answer = again!(rt, BlockMaker::new(rt.alloc(), code), OutOfMemory => "OutOfMemory");
+    value_or(answer, Miss::Wrong)
 }
 
 // Returns the first block of level 0, which a maker makes from a reader's blocks.
@@ -94,10 +93,8 @@ fn made_by<'p, R: Print>(
     requires plan { reader.old.pass.now.plan.now ≡ maker.old }
     requires key { IsKey maker.old 0 0 }
 {
-    match value_or_refusal(rt, maker.make(reader, 0, 0, 4))? {
-        Some(block) => Ok(block),
-        None => retried(maker.make(reader, 0, 0, 4)),
-    }
+    let answer = again!(rt, maker.make(reader, 0, 0, 4), MakeFault::OutOfMemory => "OutOfMemory");
+    value_or(answer, Miss::Wrong)
 }
 
 /// Prints the number of states of a block, and the first state.

@@ -3,130 +3,138 @@ ghost use Rattle.std.specs.Prelude.{◌≡◌, ◌<◌, ◌^◌, ◌+◌, OnOk, 
 
 use crate::miss::Miss;
 use crate::tell::tell;
+use border_exchange::Side::{Leftward, Rightward};
 use border_exchange::{Border, PutFault, Seat, Side, Totals};
-use std::alloc::Global;
 use std::marker::Brand;
 use std::sync::Wait;
 use std::sync::ledger::{Blank, Ledger};
 use test_programs::Note;
 
-/// The outcome of a border: it could not be made, or its results were printed.
+/// What is done on a border.
 #[derive(Clone, Copy)]
-enum Outcome {
-    NotMade,
-    Told,
+enum Step {
+    /// The side of the seat; the side, the round and the value of the message.
+    Put(Side, Side, u32, u32),
+    /// The side and the round of the message.
+    Take(Side, u32),
+    Close,
 }
+
+/// Puts from both sides, two of them out of turn, and takes, before the border is closed and after
+/// that.
+const PUTS_AND_TAKES: [Step; 10] = [
+    Step::Put(Rightward, Rightward, 0, 1),
+    Step::Put(Rightward, Rightward, 0, 1),
+    Step::Put(Rightward, Leftward, 1, 3),
+    Step::Put(Leftward, Leftward, 0, 2),
+    Step::Take(Rightward, 0),
+    Step::Take(Leftward, 0),
+    Step::Close,
+    Step::Take(Rightward, 0),
+    Step::Take(Rightward, 1),
+    Step::Put(Rightward, Rightward, 1, 4),
+];
+
+/// Eight puts, in which the list of a side grows twice.
+const EIGHT_PUTS: [Step; 8] = [
+    Step::Put(Rightward, Rightward, 0, 0),
+    Step::Put(Rightward, Rightward, 1, 1),
+    Step::Put(Rightward, Rightward, 2, 2),
+    Step::Put(Rightward, Rightward, 3, 3),
+    Step::Put(Rightward, Rightward, 4, 4),
+    Step::Put(Rightward, Rightward, 5, 5),
+    Step::Put(Rightward, Rightward, 6, 6),
+    Step::Put(Rightward, Rightward, 7, 7),
+];
 
 /// `Border::new` and `Border::put`: prints the results of puts and takes on a border, and its
 /// messages at the end.
 pub(crate) fn do_border<R: AllocGlobal + Print + Wait>(rt: &R) -> Result<(), Miss> {
-    match use_new_border(rt, Use::PutsAndTakes)? {
-        Outcome::Told => Ok(()),
-        Outcome::NotMade => do_border_again(rt),
+    if use_new_border(rt, &PUTS_AND_TAKES)? {
+        return Ok(());
     }
-}
-
-// Puts and takes on a second border, after the first one could not be made.
-fn do_border_again<R: AllocGlobal + Print + Wait>(rt: &R) -> Result<(), Miss> {
     tell(rt, "OutOfMemory")?;
-    match use_new_border(rt, Use::PutsAndTakes)? {
-        Outcome::Told => Ok(()),
-        Outcome::NotMade => Err(Miss::Wrong),
+    if use_new_border(rt, &PUTS_AND_TAKES)? {
+        return Ok(());
     }
+    Err(Miss::Wrong)
 }
 
-/// `Border::put`: prints the results of eight puts, in which the list of a side grows twice, and
-/// the border's messages at the end.
+/// `Border::put`: prints the results of eight puts, and the border's messages at the end.
 pub(crate) fn do_put<R: AllocGlobal + Print + Wait>(rt: &R) -> Result<(), Miss> {
-    match use_new_border(rt, Use::EightPuts)? {
-        Outcome::Told => Ok(()),
-        Outcome::NotMade => Err(Miss::OtherCall),
+    if use_new_border(rt, &EIGHT_PUTS)? {
+        return Ok(());
     }
+    Err(Miss::OtherCall)
 }
 
-// What is done on a border.
-#[derive(Clone, Copy)]
-enum Use {
-    PutsAndTakes,
-    EightPuts,
-}
-
-// Uses a new border, and prints the results and its messages at the end.
-fn use_new_border<R: AllocGlobal + Print + Wait>(rt: &R, how: Use) -> Result<Outcome, Miss> {
+// Uses a new border, and prints the results and its messages at the end. Returns `false` if the
+// border could not be made.
+fn use_new_border<R: AllocGlobal + Print + Wait>(rt: &R, steps: &[Step]) -> Result<bool, Miss> {
     let (right, left) = (Blank::new(1), Blank::new(1));
-    use_border::<Brand, Brand, _>(rt, rt.alloc(), right, left, how)
+    use_border::<Brand, Brand, _>(rt, right, left, steps)
 }
 
-// Uses a border of the ledgers L and M, and prints the results and its messages at the end.
-fn use_border<L: Ledger, M: Ledger, R: Print + Wait>(
+// Uses a border of the ledgers L and M in the same way.
+fn use_border<L: Ledger, M: Ledger, R: AllocGlobal + Print + Wait>(
     rt: &R,
-    alloc: Global,
     right: Blank,
     left: Blank,
-    how: Use,
-) -> Result<Outcome, Miss>
+    steps: &[Step],
+) -> Result<bool, Miss>
     requires right { (right.name ≡ L.name) × (right.parts ≡ L.parts) × (right.parts ≡ 1) }
     requires left { (left.name ≡ M.name) × (left.parts ≡ M.parts) × (left.parts ≡ 1) }
 {
-    let Ok((border, mut right, mut left)) = Border::<Note, L, M>::new(alloc, right, left) else {
-        return Ok(Outcome::NotMade);
+    let Ok((border, mut right, mut left)) = Border::<Note, L, M>::new(rt.alloc(), right, left)
+    else {
+        return Ok(false);
     };
-    use_seats(rt, &border, &mut right, &mut left, how)?;
-    settle(rt, border, right, left)
+    do_steps(rt, &border, &mut right, &mut left, steps)?;
+    settle(rt, border, right, left)?;
+    Ok(true)
 }
 
-// Uses the seats of a border. Puts and takes are before it is closed and after that.
-fn use_seats<L: Ledger, M: Ledger, R: Print + Wait>(
+// Ends a border with its two seats, and prints its messages.
+fn settle<L: Ledger, M: Ledger, R: Print>(
     rt: &R,
-    border: &Border<Note, L, M>,
-    right: &mut Seat<L, M>,
-    left: &mut Seat<L, M>,
-    how: Use,
-) -> Result<(), Miss> {
-    match how {
-        Use::PutsAndTakes => {
-            exchange(rt, border, right, left)?;
-            border.close(rt);
-            use_closed_border(rt, border, right)
-        }
-        Use::EightPuts => put_eight(rt, border, right),
+    border: Border<Note, L, M>,
+    right: Seat<L, M>,
+    left: Seat<L, M>,
+) -> Result<(), Miss>
+    requires { (L.parts ≡ 1) × (M.parts ≡ 1) }
+{
+    if right.side() != Side::Rightward || left.side() != Side::Leftward {
+        return Err(Miss::Wrong);
     }
+    tell_totals(rt, &border.settle(right, left))
 }
 
-// Puts messages from both sides, two of them out of turn, and takes those of the first round.
-fn exchange<L: Ledger, M: Ledger, R: Print + Wait>(
+// Prints the numbers of messages to the right and to the left, then their values in that order.
+fn tell_totals<R: Print>(rt: &R, totals: &Totals<Note>) -> Result<(), Miss> {
+    println!(rt; "{} {}", totals.rightward.len(), totals.leftward.len())?;
+    tell_values(rt, &totals.rightward)?;
+    tell_values(rt, &totals.leftward)
+}
+
+// Uses a border by its seats, and prints the results.
+fn do_steps<L: Ledger, M: Ledger, R: Print + Wait>(
     rt: &R,
     border: &Border<Note, L, M>,
     right: &mut Seat<L, M>,
     left: &mut Seat<L, M>,
+    steps: &[Step],
 ) -> Result<(), Miss> {
-    put(rt, border, right, Note::new(Side::Rightward, 0, 1))?;
-    put(rt, border, right, Note::new(Side::Rightward, 0, 1))?;
-    put(rt, border, right, Note::new(Side::Leftward, 1, 3))?;
-    put(rt, border, left, Note::new(Side::Leftward, 0, 2))?;
-    take(rt, border, Side::Rightward, 0)?;
-    take(rt, border, Side::Leftward, 0)
-}
-
-// Takes from a closed border a message that was put and one that was not, and puts one more.
-fn use_closed_border<L: Ledger, M: Ledger, R: Print + Wait>(
-    rt: &R,
-    border: &Border<Note, L, M>,
-    right: &mut Seat<L, M>,
-) -> Result<(), Miss> {
-    take(rt, border, Side::Rightward, 0)?;
-    take(rt, border, Side::Rightward, 1)?;
-    put(rt, border, right, Note::new(Side::Rightward, 1, 4))
-}
-
-// Puts eight messages to the right.
-fn put_eight<L: Ledger, M: Ledger, R: Print + Wait>(
-    rt: &R,
-    border: &Border<Note, L, M>,
-    right: &mut Seat<L, M>,
-) -> Result<(), Miss> {
-    for round in 0..8 {
-        put(rt, border, right, Note::new(Side::Rightward, round, round))?;
+    for step in steps {
+        match *step {
+            Step::Put(Rightward, side, round, value) => {
+                put(rt, border, right, Note::new(side, round, value))?;
+            }
+            Step::Put(Leftward, side, round, value) => {
+                put(rt, border, left, Note::new(side, round, value))?;
+            }
+            Step::Take(side, round) => take(rt, border, side, round)?,
+            Step::Close => border.close(rt),
+        }
     }
     Ok(())
 }
@@ -172,27 +180,10 @@ fn take<L: Ledger, M: Ledger, R: Print + Wait>(
     Ok(())
 }
 
-// Prints the numbers of messages of a border to the right and to the left, then their values in
-// that order.
-fn settle<L: Ledger, M: Ledger, R: Print>(
-    rt: &R,
-    border: Border<Note, L, M>,
-    right: Seat<L, M>,
-    left: Seat<L, M>,
-) -> Result<Outcome, Miss>
-    requires { (L.parts ≡ 1) × (M.parts ≡ 1) }
-{
-    if right.side() != Side::Rightward || left.side() != Side::Leftward {
-        return Err(Miss::Wrong);
-    }
-    tell_totals(rt, &border.settle(right, left))
-}
-
-// Prints the numbers of messages to the right and to the left, then their values in that order.
-fn tell_totals<R: Print>(rt: &R, totals: &Totals<Note>) -> Result<Outcome, Miss> {
-    println!(rt; "{} {}", totals.rightward.len(), totals.leftward.len())?;
-    for note in totals.rightward.iter().chain(totals.leftward.iter()) {
+// Prints the values of messages, one on a line.
+fn tell_values<R: Print>(rt: &R, notes: &[Note]) -> Result<(), Miss> {
+    for note in notes {
         println!(rt; "{}", note.value)?;
     }
-    Ok(Outcome::Told)
+    Ok(())
 }

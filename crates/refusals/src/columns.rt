@@ -5,8 +5,9 @@ ghost use Rattle.round_columns.specs.States.{HasSize};
 
 use crate::miss::Miss;
 use crate::plans::plan_of;
-use crate::tell::{retried, tell_numbers, value_or_refusal};
+use crate::tell::{again, tell, tell_numbers, value_or};
 use lang_check::Plan;
+use node_lang::OutOfMemory;
 use round_columns::{Code, Columns, Work, channel_columns, step_columns};
 use test_programs::{CV1, LDB};
 
@@ -14,7 +15,7 @@ use test_programs::{CV1, LDB};
 /// of two programs need, then the registers of three nodes after a round of the second program, and
 /// their channels.
 pub(crate) fn do_columns<R: AllocGlobal + Print>(rt: &R) -> Result<(), Miss> {
-    let plan = plan_of(rt.alloc(), LDB, 8)?;
+    let plan = plan_of(rt.alloc(), LDB)?;
     tell_stack(rt, &plan)?;
     do_three_nodes(rt)
 }
@@ -27,7 +28,7 @@ fn tell_stack<R: AllocGlobal + Print>(rt: &R, plan: &Plan) -> Result<(), Miss> {
 
 // Prints that number for `CV1`, and three nodes after its round.
 fn do_three_nodes<R: AllocGlobal + Print>(rt: &R) -> Result<(), Miss> {
-    let plan = plan_of(rt.alloc(), CV1, 8)?;
+    let plan = plan_of(rt.alloc(), CV1)?;
     if plan.shape().rounds() != 1 || plan.program().registers() != 1 {
         return Err(Miss::Wrong);
     }
@@ -48,10 +49,8 @@ fn tell_three_nodes<R: AllocGlobal + Print>(rt: &R, plan: &Plan) -> Result<(), M
 fn code_of<'p, R: AllocGlobal + Print>(rt: &R, plan: &'p Plan) -> Result<Code<'p>, Miss>
     ensures { IfOk result (λ code. code ≡ plan.entry.now) }
 {
-    match value_or_refusal(rt, Code::new(rt.alloc(), plan))? {
-        Some(code) => Ok(code),
-        None => retried(Code::new(rt.alloc(), plan)),
-    }
+    let answer = again!(rt, Code::new(rt.alloc(), plan), OutOfMemory => "OutOfMemory");
+    value_or(answer, Miss::Wrong)
 }
 
 // Prints the nodes 5, 1 and 3 between 7, 5 and 1 and 1, 3 and 7 after a round.
@@ -110,10 +109,8 @@ fn work_of<R: AllocGlobal + Print>(rt: &R, code: &Code<'_>, nodes: &Columns) -> 
     requires { HasSize 3 (length code.now.program.start) nodes.now }
     ensures { IfOk result (λ work. HasRoomFor work code.now nodes.now) }
 {
-    match value_or_refusal(rt, Work::new(rt.alloc(), code, 3))? {
-        Some(work) => Ok(work),
-        None => retried(Work::new(rt.alloc(), code, 3)),
-    }
+    let answer = again!(rt, Work::new(rt.alloc(), code, 3), OutOfMemory => "OutOfMemory");
+    value_or(answer, Miss::Wrong)
 }
 
 // Returns three nodes of one register, which holds these values.
@@ -132,8 +129,6 @@ fn column_of<R: AllocGlobal + Print>(rt: &R, values: [u32; 3]) -> Result<Columns
 fn three_nodes<R: AllocGlobal + Print>(rt: &R) -> Result<Columns, Miss>
     ensures { IfOk result (HasSize 3 1) }
 {
-    match value_or_refusal(rt, Columns::new(rt.alloc(), 1, 3))? {
-        Some(nodes) => Ok(nodes),
-        None => retried(Columns::new(rt.alloc(), 1, 3)),
-    }
+    let answer = again!(rt, Columns::new(rt.alloc(), 1, 3), OutOfMemory => "OutOfMemory");
+    value_or(answer, Miss::Wrong)
 }

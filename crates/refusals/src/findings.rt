@@ -3,13 +3,15 @@ ghost use Rattle.refusals.specs.Shapes.{IsOfShape};
 
 use crate::miss::Miss;
 use crate::plans::{plan_of, ring_for};
-use crate::tell::{retried, tell, tell_numbers, value_or_refusal};
+use crate::tell::{again, tell, tell_numbers, value_or};
 use headline::{Findings, FindingsFault, compile_run_and_judge};
 use lang_check::Plan;
 use nbhd_check::{Separation, Verdict};
+use ring_exec::RunFault;
 use round_eval::OpenGate;
 use std::sync::Wait;
 use std::thread::Threads;
+use table_fill::FillFault;
 use test_programs::CV1;
 use win_index::Ring;
 
@@ -22,13 +24,23 @@ pub(crate) fn do_findings<R: AllocGlobal + Print + Threads + Wait + Sync>(
     rt: &R,
     count: u32,
 ) -> Result<(), Miss> {
-    let plan = plan_of(rt.alloc(), CV1, 8)?;
+    let plan = plan_of(rt.alloc(), CV1)?;
     let ring = ring_for(rt.alloc(), &plan, &[5, 1, 3, 7])?;
-    let findings = match value_or_refusal(rt, findings_of(rt, &plan, &ring, count))? {
-        Some(findings) => findings,
-        None => retried(findings_of(rt, &plan, &ring, count))?,
-    };
-    tell_findings(rt, &findings)
+    let answer = again!(
+        rt,
+        findings_of(rt, &plan, &ring, count),
+        FindingsFault::OutOfMemory
+            | FindingsFault::Table(FillFault::OutOfMemory)
+            | FindingsFault::Run(RunFault::OutOfMemory) => "OutOfMemory",
+        FindingsFault::Table(FillFault::NoThread)
+            | FindingsFault::Run(RunFault::NoThread) => "NoThread"
+    );
+    let findings = value_or(answer, Miss::Wrong)?;
+    tell_numbers(rt, &findings.channels)?;
+    match findings.verdict {
+        Verdict::Yes => tell(rt, "yes"),
+        _ => Err(Miss::Wrong),
+    }
 }
 
 // Calls `compile_run_and_judge` with a gate that is open.
@@ -50,13 +62,4 @@ fn findings_of<R: AllocGlobal + Threads + Wait + Sync>(
         count,
         &OpenGate,
     )
-}
-
-// Prints the channels and the verdict, which is yes.
-fn tell_findings<R: Print>(rt: &R, findings: &Findings) -> Result<(), Miss> {
-    if findings.verdict != Verdict::Yes {
-        return Err(Miss::Wrong);
-    }
-    tell_numbers(rt, &findings.channels)?;
-    tell(rt, "yes")
 }

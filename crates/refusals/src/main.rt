@@ -18,7 +18,6 @@ mod memos;
 mod messages;
 mod miss;
 mod plans;
-mod refusal;
 mod rounds;
 mod rows;
 mod segments;
@@ -35,35 +34,26 @@ use std::rt::Env;
 use std::sync::Wait;
 use std::thread::Threads;
 use std::{env, io};
+use tell::value_or;
 
 fn main(rt: HostRuntime) -> ExitCode {
-    ExitCode::from(exit_status(&rt))
-}
-
-/// Runs the row that the words name. Returns the exit status: 0, or 2 if there is no such row.
-fn exit_status<R: AllocGlobal + Env + Print + Threads + Wait + Sync>(rt: &R) -> u8 {
-    match named_row(rt) {
-        Ok(()) => 0,
-        Err(Miss::NoRow) => 2,
+    match named_row(&rt) {
+        Ok(()) => ExitCode::from(0),
+        Err(Miss::NoRow) => ExitCode::from(2),
         Err(miss) => {
             let _ = println!(rt; "{}", miss.name());
-            0
+            ExitCode::from(0)
         }
     }
 }
 
 /// Runs the row that the first word after the program's name names.
 fn named_row<R: AllocGlobal + Env + Print + Threads + Wait + Sync>(rt: &R) -> Result<(), Miss> {
-    let mut args = args_of(rt)?;
+    let args: io::Result<env::Args<Global>> = env::args(rt);
+    let mut args = value_or(args, Miss::OtherCall)?;
     let _name = args.next();
     match args.next() {
         Some(word) => do_row(rt, &word),
         None => Err(Miss::NoRow),
     }
-}
-
-/// Returns the words of the process, the first of which is its name.
-fn args_of<R: AllocGlobal + Env>(rt: &R) -> Result<env::Args<Global>, Miss> {
-    let args: io::Result<env::Args<Global>> = env::args(rt);
-    args.ok().ok_or(Miss::OtherCall)
 }

@@ -7,8 +7,9 @@ ghost use Rattle.window_states.specs.Entries.{Entries};
 use crate::blocks::tell_states;
 use crate::miss::Miss;
 use crate::plans::{has_block, plan_of};
-use crate::tell::{other_call, retried, tell, tell_numbers, value_or_refusal};
+use crate::tell::{again, tell, tell_numbers, value_or};
 use lang_check::Plan;
+use node_lang::OutOfMemory;
 use shared_memo::{Installed, Memo, Pass, Reader};
 use test_programs::{CV1, RED};
 use unroll::{MakeFault, make_block};
@@ -39,13 +40,13 @@ impl<'s> Source<'s> for NoBlocks<'s> {
 /// plan, made by 3; then the block that is missing for the first block of level 1 without blocks,
 /// and the number of states of the second block of that level, with the first of them.
 pub(crate) fn do_memo<R: AllocGlobal + Print>(rt: &R) -> Result<(), Miss> {
-    let plan = plan_of(rt.alloc(), CV1, 8)?;
+    let plan = plan_of(rt.alloc(), CV1)?;
     tell_memo_of(rt, &plan)
 }
 
 // Prints the row for a plan and that of `RED`.
 fn tell_memo_of<R: AllocGlobal + Print>(rt: &R, plan: &Plan) -> Result<(), Miss> {
-    let other = plan_of(rt.alloc(), RED, 8)?;
+    let other = plan_of(rt.alloc(), RED)?;
     tell_memo(rt, plan, &other)
 }
 
@@ -104,20 +105,16 @@ fn tell_installs<'a, R: AllocGlobal + Print>(
 
 // Returns a memo of empty cells.
 fn memo_of<'a, R: AllocGlobal + Print>(rt: &R, plan: &'a Plan) -> Result<Memo<'a>, Miss> {
-    match value_or_refusal(rt, Memo::new(rt.alloc(), plan))? {
-        Some(memo) => Ok(memo),
-        None => retried(Memo::new(rt.alloc(), plan)),
-    }
+    let answer = again!(rt, Memo::new(rt.alloc(), plan), OutOfMemory => "OutOfMemory");
+    value_or(answer, Miss::Wrong)
 }
 
 // Returns a pass of a memo.
 fn pass_of<'a, R: AllocGlobal + Print>(rt: &R, memo: &Memo<'a>) -> Result<Pass<'a>, Miss>
     ensures { IfOk result (IsPassOf memo.now) }
 {
-    match value_or_refusal(rt, memo.pass(rt.alloc()))? {
-        Some(pass) => Ok(pass),
-        None => retried(memo.pass(rt.alloc())),
-    }
+    let answer = again!(rt, memo.pass(rt.alloc()), OutOfMemory => "OutOfMemory");
+    value_or(answer, Miss::Wrong)
 }
 
 // Installs the first block of a plan, made by this maker, and prints the result.
@@ -169,7 +166,7 @@ fn first_block<'a, R: AllocGlobal + Print>(
         return Err(Miss::Wrong);
     }
     let block = made(rt, plan, &mut NoBlocks { plan }, (0, 0), maker)?;
-    other_call(Box::new(rt.alloc(), block))
+    value_or(Box::new(rt.alloc(), block), Miss::OtherCall)
 }
 
 // Returns the block of a level and a number, made from the blocks of a source.
@@ -185,10 +182,9 @@ fn made<'a, 's, S: Source<'s>, R: AllocGlobal + Print>(
 {
     let alloc = rt.alloc();
     let (level, number) = key;
-    match value_or_refusal(rt, make_block(alloc, plan, source, level, number, maker))? {
-        Some(block) => Ok(block),
-        None => retried(make_block(alloc, plan, source, level, number, maker)),
-    }
+    let answer =
+        again!(rt, make_block(alloc, plan, source, level, number, maker), MakeFault::OutOfMemory => "OutOfMemory");
+    value_or(answer, Miss::Wrong)
 }
 
 // Prints the missing block, and the states of the second block of level 1.
@@ -212,13 +208,11 @@ fn tell_missing<R: AllocGlobal + Print>(rt: &R, plan: &Plan) -> Result<(), Miss>
     requires { IsKey plan.now 1 0 }
 {
     let mut nothing = NoBlocks { plan };
-    let answer = match make_block(rt.alloc(), plan, &mut nothing, 1, 0, 4) {
-        Err(MakeFault::OutOfMemory) => {
-            tell(rt, "OutOfMemory")?;
-            make_block(rt.alloc(), plan, &mut nothing, 1, 0, 4)
-        }
-        answer => answer,
-    };
+    let answer = again!(
+        rt,
+        make_block(rt.alloc(), plan, &mut nothing, 1, 0, 4),
+        MakeFault::OutOfMemory => "OutOfMemory"
+    );
     match answer {
         Err(MakeFault::Missing(level, number)) => tell_numbers(rt, &[level, number]),
         _ => Err(Miss::Wrong),

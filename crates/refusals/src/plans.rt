@@ -3,24 +3,24 @@ ghost use Rattle.std.specs.Prelude.{◌≡◌, true, IfOk, length};
 ghost use Rattle.shared_memo.specs.PlanJobs.{IsKey};
 
 use crate::miss::Miss;
-use crate::tell::other_call;
+use crate::tell::value_or;
 use lang_check::{Plan, accept};
 use node_lang::parse;
 use std::alloc::Global;
 use win_index::Ring;
 
-/// Returns the plan of a program text for this many identifiers.
-pub(crate) fn plan_of(alloc: Global, text: &[u8], ids: u32) -> Result<Plan, Miss> {
-    let program = other_call(parse(alloc, text))?;
-    other_call(accept(program, ids))
+/// Returns the plan of a program text for eight identifiers.
+pub(crate) fn plan_of(alloc: Global, text: &[u8]) -> Result<Plan, Miss> {
+    let program = value_or(parse(alloc, text), Miss::OtherCall)?;
+    value_or(accept(program, 8), Miss::OtherCall)
 }
 
 /// Returns the ring of these identifiers for a plan.
 pub(crate) fn ring_for(alloc: Global, plan: &Plan, ids: &[u32]) -> Result<Ring, Miss>
     ensures { IfOk result (λ ring. (ring.ids ≡ plan.now.ids) × (ring.rounds ≡ length plan.now.program.steps) × (ring.places ≡ ids.now)) }
 {
-    let ids = other_call(ids.to_vec(alloc))?;
-    other_call(Ring::new(plan.shape(), ids))
+    let ids = value_or(ids.to_vec(alloc), Miss::OtherCall)?;
+    value_or(Ring::new(plan.shape(), ids), Miss::OtherCall)
 }
 
 /// Returns whether the plan has a block of this level and number.

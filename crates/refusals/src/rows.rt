@@ -83,20 +83,12 @@ pub(crate) fn do_row<R: AllocGlobal + Print + Threads + Wait + Sync>(
     rt: &R,
     name: &str,
 ) -> Result<(), Miss> {
-    match row_of(name) {
-        Some(row) => do_call(rt, row),
-        None => Err(Miss::NoRow),
-    }
-}
-
-/// Returns the row with this name.
-fn row_of(name: &str) -> Option<Row> {
     for (known, row) in &ROWS {
         if *known == name {
-            return Some(*row);
+            return do_call(rt, *row);
         }
     }
-    None
+    Err(Miss::NoRow)
 }
 
 /// Makes the call of a row.

@@ -4,8 +4,9 @@ ghost use Rattle.refusals.specs.Shapes.{IsOfShape};
 
 use crate::miss::Miss;
 use crate::plans::{plan_of, ring_for};
-use crate::tell::{retried, tell_numbers, value_or_refusal};
+use crate::tell::{again, tell, tell_numbers, value_or};
 use lang_check::Plan;
+use node_lang::OutOfMemory;
 use ring_core::{RingEvent, World, replay};
 use test_programs::{CV1, EVENTS};
 use win_index::Ring;
@@ -13,7 +14,7 @@ use win_index::Ring;
 /// `ring_core::replay`: prints the rounds and the registers of both segments after seven events and
 /// after one more.
 pub(crate) fn do_ring_replay<R: AllocGlobal + Print>(rt: &R) -> Result<(), Miss> {
-    let plan = plan_of(rt.alloc(), CV1, 8)?;
+    let plan = plan_of(rt.alloc(), CV1)?;
     tell_ring(rt, &plan)
 }
 
@@ -57,10 +58,12 @@ fn after<'a, R: AllocGlobal + Print>(
     requires places { 2 ≤ length ring.now.places }
     ensures { IfOk result (λ world. length world.segments ≡ 2) }
 {
-    match value_or_refusal(rt, replay(rt.alloc(), plan, ring, 2, events))? {
-        Some(world) => Ok(world),
-        None => retried(replay(rt.alloc(), plan, ring, 2, events)),
-    }
+    let answer = again!(
+        rt,
+        replay(rt.alloc(), plan, ring, 2, events),
+        OutOfMemory => "OutOfMemory"
+    );
+    value_or(answer, Miss::Wrong)
 }
 
 // Prints the rounds and the registers of two segments.

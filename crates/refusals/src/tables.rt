@@ -4,14 +4,14 @@ ghost use Rattle.shared_memo.specs.Passes.{IsPassOf, memo_plan};
 
 use crate::miss::Miss;
 use crate::plans::plan_of;
-use crate::tell::{other_call, retried, value_or_refusal};
+use crate::tell::{again, tell, value_or};
 use channel_tables::Table;
 use lang_check::Plan;
 use round_eval::OpenGate;
 use shared_memo::{Memo, Pass};
 use std::sync::Wait;
 use std::thread::Threads;
-use table_fill::compile;
+use table_fill::{FillFault, compile};
 use test_programs::CV1;
 
 /// `compile`: prints the entries of a table that `workers` workers filled. If they were refused,
@@ -20,7 +20,7 @@ pub(crate) fn do_compile<R: AllocGlobal + Print + Threads + Wait + Sync>(
     rt: &R,
     workers: u32,
 ) -> Result<(), Miss> {
-    let plan = plan_of(rt.alloc(), CV1, 8)?;
+    let plan = plan_of(rt.alloc(), CV1)?;
     tell_table_of(rt, &plan, workers)
 }
 
@@ -30,7 +30,7 @@ fn tell_table_of<R: AllocGlobal + Print + Threads + Wait + Sync>(
     plan: &Plan,
     workers: u32,
 ) -> Result<(), Miss> {
-    let memo = other_call(Memo::new(rt.alloc(), plan))?;
+    let memo = value_or(Memo::new(rt.alloc(), plan), Miss::OtherCall)?;
     tell_table_with(rt, plan, &memo, workers)
 }
 
@@ -43,7 +43,7 @@ fn tell_table_with<R: AllocGlobal + Print + Threads + Wait + Sync>(
 ) -> Result<(), Miss>
     requires { memo_plan memo.now ≡ plan.now }
 {
-    let mut pass = other_call(memo.pass(rt.alloc()))?;
+    let mut pass = value_or(memo.pass(rt.alloc()), Miss::OtherCall)?;
     let table = filled(rt, plan, memo, &mut pass, workers)?;
     tell_entries(rt, &table)
 }
@@ -59,12 +59,13 @@ fn filled<'a, R: AllocGlobal + Print + Threads + Wait + Sync>(
     requires plan { memo_plan memo.now ≡ plan.now }
     requires pass { IsPassOf memo.now pass.old }
 {
-    let alloc = rt.alloc();
-    let answer = compile(rt, alloc, plan, memo, pass, workers, &OpenGate);
-    match value_or_refusal(rt, answer)? {
-        Some(table) => Ok(table),
-        None => retried(compile(rt, alloc, plan, memo, pass, workers, &OpenGate)),
-    }
+    let answer = again!(
+        rt,
+        compile(rt, rt.alloc(), plan, memo, pass, workers, &OpenGate),
+        FillFault::OutOfMemory => "OutOfMemory",
+        FillFault::NoThread => "NoThread"
+    );
+    value_or(answer, Miss::Wrong)
 }
 
 // Prints the entries of a table, in the order of their windows.

@@ -3,11 +3,12 @@ ghost use Rattle.std.specs.Prelude.{◌≡◌, [], length, IfOk};
 ghost use Rattle.channel_tables.specs.Tables.{windows_of};
 
 use crate::miss::Miss;
-use crate::tell::{retried, tell_numbers, value_or_refusal, was_refused};
+use crate::tell::{again, tell, tell_numbers, value_or};
 use channel_tables::{Table, TableMaker};
 use devices::fault::OutFault;
 use devices::watched::Watched;
 use nbhd_check::Separation;
+use node_lang::OutOfMemory;
 use std::io;
 use table_text::{TableFault, read_table, write_table};
 use win_index::Shape;
@@ -28,7 +29,8 @@ pub(crate) fn do_write_table<R: AllocGlobal + Print>(rt: &R) -> Result<(), Miss>
     maker.push(0);
     maker.push(1);
     let table = maker.done();
-    tell_text(rt, &table)
+    let answer = again!(rt, write(rt, &table), OutFault::Memory => "OutOfMemory");
+    value_or(answer, Miss::Wrong)
 }
 
 // Returns a table of two windows and two channels, without entries.
@@ -41,18 +43,8 @@ fn maker_of<R: AllocGlobal + Print>(rt: &R) -> Result<TableMaker, Miss>
     if shape.rounds() != 0 || shape.count(0) != 2 {
         return Err(Miss::Wrong);
     }
-    match value_or_refusal(rt, TableMaker::new(rt.alloc(), shape, 2))? {
-        Some(maker) => Ok(maker),
-        None => retried(TableMaker::new(rt.alloc(), shape, 2)),
-    }
-}
-
-// Prints the text of a table.
-fn tell_text<R: AllocGlobal + Print>(rt: &R, table: &Table) -> Result<(), Miss> {
-    match value_or_refusal(rt, write(rt, table))? {
-        Some(()) => Ok(()),
-        None => retried(write(rt, table)),
-    }
+    let answer = again!(rt, TableMaker::new(rt.alloc(), shape, 2), OutOfMemory => "OutOfMemory");
+    value_or(answer, Miss::Wrong)
 }
 
 // Writes the text of a table whose neighbours' channels have to differ.
@@ -74,31 +66,21 @@ pub(crate) fn do_read_table<R: AllocGlobal + Print>(rt: &R) -> Result<(), Miss> 
 // Prints the table and the separation of a text, or its fault. Reads the text a second time if
 // memory was refused.
 fn tell_read<R: AllocGlobal + Print>(rt: &R, text: &[u8]) -> Result<(), Miss> {
-    let answer = read_table(rt.alloc(), text);
-    if was_refused(rt, &answer)? {
-        return tell_answer(rt, &read_table(rt.alloc(), text));
-    }
-    tell_answer(rt, &answer)
-}
-
-// Prints the table and the separation of a text, or its fault.
-fn tell_answer<R: Print>(
-    rt: &R,
-    answer: &Result<(Table, Separation), TableFault>,
-) -> Result<(), Miss> {
+    let answer = again!(
+        rt,
+        read_table(rt.alloc(), text),
+        TableFault::OutOfMemory => "OutOfMemory"
+    );
     match answer {
         Ok((table, separation)) => {
-            tell_table(rt, table)?;
+            tell_table(rt, &table)?;
             tell_numbers(rt, &[separation.near, separation.far])
         }
-        Err(fault) => tell_fault(rt, *fault),
+        Err(fault) => {
+            println!(rt; "{fault:?}")?;
+            Ok(())
+        }
     }
-}
-
-// Prints a fault.
-fn tell_fault<R: Print>(rt: &R, fault: TableFault) -> Result<(), Miss> {
-    println!(rt; "{fault:?}")?;
-    Ok(())
 }
 
 // Prints the numbers of rounds, identifiers and channels of a table, and its entries.

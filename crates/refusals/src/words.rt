@@ -1,8 +1,7 @@
 //! Rows of ring texts and tasks.
 use crate::miss::Miss;
-use crate::tell::{other_call, retried, tell, tell_numbers, value_or_refusal, was_refused};
-use node_lang::OutOfMemory;
-use std::alloc::Global;
+use crate::tell::{again, tell, tell_numbers, value_or};
+use std::alloc::{AllocError, Global};
 use std::io;
 use std::io::ErrorKind;
 use task_words::ring_text::ring_of;
@@ -19,47 +18,38 @@ pub(crate) fn do_ring_of<R: AllocGlobal + Print>(rt: &R) -> Result<(), Miss> {
 
 // Prints the identifiers of a ring text, or its fault.
 fn tell_ring<R: AllocGlobal + Print>(rt: &R, text: &str) -> Result<(), Miss> {
-    let answer = ring_of(rt.alloc(), text);
-    if was_refused(rt, &answer)? {
-        return tell_ring_answer(rt, &ring_of(rt.alloc(), text));
-    }
-    tell_ring_answer(rt, &answer)
-}
-
-// Prints the identifiers of a ring, or a fault.
-fn tell_ring_answer<R: Print>(rt: &R, answer: &Result<Vec<u32>, WordsFault>) -> Result<(), Miss> {
-    match answer {
+    let answer = again!(
+        rt,
+        ring_of(rt.alloc(), text),
+        WordsFault::OutOfMemory => "OutOfMemory"
+    );
+    match &answer {
         Ok(ring) => tell_numbers(rt, ring),
-        Err(fault) => tell(rt, fault_name(fault)),
+        Err(WordsFault::BadRing) => tell(rt, "BadRing"),
+        Err(_) => Err(Miss::Wrong),
     }
 }
 
 /// `task_of`: prints the ring and the numbers of identifiers and segments of a run, and the fault
 /// of a table by no workers.
 pub(crate) fn do_task_of<R: AllocGlobal + Print>(rt: &R) -> Result<(), Miss> {
-    for line in ["run --ids 8 --ring 5,1,3,7", "table --ids 8 --workers 0"] {
-        tell_task_of(rt, line)?;
-    }
-    Ok(())
+    tell_task(rt, "run --ids 8 --ring 5,1,3,7")?;
+    tell_task(rt, "table --ids 8 --workers 0")
 }
 
 // Prints the task of a line's words, or their fault.
-fn tell_task_of<R: AllocGlobal + Print>(rt: &R, line: &str) -> Result<(), Miss> {
+fn tell_task<R: AllocGlobal + Print>(rt: &R, line: &str) -> Result<(), Miss> {
     let words = words_of(rt.alloc(), line)?;
-    tell_task(rt, &words)
+    let answer = again!(
+        rt,
+        task_of(rt.alloc(), &words),
+        WordsFault::OutOfMemory => "OutOfMemory"
+    );
+    tell_answer(rt, &answer)
 }
 
-// Prints the ring and the numbers of identifiers and segments of a run in words, or their fault.
-fn tell_task<R: AllocGlobal + Print>(rt: &R, words: &[String]) -> Result<(), Miss> {
-    let answer = task_of(rt.alloc(), words);
-    if was_refused(rt, &answer)? {
-        return tell_task_answer(rt, &task_of(rt.alloc(), words));
-    }
-    tell_task_answer(rt, &answer)
-}
-
-// Prints the ring and the numbers of identifiers and segments of a run, or a fault.
-fn tell_task_answer<R: Print>(rt: &R, answer: &Result<Task, WordsFault>) -> Result<(), Miss> {
+// Prints the ring and the numbers of identifiers and segments of a run, or the fault of a usage.
+fn tell_answer<R: Print>(rt: &R, answer: &Result<Task, WordsFault>) -> Result<(), Miss> {
     match answer {
         Ok(
             Task::Run {
@@ -71,49 +61,30 @@ fn tell_task_answer<R: Print>(rt: &R, answer: &Result<Task, WordsFault>) -> Resu
             tell_numbers(rt, ring)?;
             tell_numbers(rt, &[*ids, *segments])
         }
-        Ok(_) => Err(Miss::Wrong),
-        Err(fault) => tell(rt, fault_name(fault)),
-    }
-}
-
-/// `words_fault`: prints the text for words that are not UTF-8.
-pub(crate) fn do_words_fault<R: AllocGlobal + Print>(rt: &R) -> Result<(), Miss> {
-    let fault = match value_or_refusal(rt, not_utf8(rt.alloc()))? {
-        Some(fault) => fault,
-        None => retried(not_utf8(rt.alloc()))?,
-    };
-    match fault {
-        WordsFault::Usage(text) => tell(rt, &text),
+        Err(WordsFault::Usage(_)) => tell(rt, "Usage"),
         _ => Err(Miss::Wrong),
     }
-}
-
-// Returns the fault of words that are not UTF-8.
-fn not_utf8(alloc: Global) -> Result<WordsFault, OutOfMemory> {
-    Ok(words_fault(alloc, io::Error::from(ErrorKind::InvalidData))?)
 }
 
 // Splits a line into words at its blanks.
 fn words_of(alloc: Global, line: &str) -> Result<Vec<String>, Miss> {
     let mut words = Vec::new(alloc);
     for word in line.split(' ') {
-        push_word(alloc, &mut words, word)?;
+        let word = value_or(String::from_str(alloc, word), Miss::OtherCall)?;
+        value_or(words.push(word), Miss::OtherCall)?;
     }
     Ok(words)
 }
 
-// Appends a word.
-fn push_word(alloc: Global, words: &mut Vec<String>, word: &str) -> Result<(), Miss> {
-    let word = other_call(String::from_str(alloc, word))?;
-    other_call(words.push(word))
-}
-
-// Returns the name of a fault of words.
-fn fault_name(fault: &WordsFault) -> &'static str {
-    match fault {
-        WordsFault::Usage(_) => "Usage",
-        WordsFault::BadRing => "BadRing",
-        WordsFault::OutOfMemory => "OutOfMemory",
-        WordsFault::Help(_) => "Help",
+/// `words_fault`: prints the text for words that are not UTF-8.
+pub(crate) fn do_words_fault<R: AllocGlobal + Print>(rt: &R) -> Result<(), Miss> {
+    let answer = again!(
+        rt,
+        words_fault(rt.alloc(), io::Error::from(ErrorKind::InvalidData)),
+        AllocError => "OutOfMemory"
+    );
+    match &answer {
+        Ok(WordsFault::Usage(text)) => tell(rt, text),
+        _ => Err(Miss::Wrong),
     }
 }
