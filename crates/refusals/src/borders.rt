@@ -2,7 +2,7 @@
 ghost use Rattle.std.specs.Prelude.{◌≡◌, ◌<◌, ◌^◌, ◌+◌, OnOk, OnErr};
 
 use crate::miss::Miss;
-use crate::tell::tell;
+use crate::tell::{tell, tell_numbers};
 use border_exchange::Side::{Leftward, Rightward};
 use border_exchange::{Border, PutFault, Seat, Side, Totals};
 use std::marker::Brand;
@@ -53,7 +53,7 @@ pub(crate) fn do_border<R: AllocGlobal + Print + Wait>(rt: &R) -> Result<(), Mis
     if use_new_border(rt, &PUTS_AND_TAKES)? {
         return Ok(());
     }
-    tell(rt, "OutOfMemory")?;
+    tell(rt, "OutOfMemory");
     if use_new_border(rt, &PUTS_AND_TAKES)? {
         return Ok(());
     }
@@ -106,14 +106,15 @@ fn settle<L: Ledger, M: Ledger, R: Print>(
     if right.side() != Side::Rightward || left.side() != Side::Leftward {
         return Err(Miss::Wrong);
     }
-    tell_totals(rt, &border.settle(right, left))
+    tell_totals(rt, &border.settle(right, left));
+    Ok(())
 }
 
 // Prints the numbers of messages to the right and to the left, then their values in that order.
-fn tell_totals<R: Print>(rt: &R, totals: &Totals<Note>) -> Result<(), Miss> {
-    println!(rt; "{} {}", totals.rightward.len(), totals.leftward.len())?;
-    tell_values(rt, &totals.rightward)?;
-    tell_values(rt, &totals.leftward)
+fn tell_totals<R: Print>(rt: &R, totals: &Totals<Note>) {
+    let _ = println!(rt; "{} {}", totals.rightward.len(), totals.leftward.len());
+    tell_values(rt, &totals.rightward);
+    tell_values(rt, &totals.leftward);
 }
 
 // Uses a border by its seats, and prints the results.
@@ -132,7 +133,7 @@ fn do_steps<L: Ledger, M: Ledger, R: Print + Wait>(
             Step::Put(Leftward, side, round, value) => {
                 put(rt, border, left, Note::new(side, round, value))?;
             }
-            Step::Take(side, round) => take(rt, border, side, round)?,
+            Step::Take(side, round) => take(rt, border, side, round),
             Step::Close => border.close(rt),
         }
     }
@@ -153,7 +154,7 @@ fn put<L: Ledger, M: Ledger, R: Print + Wait>(
     }
     let answer = match border.put(rt, seat, message) {
         Err((back, PutFault::OutOfMemory)) if back == message && seat.puts() == before => {
-            tell(rt, "OutOfMemory")?;
+            tell(rt, "OutOfMemory");
             border.put(rt, seat, back)
         }
         answer => answer,
@@ -162,8 +163,9 @@ fn put<L: Ledger, M: Ledger, R: Print + Wait>(
         Ok(()) => tell(rt, "put"),
         Err((back, PutFault::Misplaced)) if back == message => tell(rt, "misplaced"),
         Err((back, PutFault::Closed)) if back == message => tell(rt, "closed"),
-        Err(_) => Err(Miss::Wrong),
+        Err(_) => return Err(Miss::Wrong),
     }
+    Ok(())
 }
 
 // Takes the message of a side and a round, and prints its value.
@@ -172,18 +174,16 @@ fn take<L: Ledger, M: Ledger, R: Print + Wait>(
     border: &Border<Note, L, M>,
     side: Side,
     round: u32,
-) -> Result<(), Miss> {
+) {
     match border.take(rt, side, round) {
-        Some(note) => println!(rt; "{}", note.value)?,
-        None => tell(rt, "none")?,
+        Some(note) => tell_numbers(rt, &[note.value]),
+        None => tell(rt, "none"),
     }
-    Ok(())
 }
 
 // Prints the values of messages, one on a line.
-fn tell_values<R: Print>(rt: &R, notes: &[Note]) -> Result<(), Miss> {
+fn tell_values<R: Print>(rt: &R, notes: &[Note]) {
     for note in notes {
-        println!(rt; "{}", note.value)?;
+        tell_numbers(rt, &[note.value]);
     }
-    Ok(())
 }

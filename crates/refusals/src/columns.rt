@@ -23,7 +23,8 @@ pub(crate) fn do_columns<R: AllocGlobal + Print>(rt: &R) -> Result<(), Miss> {
 // Prints the number of columns that the expressions of a plan need.
 fn tell_stack<R: AllocGlobal + Print>(rt: &R, plan: &Plan) -> Result<(), Miss> {
     let code = code_of(rt, plan)?;
-    tell_numbers(rt, &[code.stack()])
+    tell_numbers(rt, &[code.stack()]);
+    Ok(())
 }
 
 // Prints that number for `CV1`, and three nodes after its round.
@@ -41,7 +42,7 @@ fn tell_three_nodes<R: AllocGlobal + Print>(rt: &R, plan: &Plan) -> Result<(), M
     requires registers { length plan.now.program.start ≡ 1 }
 {
     let code = code_of(rt, plan)?;
-    tell_numbers(rt, &[code.stack()])?;
+    tell_numbers(rt, &[code.stack()]);
     tell_between(rt, &code)
 }
 
@@ -98,10 +99,11 @@ fn tell_after<R: AllocGlobal + Print>(
 {
     let mut out = three_nodes(rt)?;
     step_columns(code, 0, left, own, right, work, &mut out);
-    tell_numbers(rt, &[out.get(0, 0), out.get(0, 1), out.get(0, 2)])?;
+    tell_numbers(rt, &[out.get(0, 0), out.get(0, 1), out.get(0, 2)]);
     let mut channels = [0; 3];
     channel_columns(code, &out, work, &mut channels);
-    tell_numbers(rt, &channels)
+    tell_numbers(rt, &channels);
+    Ok(())
 }
 
 // Returns room for a code at three nodes.

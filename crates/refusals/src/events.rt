@@ -46,40 +46,28 @@ fn tell_after<R: AllocGlobal + Print>(
 ) -> Result<(), Miss> {
     let answer = again!(rt, replay(rt.alloc(), plan, 2, events), OutOfMemory => "OutOfMemory");
     let world = value_or(answer, Miss::Wrong)?;
-    tell_maker(rt, &world, 0, 0)?;
-    tell_maker(rt, &world, 1, 0)?;
-    tell_maker(rt, &world, 1, 1)?;
-    tell_numbers(rt, &[world.next()])?;
-    tell_worker(rt, &world, 0)?;
-    tell_worker(rt, &world, 1)?;
-    tell(
-        rt,
-        if world.knows(1, 0, 0) {
-            "true"
-        } else {
-            "false"
-        },
-    )
+    tell_maker(rt, &world, 0, 0);
+    tell_maker(rt, &world, 1, 0);
+    tell_maker(rt, &world, 1, 1);
+    tell_numbers(rt, &[world.next()]);
+    tell_worker(rt, &world, 0);
+    tell_worker(rt, &world, 1);
+    let knows = world.knows(1, 0, 0);
+    tell(rt, if knows { "true" } else { "false" });
+    Ok(())
 }
 
 // Prints the maker of the block in the cell of a level and a number, if there is one.
-fn tell_maker<R: Print>(
-    rt: &R,
-    world: &FillWorld<'_>,
-    level: u32,
-    number: u32,
-) -> Result<(), Miss> {
+fn tell_maker<R: Print>(rt: &R, world: &FillWorld<'_>, level: u32, number: u32) {
     let maker = match world.cell(level, number) {
         Some(block) => Some(block.maker()),
         None => None,
     };
-    println!(rt; "{maker:?}")?;
-    Ok(())
+    let _ = println!(rt; "{maker:?}");
 }
 
 // Prints whether a worker is stopped, and its job in hand.
-fn tell_worker<R: Print>(rt: &R, world: &FillWorld<'_>, worker: u32) -> Result<(), Miss> {
+fn tell_worker<R: Print>(rt: &R, world: &FillWorld<'_>, worker: u32) {
     let (stopped, hand) = (world.stopped(worker), world.hand(worker));
-    println!(rt; "{stopped} {hand:?}")?;
-    Ok(())
+    let _ = println!(rt; "{stopped} {hand:?}");
 }

@@ -26,25 +26,40 @@ pub(crate) fn do_findings<R: AllocGlobal + Print + Threads + Wait + Sync>(
 ) -> Result<(), Miss> {
     let plan = plan_of(rt.alloc(), CV1)?;
     let ring = ring_for(rt.alloc(), &plan, &[5, 1, 3, 7])?;
+    let findings = findings_of(rt, &plan, &ring, count)?;
+    tell_numbers(rt, &findings.channels);
+    match findings.verdict {
+        Verdict::Yes => {
+            tell(rt, "yes");
+            Ok(())
+        }
+        _ => Err(Miss::Wrong),
+    }
+}
+
+// Returns the findings of a plan and a ring.
+fn findings_of<R: AllocGlobal + Print + Threads + Wait + Sync>(
+    rt: &R,
+    plan: &Plan,
+    ring: &Ring,
+    count: u32,
+) -> Result<Findings, Miss>
+    requires ring { IsOfShape ring.now plan.now }
+{
     let answer = again!(
         rt,
-        findings_of(rt, &plan, &ring, count),
+        answer_of(rt, plan, ring, count),
         FindingsFault::OutOfMemory
             | FindingsFault::Table(FillFault::OutOfMemory)
             | FindingsFault::Run(RunFault::OutOfMemory) => "OutOfMemory",
         FindingsFault::Table(FillFault::NoThread)
             | FindingsFault::Run(RunFault::NoThread) => "NoThread"
     );
-    let findings = value_or(answer, Miss::Wrong)?;
-    tell_numbers(rt, &findings.channels)?;
-    match findings.verdict {
-        Verdict::Yes => tell(rt, "yes"),
-        _ => Err(Miss::Wrong),
-    }
+    value_or(answer, Miss::Wrong)
 }
 
 // Calls `compile_run_and_judge` with a gate that is open.
-fn findings_of<R: AllocGlobal + Threads + Wait + Sync>(
+fn answer_of<R: AllocGlobal + Threads + Wait + Sync>(
     rt: &R,
     plan: &Plan,
     ring: &Ring,

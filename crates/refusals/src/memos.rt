@@ -134,6 +134,7 @@ fn install<'a, R: AllocGlobal + Print>(
         Ok(Installed::Stood(back)) => tell_maker(rt, "stood", &back),
         Err(back) => tell_maker(rt, "bad block", &back),
     }
+    Ok(())
 }
 
 // Looks at the first block of a memo's plan, and prints its maker.
@@ -146,14 +147,14 @@ fn look<'a, R: Print>(rt: &R, memo: &Memo<'a>, pass: &mut Pass<'a>) -> Result<()
     }
     match memo.look(pass, 0, 0) {
         Ok(Some(block)) => tell_maker(rt, "found", block),
-        _ => Err(Miss::Wrong),
+        _ => return Err(Miss::Wrong),
     }
+    Ok(())
 }
 
 // Prints a word and a block's maker.
-fn tell_maker<R: Print>(rt: &R, word: &str, block: &Block<'_>) -> Result<(), Miss> {
-    println!(rt; "{word} {}", block.maker())?;
-    Ok(())
+fn tell_maker<R: Print>(rt: &R, word: &str, block: &Block<'_>) {
+    let _ = println!(rt; "{word} {}", block.maker());
 }
 
 // Returns the first block of level 0 of a plan, made by this maker.
@@ -182,8 +183,11 @@ fn made<'a, 's, S: Source<'s>, R: AllocGlobal + Print>(
 {
     let alloc = rt.alloc();
     let (level, number) = key;
-    let answer =
-        again!(rt, make_block(alloc, plan, source, level, number, maker), MakeFault::OutOfMemory => "OutOfMemory");
+    let answer = again!(
+        rt,
+        make_block(alloc, plan, source, level, number, maker),
+        MakeFault::OutOfMemory => "OutOfMemory"
+    );
     value_or(answer, Miss::Wrong)
 }
 
@@ -215,6 +219,7 @@ fn tell_missing<R: AllocGlobal + Print>(rt: &R, plan: &Plan) -> Result<(), Miss>
     );
     match answer {
         Err(MakeFault::Missing(level, number)) => tell_numbers(rt, &[level, number]),
-        _ => Err(Miss::Wrong),
+        _ => return Err(Miss::Wrong),
     }
+    Ok(())
 }

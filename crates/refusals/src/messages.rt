@@ -25,5 +25,6 @@ pub(crate) fn do_run<R: AllocGlobal + Print + Threads + Wait + Sync>(
         RunFault::NoThread => "NoThread"
     );
     let channels = value_or(answer, Miss::Wrong)?;
-    tell_numbers(rt, &channels)
+    tell_numbers(rt, &channels);
+    Ok(())
 }

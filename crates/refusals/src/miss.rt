@@ -1,6 +1,4 @@
 //! Why a row does not print its result.
-use std::io;
-
 /// Why a row has no result.
 #[derive(Clone, Copy)]
 pub(crate) enum Miss {
@@ -8,8 +6,6 @@ pub(crate) enum Miss {
     OtherCall,
     /// The call returned neither its result nor a refusal, or was refused a second time.
     Wrong,
-    /// A write to standard output failed.
-    Output,
     /// No row has this name.
     NoRow,
 }
@@ -20,14 +16,7 @@ impl Miss {
         match self {
             Miss::OtherCall => "other call",
             Miss::Wrong => "wrong",
-            Miss::Output => "output",
             Miss::NoRow => "no row",
         }
-    }
-}
-
-impl From<io::Error> for Miss {
-    fn from(_error: io::Error) -> Miss {
-        Miss::Output
     }
 }

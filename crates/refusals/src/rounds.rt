@@ -13,5 +13,6 @@ pub(crate) fn do_plain_run<R: AllocGlobal + Print>(rt: &R) -> Result<(), Miss> {
     let ring = ring_for(alloc, &plan, &[5, 1, 3, 7])?;
     let answer = again!(rt, plain_run(alloc, &plan, &ring), OutOfMemory => "OutOfMemory");
     let channels = value_or(answer, Miss::Wrong)?;
-    tell_numbers(rt, &channels)
+    tell_numbers(rt, &channels);
+    Ok(())
 }

@@ -103,7 +103,10 @@ fn do_call<R: AllocGlobal + Print + Threads + Wait + Sync>(rt: &R, row: Row) -> 
         Row::FillReplay => do_fill_replay(rt),
         Row::RingReplay => do_ring_replay(rt),
         Row::WriteTable => do_write_table(rt),
-        Row::ReadTable => do_read_table(rt),
+        Row::ReadTable => {
+            do_read_table(rt);
+            Ok(())
+        }
         Row::RingOf => do_ring_of(rt),
         Row::TaskOf => do_task_of(rt),
         Row::WordsFault => do_words_fault(rt),

@@ -45,7 +45,8 @@ fn tell_table_with<R: AllocGlobal + Print + Threads + Wait + Sync>(
 {
     let mut pass = value_or(memo.pass(rt.alloc()), Miss::OtherCall)?;
     let table = filled(rt, plan, memo, &mut pass, workers)?;
-    tell_entries(rt, &table)
+    tell_entries(rt, &table);
+    Ok(())
 }
 
 // Returns the table of a plan that `workers` workers filled.
@@ -69,12 +70,11 @@ fn filled<'a, R: AllocGlobal + Print + Threads + Wait + Sync>(
 }
 
 // Prints the entries of a table, in the order of their windows.
-fn tell_entries<R: Print>(rt: &R, table: &Table) -> Result<(), Miss> {
+fn tell_entries<R: Print>(rt: &R, table: &Table) {
     let shape = table.shape();
     for number in 0..shape.count(shape.rounds()) {
         let blank = if number == 0 { "" } else { " " };
-        print!(rt; "{blank}{}", table.entry(number))?;
+        let _ = print!(rt; "{blank}{}", table.entry(number));
     }
-    println!(rt)?;
-    Ok(())
+    let _ = println!(rt);
 }

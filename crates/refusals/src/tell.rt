@@ -9,7 +9,7 @@ macro_rules! again {
     ($rt:expr, $call:expr, $($refusal:pat => $name:literal),+) => {
         match $call {
             $(Err($refusal) => {
-                tell($rt, $name)?;
+                tell($rt, $name);
                 $call
             })+
             answer => answer,
@@ -19,20 +19,18 @@ macro_rules! again {
 
 pub(crate) use again;
 
-/// Prints a line.
-pub(crate) fn tell<R: Print>(rt: &R, line: &str) -> Result<(), Miss> {
-    println!(rt; "{line}")?;
-    Ok(())
+/// Prints a line. A line whose write fails is left out, as by all functions that print.
+pub(crate) fn tell<R: Print>(rt: &R, line: &str) {
+    let _ = println!(rt; "{line}");
 }
 
 /// Prints numbers on a line, separated by single blanks. Allocates no memory.
-pub(crate) fn tell_numbers<R: Print>(rt: &R, numbers: &[u32]) -> Result<(), Miss> {
+pub(crate) fn tell_numbers<R: Print>(rt: &R, numbers: &[u32]) {
     for (i, number) in numbers.iter().enumerate() {
         let blank = if i == 0 { "" } else { " " };
-        print!(rt; "{blank}{number}")?;
+        let _ = print!(rt; "{blank}{number}");
     }
-    println!(rt)?;
-    Ok(())
+    let _ = println!(rt);
 }
 
 /// Returns the value of a call. Fails with this miss if it has none.

@@ -26,8 +26,9 @@ fn tell_ring<R: AllocGlobal + Print>(rt: &R, text: &str) -> Result<(), Miss> {
     match &answer {
         Ok(ring) => tell_numbers(rt, ring),
         Err(WordsFault::BadRing) => tell(rt, "BadRing"),
-        Err(_) => Err(Miss::Wrong),
+        Err(_) => return Err(Miss::Wrong),
     }
+    Ok(())
 }
 
 /// `task_of`: prints the ring and the numbers of identifiers and segments of a run, and the fault
@@ -58,12 +59,13 @@ fn tell_answer<R: Print>(rt: &R, answer: &Result<Task, WordsFault>) -> Result<()
                 segments,
             },
         ) => {
-            tell_numbers(rt, ring)?;
-            tell_numbers(rt, &[*ids, *segments])
+            tell_numbers(rt, ring);
+            tell_numbers(rt, &[*ids, *segments]);
         }
         Err(WordsFault::Usage(_)) => tell(rt, "Usage"),
-        _ => Err(Miss::Wrong),
+        _ => return Err(Miss::Wrong),
     }
+    Ok(())
 }
 
 // Splits a line into words at its blanks.
@@ -85,6 +87,7 @@ pub(crate) fn do_words_fault<R: AllocGlobal + Print>(rt: &R) -> Result<(), Miss>
     );
     match &answer {
         Ok(WordsFault::Usage(text)) => tell(rt, text),
-        _ => Err(Miss::Wrong),
+        _ => return Err(Miss::Wrong),
     }
+    Ok(())
 }
