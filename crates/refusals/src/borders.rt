@@ -20,9 +20,9 @@ enum Step {
     Close,
 }
 
-/// Puts from both sides, two of them out of turn, and takes, before the border is closed and after
-/// that.
-const PUTS_AND_TAKES: [Step; 10] = [
+/// Puts from both sides, two of them out of turn, and takes, before the border is closed twice and
+/// after that.
+const PUTS_AND_TAKES: [Step; 13] = [
     Step::Put(Rightward, Rightward, 0, 1),
     Step::Put(Rightward, Rightward, 0, 1),
     Step::Put(Rightward, Leftward, 1, 3),
@@ -30,9 +30,12 @@ const PUTS_AND_TAKES: [Step; 10] = [
     Step::Take(Rightward, 0),
     Step::Take(Leftward, 0),
     Step::Close,
+    Step::Close,
     Step::Take(Rightward, 0),
+    Step::Take(Leftward, 0),
     Step::Take(Rightward, 1),
     Step::Put(Rightward, Rightward, 1, 4),
+    Step::Put(Leftward, Leftward, 1, 5),
 ];
 
 /// Eight puts, in which the list of a side grows twice.

@@ -1,4 +1,4 @@
-use Rattle.conformance.proofs.borders.threads.a_close_ends_the_waiting.Given as goal
+use Rattle.conformance.proofs.borders.a_close_ends_the_waiting.Given as goal
 
 -- each side's ledger has the name and the parts of its blank
 abbrev pub ghosts-met-R-Ledger : goal.ghosts-met-R-Ledger

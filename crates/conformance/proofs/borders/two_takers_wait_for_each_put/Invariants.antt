@@ -1,4 +1,4 @@
-use Rattle.conformance.proofs.borders.threads.two_takers_wait_for_each_put.Given as goal
+use Rattle.conformance.proofs.borders.two_takers_wait_for_each_put.Given as goal
 
 -- each side's ledger has the name and the parts of its blank
 abbrev pub ghosts-met-R-Ledger : goal.ghosts-met-R-Ledger
