@@ -25,6 +25,25 @@ def built_program(name="nbhd", build=(ROOT / "build",)):
     return program
 
 
+def crates_listed():
+    """The lines of crates.txt by the crate's name, and the libraries that each names."""
+    lines = {}
+    for line in (ROOT / "crates.txt").read_text(encoding="utf-8").splitlines():
+        head, colon, uses = line.partition("#")[0].partition(":")
+        if colon:
+            lines[head.split()[0]] = (line, uses.split())
+    return lines
+
+
+def with_below(crates, names):
+    """These crates of the repository and those below them, each after those that it uses."""
+    found = []
+    for name in names:
+        for it in [*with_below(crates, [used for used in crates[name][1] if used in crates]), name]:
+            found += [it] if it not in found else []
+    return found
+
+
 class Checks:
     """How many checks passed, and how many failed."""
 
