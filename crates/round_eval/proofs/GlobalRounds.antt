@@ -1,11 +1,9 @@
 -- Global rounds as rows.
-use Rattle.std.proofs.Common.{◌≡◌, ℕ, zero, suc, ◌+◌, ◌-◌, ◌%◌, ◌<◌, ◌≤◌, List, [], ◌∷◌, length, get_or, map, arith, refl, sym, add-one, ◌∙◌, ap}
+use Rattle.std.proofs.Common.{◌≡◌, ℕ, zero, suc, ◌+◌, ◌-◌, ◌%◌, ◌<◌, ◌≤◌, List, [], ◌∷◌, length, arith, refl, sym, add-one, ◌∙◌, ap}
 use Rattle.std.proofs.Math.Nat.{add-mod_left, mod-eq_of_lt}
-use Rattle.std.proofs.lemmas.List.{length-map, get_or-map}
-use Rattle.std.proofs.lemmas.List.FromFn.{fill_by_all, get_or-map-range_with_len}
 use Rattle.node_program.specs.Term.{ProgramTree}
-use Rattle.node_program.specs.Node.{start, to_left, to_right, next, channel}
-use Rattle.node_program.specs.GlobalRounds.{left_of, right_of, state, channel_at, channels_of}
+use Rattle.node_program.specs.Node.{to_left, to_right, next}
+use Rattle.node_program.specs.GlobalRounds.{left_of, right_of, state}
 use Rattle.round_eval.specs.Rows.{row_after, stretch}
 use Rattle.round_eval.specs.Laws.{StretchesAreRows}
 
@@ -36,34 +34,3 @@ module _ (p : ProgramTree) (x : List ℕ) (r : ℕ) where
 pub stretches : StretchesAreRows
 stretches p x r first count inside =
     rw (add-one r) (round_of_stretch p x r first count _ _ inside refl refl)
-
--- the row of a ring's places before the first round, one round later, and the channels after the last one
-module _ (p : ProgramTree) (x : List ℕ) where
-  pub started : map (start p) x ≡ stretch p x 0 0 (length x)
-  started =
-      fill_by_all (state p x 0) (map (start p) x) (length x) [] (length-map x (start p)) (λ i lt. get_or-map (start p) x i 0 [] lt)
-
-  pub round_more :
-      (r left right : ℕ) (before after : List (List ℕ)) → 0 < length x → before ≡ stretch p x r 0 (length x)
-      → left ≡ to_right p r (get_or before (length x - 1) []) → right ≡ to_left p r (get_or before 0 [])
-      → after ≡ row_after p r left before right → after ≡ stretch p x (r + 1) 0 (length x)
-  round_more r left right before after some held last first made =
-      let n = length x in
-      let place : (i : ℕ) → i < n → get_or before i [] ≡ state p x r i = λ i lt.
-      rw held (get_or-map-range_with_len (state p x r) 0 n i i [] lt (omega arith)) in
-      let small : 0 + n - 1 < n = omega arith in
-      let to_last : n - 1 ≡ left_of x 0 = sym (mod-eq_of_lt small ∙ (omega arith)) in
-      let around : 0 + n - 1 + 1 ≡ n + 0 = omega arith in
-      let to_first : 0 ≡ right_of x (0 + n - 1) = sym (ap (λ k. k % n) around ∙ add-mod_left n 0 ∙ mod-eq_of_lt some) in
-      let from_left = last ∙ ap (to_right p r) (place (n - 1) (omega arith) ∙ ap (state p x r) to_last) in
-      let from_right = first ∙ ap (to_left p r) (place 0 some ∙ ap (state p x r) to_first) in
-      rw (add-one r)
-      (made ∙ ap (λ u. row_after p r left u right) held ∙ sym (round_of_stretch p x r 0 n left right (omega arith) from_left from_right))
-
-  pub channels_from_rows :
-      (channels : List ℕ) (states : List (List ℕ)) → length channels ≡ length x → states ≡ stretch p x (length p.steps) 0 (length x)
-      → ((i : ℕ) → i < length x → get_or channels i 0 ≡ channel p (get_or states i [])) → channels ≡ channels_of p x
-  unfolding channel_at
-  channels_from_rows channels states size held each =
-      fill_by_all (channel_at p x) channels (length x) 0 size
-      (λ i lt. each i lt ∙ ap (λ u. channel p (get_or u i [])) held ∙ ap (channel p) (get_or-map-range_with_len (state p x (length p.steps)) 0 (length x) i i [] lt (omega arith)))
