@@ -3,7 +3,6 @@
 ghost use Rattle.std.specs.Prelude.{◌≡◌, length, IfOk, IfErr};
 ghost use Rattle.table_entries.specs.ProgramTables.{table_of};
 ghost use Rattle.task_words.specs.Counts.{IsCount};
-ghost use Rattle.shared_memo.specs.Passes.{memo_plan};
 ghost use Rattle.plan_print.specs.Engine.{IsTaskFault};
 ghost use Rattle.plan_print.specs.ReportedFaults.{reported_fill_fault, reported_run_fault};
 ghost use Rattle.reports.specs.Answers.{report_in};
@@ -15,10 +14,9 @@ use channel_tables::Table;
 use devices::fault::EngineFault;
 use first_tuples::{Witness, first_witness};
 use lang_check::Plan;
-use nbhd_check::Separation;
+use nbhd_check::{Separation, judge_with_workers};
 use reports::answer::Answer;
 use reports::judgement::{no_answer, verdict_answer};
-use reports::judging::verdict_and_drop;
 use reports::lines::numbers_line;
 use reports::rings::{ring_in, segments_refusal};
 use reports::status::Status;
@@ -126,13 +124,14 @@ pub(crate) fn judge_report<T: Threads + Wait + Sync>(
         } = witness;
         return Ok(no_answer(alloc, separation, ring, places, channels)?);
     }
-    let memo = Memo::new(alloc, plan)?;
-    let table = compile_table(rt, alloc, plan, &memo, workers)?;
-    let verdict = verdict_and_drop(rt, alloc, &table, separation, workers, memo)?;
+    let table = filled_table(rt, alloc, plan, workers)?;
+    let verdict = judge_with_workers(rt, alloc, &table, separation, workers)?;
     Ok(verdict_answer(alloc, &table, separation, verdict)?)
 }
 
-// Returns the table of an accepted program, which this many workers fill.
+// Returns the table of an accepted program, which this many workers fill. The memo that it is filled
+// from is dropped.
+#[tactic(auto, using(crate::proofs::Workers::worker_count))]
 pub(crate) fn filled_table<T: Threads + Wait + Sync>(
     rt: &T,
     alloc: Global,
@@ -144,25 +143,8 @@ pub(crate) fn filled_table<T: Threads + Wait + Sync>(
     ensures fault { IfErr result (IsTaskFault workers) }
 {
     let memo = Memo::new(alloc, plan)?;
-    compile_table(rt, alloc, plan, &memo, workers)
-}
-
-// Returns the same table, filled in a memo of the program.
-#[tactic(auto, using(crate::proofs::Workers::worker_count))]
-fn compile_table<T: Threads + Wait + Sync>(
-    rt: &T,
-    alloc: Global,
-    plan: &Plan,
-    memo: &Memo<'_>,
-    workers: u32,
-) -> Result<Table, EngineFault>
-    requires memo { memo_plan memo.now ≡ plan.now }
-    requires workers { IsCount workers }
-    ensures table { IfOk result (λ table. table ≡ table_of plan.now.program plan.now.ids) }
-    ensures fault { IfErr result (IsTaskFault workers) }
-{
     let mut pass = memo.pass(alloc)?;
-    match compile(rt, alloc, plan, memo, &mut pass, workers, &OpenGate) {
+    match compile(rt, alloc, plan, &memo, &mut pass, workers, &OpenGate) {
         Ok(table) => Ok(table),
         Err(fault) => match fault_of_filling(fault) {
             Some(fault) => Err(fault),

@@ -8,7 +8,6 @@ mod formula_lines;
 mod formula_notes;
 pub mod formulas;
 pub mod judgement;
-pub mod judging;
 pub mod lines;
 pub mod note;
 pub mod problem;
