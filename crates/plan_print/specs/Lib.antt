@@ -43,5 +43,4 @@ pub use Rattle.reports.specs.Causes
 pub use Rattle.reports.specs.Notes
 pub use Rattle.reports.specs.Written
 pub mod Engine
-pub mod Answers
 pub mod ReportedFaults

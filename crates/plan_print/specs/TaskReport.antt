@@ -1,5 +1,6 @@
 -- The report: the bytes and the status for a task and an input.
-use Rattle.std.specs.Prelude.{ℕ, List, length}
+use Rattle.std.specs.Prelude.{ℕ, List, Option, None, Some, MatchOption, length}
+use Rattle.node_program.specs.Term.{ProgramTree}
 use Rattle.table_formula.specs.Problems.{Problem}
 use Rattle.table_entries.specs.ProgramTables.{table_of}
 use Rattle.reports.specs.Report.{Report, Says, accepted_line, place_lines, IsAnswerOnRing, IsExplainAnswer, IsJudgement, IsPrintReport, IsProgramReport, IsRunAnswer, IsTableReport, IsTableText}
@@ -13,23 +14,39 @@ use Rattle.task_words.specs.declared.task.Task.TheVariants.{Check, Print, Table,
 abbrev pub problem : (ids rounds channels near far : ℕ) → Problem
 problem ids rounds channels near far = record { ids = ids; rounds = rounds; channels = channels; separation = record { near = near; far = far } }
 
--- The report of a task on an input. Audit and migrate are on a table text, a formula on no text at all, refute on a
--- refutation, and the others on a program text. The report does not depend on the number of workers, or on a number of
--- segments in its range.
+-- the number of identifiers for which a task asks about an accepted program, None if it asks about none
+abbrev pub program_ids : Task → Option ℕ
+program_ids (Check ids) = Some ids
+program_ids (Table ids workers near far) = Some ids
+program_ids (Judge ids workers near far) = Some ids
+program_ids (Run ids places segments) = Some ids
+program_ids (Trace ids places base) = Some ids
+program_ids (Explain ids places place base) = Some ids
+program_ids (Plan ids places workers) = Some ids
+program_ids _ = None
+
+-- The report of such a task on the program, which is accepted for `ids` identifiers. It does not depend on the number of
+-- workers, or on a number of segments in its range.
+abbrev pub IsAnswerTo : Task → ℕ → ProgramTree → Report → Type 0
+IsAnswerTo (Check _) ids p = Says (accepted_line ids p) Done
+IsAnswerTo (Table _ workers near far) ids p = IsTableText (table_of p ids) (record { near = near; far = far })
+IsAnswerTo (Judge _ workers near far) ids p = IsJudgement (table_of p ids) (record { near = near; far = far })
+IsAnswerTo (Run _ places segments) ids p = IsAnswerOnRing ids (length p.steps) places.items (IsRunAnswer p places.items segments)
+IsAnswerTo (Trace _ places base) ids p = IsAnswerOnRing ids (length p.steps) places.items (Says (trace_lines base p places.items) Done)
+IsAnswerTo (Explain _ places place base) ids p = IsAnswerOnRing ids (length p.steps) places.items (IsExplainAnswer base p places.items place)
+IsAnswerTo (Plan _ places workers) ids p = IsAnswerOnRing ids (length p.steps) places.items (Says (place_lines p places.items) Done)
+IsAnswerTo _ ids p = λ r. ⊥
+
+-- The report of another task: print is on a program text, audit and migrate on a table text, a formula on no text at all,
+-- and refute on a refutation.
+abbrev pub IsTextReport : Task → List ℕ → Report → Type 0
+IsTextReport Print input r = IsPrintReport input r
+IsTextReport Audit input r = IsTableReport IsJudgement input r
+IsTextReport Migrate input r = IsTableReport IsTableText input r
+IsTextReport (Formula ids rounds channels near far) input r = IsFormulaReport (problem ids rounds channels near far) r
+IsTextReport (Refute ids rounds channels near far) input r = IsRefuteReport (problem ids rounds channels near far) input r
+IsTextReport _ input r = ⊥
+
+-- The report of a task on an input. If the task asks about an accepted program, it refuses the program text or gives the answer.
 abbrev pub IsReport : Task → List ℕ → Report → Type 0
-IsReport (Check ids) input r = IsProgramReport ids (λ p. Says (accepted_line ids p) Done) input r
-IsReport Print input r = IsPrintReport input r
-IsReport (Table ids workers near far) input r = IsProgramReport ids (λ p. IsTableText (table_of p ids) (record { near = near; far = far })) input r
-IsReport (Judge ids workers near far) input r = IsProgramReport ids (λ p. IsJudgement (table_of p ids) (record { near = near; far = far })) input r
-IsReport (Run ids places segments) input r =
-    IsProgramReport ids (λ p. IsAnswerOnRing ids (length p.steps) places.items (IsRunAnswer p places.items segments)) input r
-IsReport (Trace ids places base) input r =
-    IsProgramReport ids (λ p. IsAnswerOnRing ids (length p.steps) places.items (Says (trace_lines base p places.items) Done)) input r
-IsReport (Explain ids places place base) input r =
-    IsProgramReport ids (λ p. IsAnswerOnRing ids (length p.steps) places.items (IsExplainAnswer base p places.items place)) input r
-IsReport (Plan ids places workers) input r =
-    IsProgramReport ids (λ p. IsAnswerOnRing ids (length p.steps) places.items (Says (place_lines p places.items) Done)) input r
-IsReport Audit input r = IsTableReport IsJudgement input r
-IsReport Migrate input r = IsTableReport IsTableText input r
-IsReport (Formula ids rounds channels near far) input r = IsFormulaReport (problem ids rounds channels near far) r
-IsReport (Refute ids rounds channels near far) input r = IsRefuteReport (problem ids rounds channels near far) input r
+IsReport task input r = MatchOption (program_ids task) (IsTextReport task input r) (λ ids. IsProgramReport ids (IsAnswerTo task ids) input r)
