@@ -163,16 +163,35 @@ INSIDE = {"view", "invariant", "coded"}
 GHOST = re.compile(r"^    (?:pub )?ghost (\w+)(?:: \{.*?\})?(?: = )?(\{.*?\n?.*?\})[;,]$", re.MULTILINE | re.DOTALL)
 
 
-class Call:
-    """A public function, with the clauses of its contract, each a name and a text, and what the imports in its scope bring."""
+def doc_before(text, start):
+    """The paragraphs of the doc comment that ends where something starts, attributes between them aside."""
+    lines, in_attribute = [], False
+    for line in reversed(text[:start].split("\n")[:-1]):
+        line = line.strip()
+        if line.startswith("///"):
+            lines.insert(0, line[3:].strip())
+        elif lines or not (in_attribute or line.startswith("#[") or line == ")]"):
+            break
+        else:
+            in_attribute = not line.startswith("#[")
+    return [" ".join(part.split()) for part in re.split(r"\n\n", "\n".join(lines)) if part.strip()]
 
-    def __init__(self, crate, owner, name, header, brought):
-        self.crate, self.owner, self.name, self.brought = crate, owner, name, brought
+
+class Call:
+    """A public function, with its file, the trait that it implements, the paragraphs of its doc comment, the clauses of its contract,
+    each a kind, a name and a text, and what the imports in its scope bring."""
+
+    def __init__(self, path, owner, of_trait, name, header, brought, doc):
+        self.crate, self.owner, self.name, self.brought = path.parent.parent.name, owner, name, brought
+        self.path, self.of_trait, self.doc = path, of_trait, doc
         found = re.split(r"\n\s*((?:requires|ensures)\*?) ?", header)
         self.clauses = []
         for kind, text in zip(found[1::2], found[2::2]):
             named, _, body = text.partition("{")
             self.clauses.append((kind, named.strip(), body))
+
+    def path_name(self):
+        return f"{self.owner}::{self.name}" if self.owner else self.name
 
     def cited(self):
         return {it for _, _, text in self.clauses for it in cited(text, self.brought)}
@@ -208,20 +227,47 @@ def public(crate):
             for it in GHOST.finditer(body):
                 if it[1] not in INSIDE:
                     members |= cited(it[2], brought)
-            for indent, shown, name, header in SIGNATURE.findall(body):
-                if kind == "trait" or of_trait or shown:
-                    calls.append(Call(crate, owner, name, header, brought))
-        for indent, shown, name, header in SIGNATURE.findall("\n".join(scope)):
-            if not indent and shown and is_public(crate, path.stem, name):
-                calls.append(Call(crate, None, name, header, top))
+            for it in SIGNATURE.finditer(body):
+                if kind == "trait" or of_trait or it[2]:
+                    calls.append(Call(path, owner, of_trait, it[3], it[4], brought, doc_before(body, it.start())))
+        lone = "\n".join(scope)
+        for it in SIGNATURE.finditer(lone):
+            if not it[1] and it[2] and is_public(crate, path.stem, it[3]):
+                calls.append(Call(path, None, None, it[3], it[4], top, doc_before(lone, it.start())))
     return calls, members
 
 
+class Type:
+    """A public type or trait, with its file, the paragraphs of its doc comment, and the name and the doc comment of each variant of an
+    enum."""
+
+    def __init__(self, path, kind, name, text, start):
+        self.path, self.kind, self.name, self.doc = path, kind, name, doc_before(text, start)
+        body = text[start:].split("\n}\n")[0] if kind == "enum" else ""
+        self.variants = [(it[1], doc_before(body, it.start())) for it in re.finditer(r"^    ([A-Z]\w*)[^;]*?,$", body, re.MULTILINE)]
+
+
+@functools.cache
+def public_types(crate):
+    """The public types and traits of a crate."""
+    found = []
+    for path in sorted((ROOT / f"crates/{crate}/src").glob("*.rt")):
+        text = path.read_text(encoding="utf-8")
+        for it in re.finditer(r"^pub (struct|enum|trait) (\w+)", text, re.MULTILINE):
+            if is_public(crate, path.stem, it[2]):
+                found.append(Type(path, it[1], it[2], text, it.start()))
+    return found
+
+
+def fields_of(name, brought):
+    """The fields of a record, in order; none of another definition."""
+    texts = [definitions_in(crate, file)[0].get(it, "") for crate, file, it in (home(*it) for it in cited(name, brought))]
+    return [field for text in texts if text.startswith(("pub record", "record")) for field in parts(text)]
+
+
 def fields(clause, brought):
-    """The fields of the record that a clause is, each a clause of its own."""
-    starts = [home(*it) for it in cited(clause, brought)]
-    texts = [definitions_in(crate, file)[0].get(name, "") for crate, file, name in starts]
-    return {name for text in texts if text.startswith(("pub record", "record")) for name in parts(text)}
+    """The fields of the records that a clause cites, each a clause of its own."""
+    return set(fields_of(clause, brought))
 
 
 def near_texts(clause, brought, levels=2):

@@ -32,8 +32,8 @@ ghost use Rattle.bad_tuples.specs.Witnesses.{IsWitness};
 ghost use Rattle.first_tuples.specs.FirstTuples.{plan_table, first_count, IsFirstBad};
 
 /// Judges the first `FIRST_TUPLES` tuples of the table of a plan's program, in order, by rounds on
-/// their windows. Returns the witness of the judge's no if one of them breaks the separation, else
-/// `None`.
+/// their windows. Returns the witness of the judge's no exactly if one of them breaks the
+/// separation, else `None`.
 ///
 /// Fails if memory for the witness was refused.
 pub fn first_witness(

@@ -13,7 +13,8 @@ pub fn windows_need_channels()
 }
 
 /// The number of identifiers of a table that keeps a separation on every ring is at most the tower
-/// of height `2t` over the number of its channels that are apart by near, each two of them.
+/// of height `2t` over the number of its channels that are apart by near, each two of them. Near
+/// must be at least 1; if far is above 0, there must be at least `2t+3` identifiers.
 pub fn tables_need_channels()
     ensures { law.TablesNeedChannels }
 {

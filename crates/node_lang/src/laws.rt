@@ -30,7 +30,7 @@ pub fn one_text_fault()
     ensures none { law.ReadableTextsHaveNoFault }
 {}
 
-/// Reading from the left stops at the first fault of a text's lexemes, and only there.
+/// Reading from the left stops exactly at the first fault of a text's lexemes.
 #[tactic(auto, using(crate::proofs::Judging::first_fault_of, crate::proofs::Judging::stops_at_first_fault))]
 pub fn first_fault()
     ensures first { law.ReadingStopsAtFirstFault }

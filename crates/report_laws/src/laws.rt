@@ -118,7 +118,8 @@ pub fn refuted_is_impossible()
 
 /// Linial's lower bound (1992): if on every ring of identifiers below `m` the channels of `t` rounds
 /// of a program are below `c` and apart, `m` is at most the tower of height `2t` over those of the
-/// `c` channels that are apart by near. The program need not be accepted, and so has no limits.
+/// `c` channels that are apart by near. Near must be at least 1; if far is above 0, there must be at
+/// least `2t+3` identifiers. The program need not be accepted, and so has no limits.
 /// An accepted one with fewer channels fails on some ring, and the judge says no.
 pub fn programs_need_channels()
     ensures rounds { law.RoundsNeedChannels }

@@ -31,10 +31,10 @@ use win_index::Ring;
 /// caller's, and neighbours exchange messages at borders. The gate is called for each round of each
 /// segment, before the segment sends. The ring must have the plan's shape.
 ///
-/// Fails with `SegmentsOutOfRange` first, if the number of segments is not 1 to `MAX_SEGMENTS` or
-/// is above the number of places; then with `NoThread` if the start of a thread was refused, which
-/// a single segment does not need; else with the fault of the lowest segment that has one. All
-/// threads have ended before the call returns.
+/// Fails with `SegmentsOutOfRange` exactly if the number of segments is not 1 to `MAX_SEGMENTS` or
+/// is above the number of places, which is checked first; then with `NoThread` if the start of a
+/// thread was refused, which a single segment does not need; else with the fault of the lowest
+/// segment that has one. All threads have ended before the call returns.
 pub fn run<'a, R: Threads + Wait + Sync, G: Gate + Sync>(
     rt: &'a R,
     alloc: Global,

@@ -157,9 +157,9 @@ impl<'a> Segment<'a> {
         (rightward, leftward)
     }
 
-    /// Does one more round, with the messages of its two neighbours. Fails with `Strange` if one of
-    /// them has another plan, ring, place, side or round than the segment needs; the segment is
-    /// then unchanged.
+    /// Does one more round, with the messages of its two neighbours. Fails with `Strange` exactly if
+    /// one of them has another plan, ring, place, side or round than the segment needs; the segment
+    /// is then unchanged.
     pub fn advance(&mut self, left: Msg<'a>, right: Msg<'a>) -> Result<(), Strange>
         requires { self.old.round < length self.old.plan.program.steps }
         ensures exactly { IsOk result ↔ ((heading_of left.entry ≡ from_left self.old) × (heading_of right.entry ≡ from_right self.old)) }

@@ -66,8 +66,8 @@ impl Formula {
     ghost use Rattle.table_formula.specs.FormulaFaults.{IsFormulaFault};
 
     /// Returns the formula of the tables of this shape with at most `channels` channels that keep
-    /// the separation, or its first fault: `TooManyVariables`, else `TooManyClauses`, else
-    /// `OutOfMemory` if memory was refused.
+    /// the separation. Fails with `TooManyVariables`, else with `TooManyClauses`, exactly if it is
+    /// not within these limits; else with `OutOfMemory` if memory was refused.
     pub fn new(
         alloc: Global,
         shape: Shape,

@@ -41,8 +41,9 @@ impl Ring {
     ghost use Rattle.win_index.specs.Arcs.{window_around};
     ghost use Rattle.win_index.specs.RingFaults.{IsFirstFault};
 
-    /// Makes a ring of these identifiers, or returns the list and its first fault: its length, or
-    /// else the least place whose identifier is too large or occurs before it.
+    /// Makes a ring of these identifiers. Fails exactly if they are no ring, and returns the list
+    /// with its first fault: its length, or else the least place whose identifier is too large or
+    /// occurs before it.
     pub fn new(shape: Shape, ids: Vec<u32>) -> Result<Ring, (Vec<u32>, RingFault)>
         ensures ok { IfOk result (λ ring. ring ≡ record { ids = shape.ids; rounds = shape.rounds; places = ids.items }) }
         ensures exact { IsOk result ↔ IsRing shape.ids shape.rounds ids.items }

@@ -40,8 +40,8 @@ impl Shape {
     ghost use Rattle.win_index.specs.ShapeRange.{IsShape, IsExtra};
     ghost use Rattle.win_index.specs.ShapeFaults.{IsFirstShapeFault};
 
-    /// Returns the shape of `ids` identifiers and `rounds` rounds, or its first fault:
-    /// `IdsOutOfRange`, else `TooManyWindows`.
+    /// Returns the shape of `ids` identifiers and `rounds` rounds. Fails exactly if there is none,
+    /// with its first fault: `IdsOutOfRange`, else `TooManyWindows`.
     pub fn new(ids: u32, rounds: u32) -> Result<Shape, ShapeFault>
         requires { rounds ≤ MAX_ROUNDS }
         ensures ok { IfOk result (λ shape. (shape.ids ≡ ids) × (shape.rounds ≡ rounds)) }
