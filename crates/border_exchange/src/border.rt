@@ -48,7 +48,8 @@ impl<M: Dated + Copy, R: Ledger, L: Ledger> Border<M, R, L> {
         ))
     }
 
-    /// Appends a message to the list of the seat's side. The seat must have fewer than `2^24` puts.
+    /// Appends a message to the list of the seat's side, and counts one more put of the seat. The
+    /// seat must have fewer than `2^24` puts.
     ///
     /// Fails with `Closed` if the border was closed, else with `Misplaced` if the message's side is
     /// not the seat's, or its round is not both the number of the seat's puts and the number of
