@@ -178,13 +178,14 @@ def doc_before(text, start):
 
 
 class Call:
-    """A public function, with its file, the trait that it implements, the paragraphs of its doc comment, the clauses of its contract,
-    each a kind, a name and a text, and what the imports in its scope bring."""
+    """A public function, with its file, the trait that it implements, the paragraphs of its doc comment, whether it can wait, the clauses
+    of its contract, each a kind, a name and a text, and what the imports in its scope bring."""
 
     def __init__(self, path, owner, of_trait, name, header, brought, doc):
         self.crate, self.owner, self.name, self.brought = path.parent.parent.name, owner, name, brought
         self.path, self.of_trait, self.doc = path, of_trait, doc
         found = re.split(r"\n\s*((?:requires|ensures)\*?) ?", header)
+        self.can_wait = re.search(r"\bWait\b", found[0]) is not None
         self.clauses = []
         for kind, text in zip(found[1::2], found[2::2]):
             named, _, body = text.partition("{")
