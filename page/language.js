@@ -11,20 +11,20 @@ export const OPERATIONS = [
   { forms: ["shl(a, k)"], value: "`a * 2^k` modulo `2^32`; 0 for `k >= 32`", examples: ["shl(5, 1) = 10"] },
   { forms: ["shr(a, k)"], value: "`a / 2^k`, rounded down; 0 for `k >= 32`", examples: ["shr(5, 1) = 2"] },
   { forms: ["add(a, b)"], value: "`a + b` modulo `2^32`", examples: ["add(5, 2) = 7"] },
-  { forms: ["sub(a, b)"], value: "`a - b`; 0 where that is below 0", examples: ["sub(5, 2) = 3"] },
+  { forms: ["sub(a, b)"], value: "`a - b`; 0 if that is below 0", examples: ["sub(5, 2) = 3"] },
   { forms: ["min(a, b)", "max(a, b)"], value: "the lesser, the greater", examples: ["min(5, 2) = 2", "max(5, 2) = 5"] },
   {
     forms: ["ldb(a, b)"],
-    value: "the least index of a bit in which they differ, 0 where they are equal",
+    value: "the least index of a bit in which they differ, 0 if equal",
     examples: ["ldb(5, 7) = 1"],
   },
   { forms: ["bit(a, i)"], value: "bit `i` of `a`; 0 for `i >= 32`", examples: ["bit(5, 2) = 1"] },
   {
     forms: ["eq(a, b)", "ne(a, b)", "lt(a, b)", "le(a, b)"],
-    value: "1 where `a` is equal, not equal, less, at most `b`, else 0",
+    value: "1 if `a` is equal, not equal, less, at most `b`, else 0",
     examples: ["eq(5, 2) = 0", "ne(5, 2) = 1", "lt(5, 2) = 0", "le(2, 5) = 1"],
   },
-  { forms: ["if(c, a, b)"], value: "`a` where `c` is not 0, else `b`", examples: ["if(1, 5, 2) = 5"] },
+  { forms: ["if(c, a, b)"], value: "`a` if `c` is not 0, else `b`", examples: ["if(1, 5, 2) = 5"] },
 ];
 
 const KINDS = new Map();
@@ -55,7 +55,7 @@ function kindOf(token) {
   return KINDS.get(token) ?? (/[A-Za-z0-9]/.test(token) ? "unknown" : "");
 }
 
-/** How many rows at the head of a text are comments or blank; 0 where all are. */
+/** How many rows at the head of a text are comments or blank; 0 if all are. */
 export function headRows(rows) {
   return Math.max(rows.findIndex((row) => /^\s*[^\s#]/.test(row)), 0);
 }
@@ -71,5 +71,5 @@ export function partTokens(text) {
     .map((match) => ({ at: match.index, length: match[0].length }));
 }
 
-/** The number of rounds that a text names, 0 where it names none. */
+/** The number of rounds that a text names, 0 if it names none. */
 export const roundsOf = (text) => Number(text.match(/^\s*rounds\s+(\d+)/m)?.[1] ?? 0);
