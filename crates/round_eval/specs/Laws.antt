@@ -1,5 +1,5 @@
 -- The laws of this crate.
-use Rattle.std.specs.Prelude.{◌≡◌, ℕ, ◌+◌, ◌-◌, ◌*◌, ◌≤◌, List, [], ◌∷◌, ◌++◌, map, take, drop, length}
+use Rattle.std.specs.Prelude.{◌≡◌, ℕ, ◌+◌, ◌-◌, ◌*◌, ◌≤◌, List, map, take, drop, length}
 use Rattle.std.specs.List.{range_with_len}
 use Rattle.node_program.specs.Term.{ProgramTree}
 use Rattle.node_program.specs.Node.{to_left, to_right}
@@ -14,12 +14,6 @@ StretchesAreRows =
     → stretch p x (r + 1) first count
     ≡ row_after p r (to_right p r (state p x r (left_of x first))) (stretch p x r first count)
     (to_left p r (state p x r (right_of x (first + count - 1))))
-
--- cells written after n rows are one row more
-abbrev pub RowsAreWritten : Type 0
-RowsAreWritten =
-    (width n : ℕ) (before cells after : List ℕ) → n * width ≤ length before → length cells ≡ width
-    → rows width (n + 1) (take (n * width) before ++ (cells ++ after)) ≡ rows width n before ++ cells ∷ []
 
 -- the rows of cells are their parts of a row's width, by index
 abbrev pub RowsAreTaken : Type 0

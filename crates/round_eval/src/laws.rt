@@ -8,12 +8,6 @@ pub fn stretches_are_rows()
     ensures { law.StretchesAreRows }
 {}
 
-/// Cells written after `n` rows add one row.
-#[tactic(auto, using(crate::proofs::RowLemmas::rows_written))]
-pub fn rows_are_written()
-    ensures { law.RowsAreWritten }
-{}
-
 /// The rows of a list of cells are its consecutive parts of a row's width.
 #[tactic(auto, using(crate::proofs::RowLemmas::rows_taken))]
 pub fn rows_are_taken()

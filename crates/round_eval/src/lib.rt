@@ -14,7 +14,7 @@ mod value;
 pub use configuration::{Configuration, Reading};
 pub use fault::{ThreadFault, WorkFault};
 pub use gate::{Gate, OpenGate};
-pub use laws::{rows_are_taken, rows_are_written, stretches_are_rows};
+pub use laws::{rows_are_taken, stretches_are_rows};
 pub use node::{channel, messages, sent_to_left, sent_to_right, start_state, step};
 pub use rounds::plain_run;
 pub use row::{round_of_row, row_at, start_of_row, width_of};
