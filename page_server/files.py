@@ -2,17 +2,22 @@
 
 import json
 
+from .documents import converter, served_documents
+
 TYPES = {".html": "text/html", ".css": "text/css", ".js": "text/javascript", ".svg": "image/svg+xml"}
 
 
-def page_files(root):
-    """The type and the bytes of each file of the page and of docs/, by its path in the address. No other path is looked up."""
+def page_files(root, program=None):
+    """The type and the bytes of each file of the page, of the documents and of their pictures, by its path in the address. No other path
+    is looked up. The program makes pages of the documents: that of `converter` if none is given."""
     files = {}
     for file in sorted((root / "page").iterdir()):
         if file.suffix in TYPES and file.is_file():
             files[f"/{file.name}"] = (f"{TYPES[file.suffix]}; charset=utf-8", file.read_bytes())
-    for file in sorted((root / "docs").glob("*.md")):
-        files[f"/docs/{file.name}"] = ("text/plain; charset=utf-8", file.read_bytes())
+    files.update(served_documents(root, program or converter()))
+    for ending, kind in ((".svg", "image/svg+xml; charset=utf-8"), (".png", "image/png")):
+        for file in sorted((root / "docs/pictures").glob(f"*{ending}")):
+            files[f"/docs/pictures/{file.name}"] = (kind, file.read_bytes())
     files["/"] = files.pop("/index.html")
     files["/examples.json"] = ("application/json", json.dumps(examples(root)).encode())
     return files

@@ -45,13 +45,14 @@ def files(server):
     """The page's files are served, and no others."""
     for path in ["/", "/examples.json", *(f"/{file.name}" for file in (ROOT / "page").iterdir() if file.name not in ("index.html", "package.json"))]:
         STEPS.equal(f"GET {path}", server.ask(f"GET {path}")[0], 200)
-    status, text = server.ask("GET /docs/LANGUAGE.md")
-    STEPS.equal("a page of docs, as text", (status, text), (200, (ROOT / "docs/LANGUAGE.md").read_bytes()))
+    for path in ("README.html", "CHANGELOG.html", "docs/LANGUAGE.html", "docs/pictures/ring.svg", "docs/pictures/page_run.png"):
+        STEPS.equal(f"GET /{path}", server.ask(f"GET /{path}")[0], 200)
     _, page = server.ask("GET /")
     STEPS.check("the page loads nothing from elsewhere", not re.search(rb"(src|href)=\"(https?:)?//", page))
     foreign = """/../nbhd-page /%2e%2e/nbhd-page /..%2fnbhd-page //etc/passwd /page/../nbhd-page /./style.css /style.css/../main.js
         /index.html /nbhd-page /examples/cv1.txt /style.css?x /\\..\\nbhd-page /tools/page-test /style.css%00 /nbhd * /etc/passwd
-        /.git/config style.css /package.json /docs /docs/ /docs/../README.md /docs/pictures/ring.svg"""
+        /.git/config style.css /package.json /docs /docs/ /docs/../README.md /docs/pictures/ /docs/PROOFS.html
+        /docs/LANGUAGE.md"""
     for path in [*foreign.split(), f"http://{server.own}/../nbhd-page"]:
         answer = server.ask(f"GET {path}")
         STEPS.check(f"GET {path} is refused", answer[0] in (400, 404), answer)
@@ -63,7 +64,7 @@ def senders(server):
     other = f"127.0.0.1:{port + 1}"
     for host in ("evil.example", f"evil.example:{port}", "127.0.0.1", other, f"localhost:{port + 1}", "localhost", f"{own}.evil.example", "", None):
         STEPS.equal(f"Host {host}", server.ask("GET /", {"Host": host})[0], 403)
-    for path in ("/", "/main.js", "/docs/FAULTS.md"):
+    for path in ("/", "/main.js", "/docs/FAULTS.html"):
         answer = server.raw(f"GET {path} HTTP/1.1\r\nHost: localhost:{port}\r\n\r\n".encode()).decode()
         sent = answer.split(" ")[1] == "307" and f"\r\nLocation: http://{own}{path}\r\n" in answer
         STEPS.check(f"localhost leads {path} to the address", sent and answer.endswith("\r\n\r\n"), answer)

@@ -1,6 +1,7 @@
 """The parts of the page and of its server, each alone: the modules without a document by `node --test`, where there is one, and the
 modules of page_server."""
 
+import posixpath
 import re
 import shutil
 import subprocess
@@ -13,6 +14,7 @@ from steps import CV1, ROOT, STEPS
 sys.path.insert(0, str(ROOT))
 
 from page_server import orders, runs
+from page_server.documents import NAMES, TEXT_ALONE, converter, served_documents
 from page_server.errors import ClientGone, Refusal
 from page_server.files import page_files
 
@@ -42,6 +44,26 @@ def refused(call, *words):
     return None
 
 
+def documents():
+    """Each document is a page whose links lead somewhere, or a text that says what makes it one."""
+    text = dict(served_documents(ROOT, None))["/docs/LANGUAGE.html"]
+    STEPS.equal("a document as text", text, ("text/plain; charset=utf-8", TEXT_ALONE.encode() + (ROOT / "docs/LANGUAGE.md").read_bytes()))
+    if converter() is None:
+        print("page-test: not run: the documents as pages, as there is no cmark-gfm")
+        return
+    files = page_files(ROOT)
+    STEPS.equal("a document as a page", files["/docs/LANGUAGE.html"][0], "text/html; charset=utf-8")
+    for name in (f"/{name}.html" for name in NAMES):
+        page = files[name][1].decode()
+        for link in re.findall(r'(?:href|src)="([^"]*)"', page):
+            path, _, anchor = link.partition("#")
+            path = posixpath.normpath(posixpath.join(posixpath.dirname(name), path)) if path else name
+            there = path in files and (path == "/" or not anchor or f' id="{anchor}"' in files[path][1].decode())
+            STEPS.check(f"the link {link[:60]} of {name}", there)
+    anchors = re.findall(r'<h2 id="([^"]*)"', files["/docs/LEAST.html"][1].decode())
+    STEPS.equal("anchors", anchors[:2], ["what-is-known", "the-proofs"])
+
+
 def server_parts():
     body = b'{"command": "trace", "options": {"ids": "8", "ring": "-h"}, "text": "\\u00e9"}'
     STEPS.equal("words and text", orders.words_and_text(body), (["trace", "--ids=8", "--ring=-h"], "\u00e9".encode()))
@@ -49,8 +71,7 @@ def server_parts():
         STEPS.equal(f"no words: {broken}", refused(orders.words_and_text, broken), 400)
     files = page_files(ROOT)
     STEPS.equal("the first page", files["/"], ("text/html; charset=utf-8", (ROOT / "page/index.html").read_bytes()))
-    STEPS.equal("a page of docs", files["/docs/LANGUAGE.md"][0], "text/plain; charset=utf-8")
-    STEPS.check("no file but these", not {"/package.json", "/index.html", "/docs/pictures"} & set(files))
+    STEPS.check("no file but these", not {"/package.json", "/index.html", "/docs/pictures", "/docs/PROOFS.html"} & set(files))
     present = runs.Runs(STUB)
     here = lambda: False
     STEPS.equal("a run", present.run(["check"], b"echo", here), (0, b"stub\n['check']\n", b""))

@@ -5,6 +5,7 @@ import re
 import shutil
 import subprocess
 
+from page_server.documents import converter
 from steps import CV1, LDB, ROOT, STEPS, nbhd
 
 START = {"view": "run", "ids": "8", "ring": "5,1,3,7", "example": "cv1.txt"}
@@ -26,14 +27,38 @@ def help_panel(page):
         trace = nbhd(text, "trace", "--ids", "8", "--ring", "0,1")
         STEPS.equal(f"{example} is so", f"\n{trace}".split("\nstart r0 ")[1].split("\n")[0], f"{value} {value}")
     links = page.value("[...document.querySelectorAll('#help a')].map(a => a.href)")
+    kind = "text/html; charset=utf-8" if converter() else "text/plain; charset=utf-8"
     for link in links:
         answer = page.value(f"fetch({json.dumps(link)}).then(r => [r.status, r.headers.get('content-type')])")
-        STEPS.equal(f"the link {link}", answer, [200, "text/plain; charset=utf-8"])
+        STEPS.equal(f"the link {link}", answer, [200, kind])
     STEPS.check("there are links", len(links) >= 5, links)
     page.fill("#text", LDB)
     STEPS.equal("it stays while one types", page.value(CLOSED), False)
     page.browser.key("Escape")
     STEPS.equal("Escape closes it", page.value(CLOSED), True)
+
+
+def documents(page):
+    """The documents fit screens and phones, have the colours of the page, and open exercises on it."""
+    if converter() is None:
+        return
+    for width, height in ((1280, 900), (390, 844), (320, 568)):
+        page.browser.size(width, height)
+        for name in ("README", "docs/TUTORIAL", "docs/LANGUAGE", "docs/LEAST"):
+            page.browser.call("Page.navigate", url=f"{page.url}{name}.html")
+            page.wait(f"{name} at {width}", "document.readyState === 'complete' && document.querySelector('main h1')")
+            STEPS.check(f"{name} at {width}: nothing is too wide", page.value("document.documentElement.scrollWidth <= innerWidth"))
+            STEPS.check(f"{name} at {width}: letters", page.value("parseFloat(getComputedStyle(document.querySelector('main p')).fontSize) >= 15"))
+            STEPS.check(f"{name}: pictures", page.value("[...document.images].every(image => image.complete && image.naturalWidth > 0)"))
+    page.browser.size(1280, 900)
+    page.browser.call("Page.navigate", url=f"{page.url}docs/EXERCISES.html")
+    page.wait("the exercises", "document.querySelectorAll('main li').length === 10")
+    light = page.value("getComputedStyle(document.body).backgroundColor")
+    page.click("#theme")
+    STEPS.check("a dark document", page.value("getComputedStyle(document.body).backgroundColor") != light)
+    page.click("#theme")
+    page.click("main li:nth-child(6) a")
+    page.wait("an exercise opens on the page", "document.querySelector('.check.good')")
 
 
 def colours(page):
@@ -350,4 +375,4 @@ def why_keys(page):
     STEPS.equal("and returns to the node", page.value("document.activeElement.dataset.place"), "1")
 
 
-SURFACES = [help_panel, colours, touch, readers, screens, numbers, examples_by_name, localhost, graph_by_distance, paper, binary, why]
+SURFACES = [help_panel, documents, colours, touch, readers, screens, numbers, examples_by_name, localhost, graph_by_distance, paper, binary, why]
