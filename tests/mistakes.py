@@ -131,7 +131,12 @@ WORDS = [
     ("finish r0", "end r0", "line 10, column 1: unknown word `end`; expected `finish`"),
     ("finish r0", "done", "line 10, column 1: unknown word `done`; expected `finish`"),
     ("finish r0", "colour r0", "line 10, column 1: unknown word `colour`; expected `finish`"),
-    ("send right r0", "receive right", "line 8, column 1: unknown word `receive`; expected `send`"),
+    (
+        "send right r0",
+        "receive right",
+        "line 8, column 1: unknown word `receive`; expected `send`"
+        "; nothing is received by a word: `L` and `R` are what the neighbours sent in this round",
+    ),
     (
         "r0 = id",
         "set r0 = id",
@@ -277,6 +282,93 @@ INFIX = [
     ),
 ]
 
+# What comes with a copied text, words of other languages, and lines that stand twice: parts of `CV1`, their replacements, and the
+# notes.
+COPIED = [
+    ("rounds 1\n", "rounds%201%0A", "line 1, column 7: unknown word `%`; expected a number; this is a part of a link"),
+    ("rounds 1\n", "rounds 1%0A", "line 1, column 9: unknown word `%`; expected `channels`; this is a part of a link"),
+    ("rounds 1", "rounds&nbsp;1", "line 1, column 7: unknown word `&`; expected a number; this is a character in HTML"),
+    ("r0 = id", "r0 = id&#10;", "line 5, column 8: unknown word `&`; expected `round`; this is a character in HTML"),
+    ("r0 = id", "r0 = id<br>", "line 5, column 8: unknown word `<`; expected `round`; this is a mark of HTML: leave it out"),
+    ("finish r0", "finish r0</pre>", "line 10, column 10: unknown word `<`; expected the end of the text; this is a mark of HTML"),
+    (
+        "rounds 1",
+        '"rounds 1',
+        "line 1, column 1: unknown word `\"`; expected `rounds`; leave out the quotation marks around the program",
+    ),
+    (
+        "finish r0",
+        "finish r0'",
+        "line 10, column 10: unknown word `'`; expected the end of the text; nothing follows the expression of `finish`",
+    ),
+    (
+        "rounds 1\n",
+        "rounds 1\\n",
+        "line 1, column 9: unknown word `\\`; expected `channels`"
+        "; this stands for a line feed only in other texts: begin a new line",
+    ),
+    ("rounds 1", "| rounds 1", "line 1, column 1: unknown word `|`; expected `rounds`; leave out the marks around the program"),
+    (
+        "finish r0",
+        "finish \u201cr0\u201d",
+        "line 10, column 8: a byte over 127; a program text is ASCII, in its comments too"
+        "; this is a typographic quotation mark: leave it out, as there are no texts in programs",
+    ),
+    (
+        "r0 = id",
+        "r0 = id # 2 \u00d7 2",
+        "line 5, column 13: a byte over 127; a program text is ASCII, in its comments too; write letters and marks of ASCII",
+    ),
+    (
+        "r0 = id",
+        "r0 = \u0456d",
+        "line 5, column 6: a byte over 127; a program text is ASCII, in its comments too"
+        "; this is a letter of another alphabet, which may look like a plain one",
+    ),
+    (
+        "ldb(r0, L), 1",
+        "Ldb(r0, L), 1",
+        "line 9, column 14: unknown word `Ldb`; expected an expression; `ldb` is written with small letters",
+    ),
+    ("finish r0", "finish ID", "line 10, column 8: unknown word `ID`; expected an expression; `id` is written with small letters"),
+    (
+        "finish r0",
+        "finish abs(r0)",
+        "line 10, column 8: unknown word `abs`; expected an expression; |a - b| is `sub(max(a, b), min(a, b))`",
+    ),
+    (
+        "finish r0",
+        "finish foo(r0)",
+        "line 10, column 8: unknown word `foo`; expected an expression; there is no operation of this name: they are `not`, ",
+    ),
+    ("finish r0", "finish min(left, 5)", "line 10, column 12: unexpected `left`; expected an expression; the message from the left is `L`"),
+    ("finish r0", "finish min(5, right)", "line 10, column 15: unexpected `right`; expected an expression; the message from the right is `R`"),
+    (
+        "r0 = id",
+        "if(id, r0, 0)",
+        "line 5, column 1: unexpected `if`; expected the assignment of r0"
+        "; an expression is assigned to a register, as in `r0 = if(c, a, b)`",
+    ),
+    (
+        "r0 = id",
+        "r0 = id\nr1 = 0",
+        "line 6, column 1: unexpected `r1`; expected `round`; `registers` says how many registers there are, from r0 on",
+    ),
+    ("r0 = id", "r0 = id\nr0 = id", "line 6, column 1: unexpected `r0`; expected `round`; the same line stands right before it"),
+    ("send left 0", "send left 0\nsend left 0", "line 8, column 6: unexpected `left`; expected `right`; the same line stands right"),
+    ("rounds 1\n", "rounds1\n", "line 1, column 1: unknown word `rounds1`; expected `rounds`; a blank is missing in it"),
+    ("send left", "sendleft", "line 7, column 1: unknown word `sendleft`; expected `send`; a blank is missing in it"),
+    ("r0, L), 1", "r0 L), 1", "line 9, column 21: unexpected `L`; expected `,`; a comma is missing before it"),
+    ("shl(ldb(r0, L), 1)", "shl(ldb(r0, L) 1)", "line 9, column 25: unexpected `1`; expected `,`; a comma is missing before it"),
+    ("finish r0", "finish add(1 000, 2)", "line 10, column 14: unexpected `000`; expected `,`\n"),
+    (
+        "finish r0",
+        "output = r0",
+        "line 10, column 1: unknown word `output`; expected `finish`; registers are `r0` to `r7`, and have no other names",
+    ),
+    ("finish r0", "finish add(r0 # )", "line 11, column 1: unexpected end of the text; expected `,`; `add` takes 2 operands"),
+]
+
 # Texts that are no programs, and the notes.
 FILES = [
     (b"(* a program *)\nrounds 1\n", "line 1, column 1: unexpected `(`; expected `rounds`; a comment begins with `#`"),
@@ -310,7 +402,7 @@ FILES = [
     ),
     (
         b"\x7fELF\x02\x01\x01\x00",
-        "line 1, column 1: unknown word `\\x7f`; expected `rounds`; this byte does not belong in a text",
+        "line 1, column 1: unknown word `\\x7f`; expected `rounds`; this is a program for the machine, not a text",
     ),
     (
         b"# only a comment\n",
@@ -333,9 +425,14 @@ FILES = [
     ),
     (
         b"rounds 1\xef\xbc\x8cchannels 6\n",
-        "line 1, column 9: a byte over 127; a program text is ASCII, in its comments too; write letters and marks of ASCII",
+        "line 1, column 9: a byte over 127; a program text is ASCII, in its comments too"
+        "; this is a character of full width: write the plain one",
     ),
-    (b"p cnf 360 1200\n1 2 3 0\n", "line 1, column 1: unknown word `p`; expected `rounds`; this is a formula for a solver"),
+    (
+        b"p cnf 360 1200\n1 2 3 0\n",
+        "line 1, column 1: unknown word `p`; expected `rounds`"
+        "; this is a formula for a solver, as in `cadical --no-binary FORMULA PROOF`",
+    ),
 ]
 
 # The advice on a second line that has its words, and whose numbers are each in their range.
@@ -390,6 +487,8 @@ def starts():
     """Words, inputs and the first lines of the notes."""
     for old, new, note in BRACKETS + HEADER + WORDS + INFIX:
         yield "check --ids 8", CV1.replace(old.encode(), new.encode(), 1), f"nbhd: {note}\n"
+    for old, new, note in COPIED:
+        yield "check --ids 8", CV1.replace(old.encode(), new.encode(), 1), f"nbhd: {note}"
     for text, note in FILES:
         yield "check --ids 8", text, f"nbhd: {note}\n"
     for text, line, advice in TABLES:

@@ -83,7 +83,7 @@ WORDS_OF_OTHER_LANGUAGES = [
     (
         "rounds",
         "Rounds",
-        "nbhd: line 1, column 1: unknown word `Rounds`; expected `rounds`; the words of a program have small letters",
+        "nbhd: line 1, column 1: unknown word `Rounds`; expected `rounds`; `rounds` is written with small letters",
     ),
     ("L)", "l)", "nbhd: line 9, column 22: unknown word `l`; expected an expression; the message from the left is `L`"),
     (
@@ -94,7 +94,7 @@ WORDS_OF_OTHER_LANGUAGES = [
     (
         "finish r0",
         "finish R0",
-        "nbhd: line 10, column 8: unknown word `R0`; expected an expression; registers are `r0` to `r7`",
+        "nbhd: line 10, column 8: unknown word `R0`; expected an expression; `r0` is written with a small letter",
     ),
     (
         "finish r0",
@@ -179,7 +179,7 @@ OTHER_FILES = [
     ),
     (
         b"text fault N3 at 0\n",
-        "nbhd: line 1, column 1: unknown word `text`; expected `rounds`; this is output of `nbhd`, not a program",
+        "nbhd: line 1, column 1: unknown word `text`; expected `rounds`; this is output of `nbhd`, not a text that it reads",
     ),
     (b"rounds 1\r\n\tchanels 6", "nbhd: line 2, column 2: unknown word `chanels`"),
     (
@@ -223,10 +223,10 @@ RINGS = [
 # Texts that are no tables, the lines at fault, and the advice.
 TABLE_TEXTS = [
     (b"rounds 1\n", "1", "; this looks like a program: `nbhd judge` takes one"),
-    (b"check fault C4 bound 7\n", "1", "; this is what `nbhd` printed in place of a table"),
-    (b"yes: 1680 tuples\n", "1", "; this is what `nbhd` printed in place of a table"),
+    (b"check fault C4 bound 7\n", "1", "; this is output of `nbhd`, not a text that it reads"),
+    (b"yes: 1680 tuples\n", "1", "; this is output of `nbhd`, not a text that it reads"),
     (b"", "1", "; the text is empty, so no file was given"),
-    (b"\xef\xbb\xbfnbhd-table 1\n", "1", "; the text begins with a byte order mark"),
+    (b"\xef\xbb\xbfnbhd-table 1\n", "1", "; this is a byte order mark: save the file without one"),
     (b"nbhd-table 1\r\n", "1", "; lines end with a carriage return"),
     (b"nbhd-table\t1\n", "1", "; its first line is `nbhd-table` and the version"),
     (b"nbhd-table 1\nrounds 2 ids 4 channels 6\n", "2", "; the numbers of this line do not fit one another"),

@@ -1,12 +1,14 @@
-"""Slips that a program can have: a token left out, or written twice. Of each it is known what can follow before the fault, and what
-was done, so that it can be said whether the note's advice misleads: advice is right if it names the slip, or if it holds of every
-text with this fault.
+"""Slips that a program can have: a token left out, written twice, exchanged with the next one, written with other capitals, or without
+the blank after it; a line left out, written twice, or exchanged with the next one. Of each it is known what can follow before the
+fault, and what was done. Advice is right if its condition (tests/advice.py) holds of the text, and, where a token was left out, written twice
+or changed, if it names the slip or holds of every text with this fault.
 """
 
 import re
 from functools import partial
 from pathlib import Path
 
+from advice import holds
 from grammar import OPERANDS, TOKENS, expected_after
 
 ROOT = Path(__file__).resolve().parent.parent
@@ -22,6 +24,11 @@ BRACKETS = "brackets are only written after the name of an operation"
 ASSIGNED = "an assignment is written `r0 = ..`"
 ONLY_ASSIGNED = "`=` is only written after the register of an assignment"
 SAME = "the same word stands right before it"
+SAME_LINE = "the same line stands right before it"
+SMALL = r"`\w+` is written with (?:small letters|a small letter)"
+MESSAGE = r"the message from the (?:left is `L`|right is `R`, and registers are `r0` to `r7`)"
+JOINED = "a blank is missing in it"
+WORD = re.compile("[A-Za-z0-9]+")
 
 # The advice that does not mislead where this token was left out.
 LEFT_OUT = {
@@ -72,27 +79,67 @@ def programs():
                 yield text
 
 
+def tokens_of(text):
+    """The tokens of a text, each with its place."""
+    return [(found[1], *found.span()) for found in TOKENS.finditer(text) if found[1]]
+
+
+def capitals(token):
+    """A token with capitals where it has none, and without them where it has."""
+    return {token.lower(), token.upper(), token.capitalize()} - {token}
+
+
+def slips_of_tokens(text):
+    """Texts with one slip at a token, and the advice that is right, None for any whose condition holds."""
+    tokens = tokens_of(text)
+    for token, start, end in tokens:
+        kind = kind_of(token)
+        yield text[:start] + " " + text[end:], LEFT_OUT[kind]
+        yield text[:end] + " " + text[start:], TWICE.get(kind, [SAME])
+        for other in capitals(token):
+            yield text[:start] + other + text[end:], [MESSAGE if token in "LR" else SMALL]
+    for (token, start, end), (other, begin, stop) in zip(tokens, tokens[1:]):
+        if token != other:
+            yield f"{text[:start]} {other} {text[end:begin]} {token} {text[stop:]}", None
+        if WORD.fullmatch(token) and WORD.fullmatch(other) and text[end:begin].isspace():
+            yield text[:end] + text[begin:], [JOINED]
+
+
+def slips_of_lines(text):
+    """Texts with one slip at a line that has tokens."""
+    lines = text.splitlines(keepends=True)
+    for number, line in enumerate(lines):
+        if not tokens_of(line):
+            continue
+        before, after = "".join(lines[:number]), "".join(lines[number + 1 :])
+        yield before + after, None
+        yield before + 2 * line + after, None
+        following = lines[number + 1] if number + 1 < len(lines) else line
+        if following != line and tokens_of(following):
+            yield before + following + line + "".join(lines[number + 2 :]), None
+
+
 def slips():
     """Texts with one slip each, and the advice that is right."""
     for text in programs():
-        for found in TOKENS.finditer(text):
-            token, (start, end) = found[1], found.span()
-            if token:
-                kind = kind_of(token)
-                yield text[:start] + " " + text[end:], LEFT_OUT[kind]
-                yield text[:end] + " " + text[start:], TWICE.get(kind, [SAME])
+        yield from slips_of_tokens(text)
+        yield from slips_of_lines(text)
 
 
 def is_right(text, right, answer):
-    """Whether a note says what can follow before the fault, and has no other advice than that."""
-    _, out, note = answer
+    """Whether a note says what can follow before the fault, and has no other advice than that. A text without a fault is right where
+    tokens or lines were exchanged."""
+    status, out, note = answer
+    if right is None and (status, note) == (0, ""):
+        return True
     place = PLACE.fullmatch(out)
     said = FAULT.match(note) if place else None
     if not said:
         return False
-    told = note[said.end() :].split("\n")[0]
-    is_expected = said[1] == expected_after(text[: int(place[1])])
-    return is_expected and (told == "" or any(re.fullmatch("; " + it, told) for it in right))
+    told, at = note[said.end() :].split("\n")[0].removeprefix("; "), int(place[1])
+    wanted = expected_after(text[:at])
+    is_named = right is None or any(re.fullmatch(it, told) for it in right)
+    return said[1] == wanted and (told == "" or is_named and holds(text, at, wanted, told))
 
 
 def rows():

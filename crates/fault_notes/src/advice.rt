@@ -1,8 +1,8 @@
 //! Advice on words that are not of the language: replacements for those of other languages, and other
 //! common mistakes.
 
-use crate::around::{after_word, is_joined};
-use crate::operands::{bracket_advice, is_operation_in_capitals};
+use crate::around::{Place, is_joined};
+use crate::operands::{bracket_advice, operands_advice};
 use crate::signs::mark_advice;
 use crate::words::{advice_in, is_word_byte};
 use node_lang::{Expected, Token};
@@ -18,126 +18,245 @@ pub(crate) const BRACKETED: &str =
 
 pub(crate) const OPEN: &str = "; a bracket is open";
 
-const SMALL: &str = "; the words of a program have small letters";
-
 const ENDED: &str = "; the expression of `finish` ends the program";
 
-// Words that are not of the language, those with the same advice together.
-const WORDS: [(&[u8], &str); 24] = [
-    // Names that other languages have for operations, and other words.
+const NO_NAMES: &str = "; registers are `r0` to `r7`, and have no other names";
+
+const IF: &str = "; write `if(c, a, b)`";
+
+const RECEIVED: &str =
+    "; nothing is received by a word: `L` and `R` are what the neighbours sent in this round";
+
+// Words of other languages for operations, and those between operands, each with what stands for
+// it.
+const OPERATIONS: [(&[u8], &str); 38] = [
     (
-        b"mul times mult",
+        b"mul times mult multiply product",
         "; there is no product: twice x is `shl(x, 1)`",
     ),
     (
-        b"mod rem",
+        b"mod rem modulo",
         "; there is no remainder: that of 2 is `and(x, 1)`",
     ),
-    (b"div", "; there is no quotient: half of x is `shr(x, 1)`"),
-    (b"gt", "; write `lt(b, a)` for a > b"),
-    (b"ge", "; write `le(b, a)` for a >= b"),
-    (b"neq", UNEQUAL),
-    (b"equals", "; write `eq(a, b)`"),
+    (
+        b"div divide quotient",
+        "; there is no quotient: half of x is `shr(x, 1)`",
+    ),
+    (
+        b"pow power exp",
+        "; there is no power: that of 2 is `shl(1, k)`",
+    ),
+    (b"gt greater", "; write `lt(b, a)` for a > b"),
+    (b"ge geq gte", "; write `le(b, a)` for a >= b"),
+    (b"less", "; write `lt(a, b)` for a < b"),
+    (b"leq lte", "; write `le(a, b)` for a <= b"),
+    (b"neq unequal", UNEQUAL),
+    (b"equals equal", "; write `eq(a, b)`"),
     (b"plus sum", "; write `add(a, b)`"),
     (
-        b"minus",
+        b"minus diff subtract",
         "; write `sub(a, b)`, which stops at 0; numbers are 0 to 4294967295",
     ),
-    // Keywords and names of other languages.
-    (b"then else elif endif", "; write `if(c, a, b)`"),
+    (b"inc incr succ", "; write `add(a, 1)`"),
+    (b"dec decr pred", "; write `sub(a, 1)`, which stops at 0"),
     (
-        b"return output result",
-        "; the last line is `finish` and an expression",
+        b"neg negate",
+        "; numbers have no sign; `not(a)` is 4294967295 - a",
+    ),
+    (b"abs", "; |a - b| is `sub(max(a, b), min(a, b))`"),
+    (b"maximum", "; write `max(a, b)`"),
+    (b"minimum", "; write `min(a, b)`"),
+    (b"then else elif elsif elseif endif fi", IF),
+    (b"ite iff cond case switch select choose mux when", IF),
+    (b"lsh lshift sll", "; write `shl(a, k)`"),
+    (b"rsh rshift srl", "; write `shr(a, k)`"),
+    (b"nand", "; write `not(and(a, b))`"),
+    (b"nor", "; write `not(or(a, b))`"),
+    (b"implies", "; for 0 and 1, write `le(a, b)`"),
+    (b"bitand band", "; write `and(a, b)`"),
+    (b"bitor bor", "; write `or(a, b)`"),
+    (b"bitxor bxor", "; write `xor(a, b)`"),
+    (b"bitnot bnot inv invert", "; write `not(a)`"),
+    (b"getbit testbit nth", "; bit i of a is `bit(a, i)`"),
+    (
+        b"lsb ctz ffs",
+        "; the least index of a bit that is 1 in x is `ldb(x, 0)`",
     ),
     (
-        b"both all",
-        "; write `send left` and `send right`, each with an expression",
+        b"len popcount log log2 msb clz",
+        "; write it by `shr(x, 1)` and `and(x, 1)`, a round or a register at a time",
     ),
-    (b"true True", "; write 1"),
-    (b"false False", "; write 0"),
+    (
+        b"while for do repeat until",
+        "; there are no loops: `rounds` says how often nodes exchange messages",
+    ),
+    (b"def fn func function", "; there are no functions"),
+    (
+        b"print echo printf",
+        "; nothing is printed: the channel is the expression of `finish`",
+    ),
+    (b"rand random", "; nothing is random"),
+    (b"receive received receives recv", RECEIVED),
+    (b"REM dnl", "; a comment begins with `#`"),
+];
+
+// Words where an expression is expected.
+const EXPRESSIONS: [(&[u8], &str); 5] = [
+    (b"true True TRUE", "; write 1"),
+    (b"false False FALSE", "; write 0"),
     (b"l", "; the message from the left is `L`"),
     (
         b"r",
         "; the message from the right is `R`, and registers are `r0` to `r7`",
     ),
     (
-        b"self me my uid ident identifier",
+        b"self me my uid ident identifier ids myid node",
         "; the identifier is `id`",
-    ),
-    (b"let var set int uint const mut", ASSIGNED),
-    (b"REM dnl", "; a comment begins with `#`"),
-    // Words that `nbhd` prints.
-    (
-        b"nbhd",
-        "; the text of a table is for `nbhd audit` and `nbhd migrate`",
-    ),
-    (
-        b"accepted yes no text check ring table",
-        "; this is output of `nbhd`, not a program",
-    ),
-    // Words with a capital.
-    (b"ID Id", "; write `id`"),
-    (
-        b"Rounds ROUNDS Channels CHANNELS Registers REGISTERS Start START",
-        SMALL,
-    ),
-    (
-        b"Round ROUND Send SEND Left LEFT Right RIGHT Finish FINISH",
-        SMALL,
     ),
 ];
 
-// Returns advice on a word or a mark that is not of the language, with which `rest` begins, at a
-// place where `wanted` can follow.
-pub(crate) fn word_advice(word: &[u8], rest: &[u8], wanted: Option<Expected>) -> &'static str {
-    match word {
-        [byte] if !is_word_byte(*byte) => mark_advice(rest, wanted),
-        _ => match wanted {
-            Some(wanted) => letters_advice(word, rest, wanted),
-            None => advice_in(&WORDS, word).unwrap_or(""),
-        },
+// Words where a line can begin.
+const LINES: [(&[u8], &str); 2] = [
+    (
+        b"return output result yield",
+        "; the last line is `finish` and an expression",
+    ),
+    (b"let var set int uint const mut local", ASSIGNED),
+];
+
+// The words of the language that have small letters.
+const SMALL: [(&[u8], &str); 35] = [
+    (b"rounds", "; `rounds` is written with small letters"),
+    (b"channels", "; `channels` is written with small letters"),
+    (b"registers", "; `registers` is written with small letters"),
+    (b"start", "; `start` is written with small letters"),
+    (b"round", "; `round` is written with small letters"),
+    (b"send", "; `send` is written with small letters"),
+    (b"left", "; `left` is written with small letters"),
+    (b"right", "; `right` is written with small letters"),
+    (b"finish", "; `finish` is written with small letters"),
+    (b"id", "; `id` is written with small letters"),
+    (b"not", "; `not` is written with small letters"),
+    (b"and", "; `and` is written with small letters"),
+    (b"or", "; `or` is written with small letters"),
+    (b"xor", "; `xor` is written with small letters"),
+    (b"shl", "; `shl` is written with small letters"),
+    (b"shr", "; `shr` is written with small letters"),
+    (b"add", "; `add` is written with small letters"),
+    (b"sub", "; `sub` is written with small letters"),
+    (b"min", "; `min` is written with small letters"),
+    (b"max", "; `max` is written with small letters"),
+    (b"ldb", "; `ldb` is written with small letters"),
+    (b"bit", "; `bit` is written with small letters"),
+    (b"eq", "; `eq` is written with small letters"),
+    (b"ne", "; `ne` is written with small letters"),
+    (b"lt", "; `lt` is written with small letters"),
+    (b"le", "; `le` is written with small letters"),
+    (b"if", "; `if` is written with small letters"),
+    (b"r0", "; `r0` is written with a small letter"),
+    (b"r1", "; `r1` is written with a small letter"),
+    (b"r2", "; `r2` is written with a small letter"),
+    (b"r3", "; `r3` is written with a small letter"),
+    (b"r4", "; `r4` is written with a small letter"),
+    (b"r5", "; `r5` is written with a small letter"),
+    (b"r6", "; `r6` is written with a small letter"),
+    (b"r7", "; `r7` is written with a small letter"),
+];
+
+// Returns advice on a word or a mark that is not of the language; where what can follow is not known
+// there is none.
+pub(crate) fn word_advice(place: Place) -> &'static str {
+    match place.word {
+        [byte] if !is_word_byte(*byte) => mark_advice(place),
+        _ => letters_advice(place),
     }
 }
 
 // Returns advice on letters and digits that are no word of the language.
-fn letters_advice(word: &[u8], rest: &[u8], wanted: Expected) -> &'static str {
-    if is_joined(word) {
+fn letters_advice(place: Place) -> &'static str {
+    if is_joined(place) {
         return "; a blank is missing in it";
     }
-    match wanted {
+    if let Some(advice) = capital_advice(place.word) {
+        return advice;
+    }
+    match place.wanted {
         Expected::Number
+        | Expected::This(Token::Rounds)
         | Expected::This(Token::Channels)
         | Expected::This(Token::Registers)
         | Expected::This(Token::Start)
         | Expected::This(Token::Equals)
-        | Expected::This(Token::Open) => missing_word(wanted),
-        Expected::This(Token::Left) | Expected::This(Token::Right)
-            if !matches!(word, b"both" | b"all") => missing_word(wanted),
-        Expected::This(Token::Rounds) if rest.starts_with(b"p cnf") =>
-            "; this is a formula for a solver",
-        _ => advice_in(&WORDS, word).unwrap_or(unknown_advice(word, rest, wanted)),
+        | Expected::This(Token::Open) => header_advice(place),
+        Expected::This(Token::Left) | Expected::This(Token::Right) => side_advice(place.word),
+        Expected::Expression => expression_advice(place),
+        _ => line_advice(place),
     }
 }
 
-// Returns advice on letters and digits of which nothing is known.
-fn unknown_advice(word: &[u8], rest: &[u8], wanted: Expected) -> &'static str {
-    let is_name = matches!(after_word(word, rest), [b'(', ..]);
-    match wanted {
-        Expected::Expression if is_name => name_advice(word),
-        Expected::Expression => bracket_advice(word).unwrap_or(spelling_advice(word)),
-        Expected::This(Token::Register(_)) => spelling_advice(word),
+// Returns advice on a word of the language that is written with a capital.
+fn capital_advice(word: &[u8]) -> Option<&'static str> {
+    for (name, advice) in &SMALL {
+        if name.eq_ignore_ascii_case(word) {
+            return Some(advice);
+        }
+    }
+    None
+}
+
+// Returns advice on an unknown word in the header, or where a mark can follow.
+fn header_advice(place: Place) -> &'static str {
+    match (place.wanted, place.word) {
+        (Expected::This(Token::Rounds), b"REM" | b"dnl") => "; a comment begins with `#`",
+        (Expected::Number, [b'0', b'x' | b'X' | b'b' | b'B' | b'o', ..]) => "; numbers are decimal",
+        _ => missing_word(place.wanted),
+    }
+}
+
+// Returns advice on an unknown word in place of `left` or `right`.
+fn side_advice(word: &[u8]) -> &'static str {
+    if matches!(word, b"both" | b"all") {
+        return "; write `send left` and `send right`, each with an expression";
+    }
+    ""
+}
+
+// Returns advice on an unknown word where an expression can follow.
+fn expression_advice(place: Place) -> &'static str {
+    let known = advice_in(&EXPRESSIONS, place.word).or(advice_in(&OPERATIONS, place.word));
+    match (known, place.next) {
+        (Some(advice), _) => advice,
+        (None, b"(") => {
+            "; there is no operation of this name: they are `not`, `and`, `or`, `xor`, `shl`, `shr`, `add`, `sub`, `min`, `max`, `ldb`, `bit`, `eq`, `ne`, `lt`, `le` and `if`"
+        }
+        _ => bracket_advice(place.word).unwrap_or(spelling_advice(place.word)),
+    }
+}
+
+// Returns advice on an unknown word where a line can begin, or a comma or a bracket can follow.
+fn line_advice(place: Place) -> &'static str {
+    if matches!(place.next, b"=") && !matches!(place.second, b"=") {
+        return match place.wanted {
+            Expected::This(Token::Comma) | Expected::This(Token::Close) => OPEN,
+            _ => spelling_advice(place.word),
+        };
+    }
+    let operation = advice_in(&OPERATIONS, place.word);
+    let known = operation.or(match place.wanted {
+        Expected::This(Token::Comma) | Expected::This(Token::Close) => None,
+        _ => advice_in(&LINES, place.word),
+    });
+    known.unwrap_or(between_advice(place))
+}
+
+// Returns advice on a word of which nothing is known, after an expression or where a line begins.
+fn between_advice(place: Place) -> &'static str {
+    match place.wanted {
+        Expected::This(Token::Register(_)) => spelling_advice(place.word),
         Expected::This(Token::Comma) => "; operands are separated by commas",
         Expected::This(Token::Close) => OPEN,
-        _ => missing_word(wanted),
+        _ => missing_word(place.wanted),
     }
-}
-
-// Returns advice on a word before a bracket that is not the name of an operation.
-fn name_advice(word: &[u8]) -> &'static str {
-    if is_operation_in_capitals(word) {
-        return "; the names of operations have small letters";
-    }
-    "; there is no operation of this name"
 }
 
 // Returns advice on what can follow.
@@ -157,7 +276,15 @@ fn spelling_advice(word: &[u8]) -> &'static str {
         [b'0', b'x' | b'X' | b'b' | b'B' | b'o', ..] => "; numbers are decimal",
         [b'0'..=b'9', ..] => "; a number has only digits",
         [b'r' | b'R', b'0'..=b'9', ..] => "; registers are `r0` to `r7`",
-        _ => "; registers are `r0` to `r7`, and have no other names",
+        _ => NO_NAMES,
+    }
+}
+
+// Returns whether the only lines of a text end with a comment, after which the program goes on.
+fn is_hidden(text: &[u8]) -> bool {
+    match text {
+        [line @ .., b'\n'] => line.contains(&b'#') && !line.contains(&b'\n'),
+        _ => text.contains(&b'#') && !text.contains(&b'\n'),
     }
 }
 
@@ -166,11 +293,14 @@ pub(crate) fn end_advice(text: &[u8], wanted: Option<Expected>) -> &'static str 
     if text.is_empty() {
         return "; the text is empty, so no file was given";
     }
-    if text.contains(&b'#') && text.contains(&b'\r') && !text.contains(&b'\n') {
+    if text.contains(&b'\r') && is_hidden(text) {
         return "; a comment goes up to a line feed, and this text has none";
     }
     match wanted {
         Some(Expected::This(Token::Rounds)) => "; the text has only blanks and comments",
+        Some(_) if is_hidden(text) => "; a comment goes up to the end of its line",
+        Some(Expected::This(Token::Comma)) => operands_advice(text),
+        Some(Expected::This(Token::Close)) => OPEN,
         _ => "",
     }
 }

@@ -1,12 +1,146 @@
-//! The words beside a place of a text.
+//! The tokens beside a place of a text. Comments and blanks between them do not count.
 
 ghost use Rattle.std.specs.Prelude.{◌≤◌, length};
 
-use crate::words::{first_word, is_word_byte};
-use node_lang::{Token, token_from};
+use crate::words::is_word_byte;
+use node_lang::{Expected, Token, token_from};
+use source_places::first_line_len;
 
 // The length of the longest words that are tried in two parts.
 const LONGEST_JOINED: usize = 32;
+
+// A place of a text: the text before it and from it on, the token there, the one before it and the
+// two after it, which are empty where there is none, and what can follow the text before it.
+#[derive(Clone, Copy)]
+pub(crate) struct Place<'a> {
+    pub(crate) before: &'a [u8],
+    pub(crate) rest: &'a [u8],
+    pub(crate) last: &'a [u8],
+    pub(crate) word: &'a [u8],
+    pub(crate) next: &'a [u8],
+    pub(crate) second: &'a [u8],
+    pub(crate) wanted: Expected,
+}
+
+// Returns the place between two parts of a text, at which `wanted` can follow.
+pub(crate) fn place_in<'a>(before: &'a [u8], rest: &'a [u8], wanted: Expected) -> Place<'a> {
+    let (word, end) = token_after(rest, 0);
+    let (next, end) = token_after(rest, end);
+    let (second, _) = token_after(rest, end);
+    Place {
+        before,
+        rest,
+        last: last_word(before),
+        word,
+        next,
+        second,
+        wanted,
+    }
+}
+
+// Returns the first token from this offset on and the offset after it, an empty text if there is
+// none.
+fn token_after(text: &[u8], at: usize) -> (&[u8], usize)
+    requires { at ≤ length text.now }
+    ensures { result.1 ≤ length text.now }
+{
+    match token_from(text, at) {
+        Some(placed) => (&text[placed.start..placed.end], placed.end),
+        None => (&text[..0], text.len()),
+    }
+}
+
+// Returns the last token of a text, an empty text if there is none.
+fn last_word(text: &[u8]) -> &[u8] {
+    let mut last = &text[..0];
+    let mut at = 0;
+    'tokens: while let Some(placed) = token_from(text, at) {
+        last = &text[placed.start..placed.end];
+        at = placed.end;
+    }
+    last
+}
+
+// Returns the number of registers that the header of a program says.
+pub(crate) fn registers_in(text: &[u8]) -> Option<u32> {
+    let mut is_told = false;
+    let mut at = 0;
+    'tokens: while let Some(placed) = token_from(text, at) {
+        if let Token::Number(registers) = placed.token {
+            if is_told {
+                return Some(registers);
+            }
+        }
+        is_told = placed.token == Token::Registers;
+        at = placed.end;
+    }
+    None
+}
+
+// Returns the number of brackets of a text that are open at its end.
+fn depth_of(text: &[u8]) -> usize {
+    let mut depth = 0usize;
+    let mut at = 0;
+    'tokens: while let Some(placed) = token_from(text, at) {
+        match placed.token {
+            Token::Open => depth = depth.saturating_add(1),
+            Token::Close => depth = depth.saturating_sub(1),
+            _ => {}
+        }
+        at = placed.end;
+    }
+    depth
+}
+
+// Returns the token before the last bracket of a text that is open at its end, an empty text if
+// none is open.
+pub(crate) fn open_operation(text: &[u8]) -> &[u8] {
+    let depth = depth_of(text);
+    let mut operation = &text[..0];
+    let mut last = operation;
+    let mut open = 0usize;
+    let mut at = 0;
+    'tokens: while let Some(placed) = token_from(text, at) {
+        match placed.token {
+            Token::Open => {
+                open = open.saturating_add(1);
+                if open == depth {
+                    operation = last;
+                }
+            }
+            Token::Close => open = open.saturating_sub(1),
+            _ => {}
+        }
+        last = &text[placed.start..placed.end];
+        at = placed.end;
+    }
+    operation
+}
+
+// Returns whether a comma stands in the bracket with which a text begins, outside of those within.
+pub(crate) fn has_comma(text: &[u8]) -> bool {
+    let mut depth = 0usize;
+    let mut at = 0;
+    'tokens: while let Some(placed) = token_from(text, at) {
+        match placed.token {
+            Token::Open => depth = depth.saturating_add(1),
+            Token::Close => depth = depth.saturating_sub(1),
+            Token::Comma if depth == 1 => return true,
+            _ => {}
+        }
+        if depth == 0 {
+            return false;
+        }
+        at = placed.end;
+    }
+    false
+}
+
+// Returns whether the bracket after the word of a place has a comma in it.
+pub(crate) fn has_operands(place: Place) -> bool {
+    let (_, end) = token_after(place.rest, 0);
+    has_comma(&place.rest[end..])
+}
 
 // Returns the number of bytes after the last line feed.
 fn last_line_len(text: &[u8]) -> usize
@@ -15,56 +149,26 @@ fn last_line_len(text: &[u8]) -> usize
     text.iter().rev().take_while(|byte| **byte != b'\n').count()
 }
 
-// Returns the number of blanks at the end of a line.
-fn last_blanks_len(line: &[u8]) -> usize
-    ensures { result ≤ length line.now }
-{
-    line.iter()
-        .rev()
-        .take_while(|byte| matches!(**byte, b' ' | b'\t' | b'\r'))
-        .count()
+// Returns the last line of a text.
+fn last_line(text: &[u8]) -> &[u8] {
+    &text[text.len() - last_line_len(text)..]
 }
 
-// Returns the number of letters and digits at the end of a line.
-fn last_word_len(line: &[u8]) -> usize
-    ensures { result ≤ length line.now }
-{
-    line.iter()
-        .rev()
-        .take_while(|byte| is_word_byte(**byte))
-        .count()
+// Returns whether a text ends in a comment.
+pub(crate) fn ends_in_comment(text: &[u8]) -> bool {
+    last_line(text).contains(&b'#')
 }
 
-// Returns the number of blanks and line feeds at the start of a text.
-fn blanks_len(text: &[u8]) -> usize
-    ensures { result ≤ length text.now }
-{
-    text.iter()
-        .take_while(|byte| matches!(**byte, b' ' | b'\t' | b'\r' | b'\n'))
-        .count()
-}
-
-// Returns the last word or mark of a text, or an empty text if its last line has none or has a
-// comment.
-pub(crate) fn last_word(text: &[u8]) -> &[u8] {
-    let line = &text[text.len() - last_line_len(text)..];
-    if line.contains(&b'#') {
-        return &line[..0];
-    }
-    let front = &line[..line.len() - last_blanks_len(line)];
-    let len = last_word_len(front).max(1).min(front.len());
-    &front[front.len() - len..]
-}
-
-// Returns the rest of a text that begins with this word.
-pub(crate) fn after_word<'a>(word: &[u8], text: &'a [u8]) -> &'a [u8] {
-    text.strip_prefix(word).unwrap_or(&text[..0])
-}
-
-// Returns the word or mark after the word with which a text begins.
-pub(crate) fn next_word<'a>(word: &[u8], text: &'a [u8]) -> &'a [u8] {
-    let rest = after_word(word, text);
-    first_word(&rest[blanks_len(rest)..])
+// Returns whether the line between two parts of a text has a word and is the line before it once
+// more.
+pub(crate) fn is_repeated(before: &[u8], rest: &[u8]) -> bool {
+    let start = last_line(before);
+    let [lines @ .., b'\n'] = &before[..before.len() - last_line_len(before)] else {
+        return false;
+    };
+    let previous = last_line(lines);
+    let has_word = previous.iter().any(|byte| is_word_byte(*byte));
+    has_word && previous.strip_prefix(start) == Some(&rest[..first_line_len(rest)])
 }
 
 // Returns whether these bytes are one word or mark of the language.
@@ -94,35 +198,33 @@ fn is_keyword(word: &[u8]) -> bool {
     )
 }
 
-// Returns whether a word is two words of the language without a blank between, one of them a
-// keyword. A round or a start with a number is none: lines have no numbers.
-pub(crate) fn is_joined(word: &[u8]) -> bool {
-    if word.len() > LONGEST_JOINED {
-        return false;
-    }
-    for split in 1..word.len() {
-        let (front, back) = word.split_at(split);
-        let is_numbered = matches!(front, b"round" | b"start") && matches!(back, [b'0'..=b'9', ..]);
-        let has_keyword = is_keyword(front) || is_keyword(back);
-        if has_keyword && !is_numbered && is_token(front) && is_token(back) {
-            return true;
-        }
-    }
-    false
+// Returns whether a word of the language is an expression.
+pub(crate) fn is_operand(word: &[u8]) -> bool {
+    matches!(
+        word,
+        b"id" | b"L" | b"R" | [b'r', b'0'..=b'9', ..] | [b'0'..=b'9', ..]
+    )
 }
 
-// Returns whether a comma stands in the bracket with which a text begins, outside of those within.
-pub(crate) fn has_comma(text: &[u8]) -> bool {
-    let mut depth = 0usize;
-    for byte in text {
-        match *byte {
-            b'(' => depth = depth.saturating_add(1),
-            b')' => depth = depth.saturating_sub(1),
-            b',' if depth == 1 => return true,
-            _ => {}
-        }
-        if depth == 0 {
-            return false;
+// Returns whether two words of the language without a blank between are an expression, and the
+// register of an assignment if `=` follows them; or a keyword and another word. A round or a start
+// with a number is none: lines have no numbers.
+fn are_joined(front: &[u8], back: &[u8], next: &[u8]) -> bool {
+    let is_numbered = matches!(front, b"round" | b"start") && matches!(back, [b'0'..=b'9', ..]);
+    let is_assigned = next == b"=".as_slice() && is_operand(front) && matches!(back, [b'r', _]);
+    let has_keyword = is_keyword(front) || is_keyword(back);
+    (has_keyword || is_assigned) && !is_numbered && is_token(front) && is_token(back)
+}
+
+// Returns whether the word of a place is two words of the language without a blank between.
+pub(crate) fn is_joined(place: Place) -> bool {
+    if place.word.len() > LONGEST_JOINED {
+        return false;
+    }
+    for split in 1..place.word.len() {
+        let (front, back) = place.word.split_at(split);
+        if are_joined(front, back, place.next) {
+            return true;
         }
     }
     false

@@ -1,13 +1,18 @@
 //! Advice on words and marks of the language at a place where they cannot follow. Each piece of
-//! advice has a condition under which it is true; where none holds, there is no advice.
+//! advice has a condition under which it is true of the text; where none holds, there is no advice.
+//! That is tried on slips of programs, and nothing proves it.
 
 use crate::advice::{BRACKETED, OPEN, missing_word};
-use crate::around::{has_comma, last_word, next_word};
+use crate::around::{
+    Place, has_comma, has_operands, is_operand, is_repeated, open_operation, registers_in,
+};
 use crate::operands::{is_operation, operands_advice};
 use crate::signs::comment_advice;
 use node_lang::{Expected, Token};
 
 const DOUBLED: &str = "; the same word stands right before it";
+
+const REPEATED: &str = "; the same line stands right before it";
 
 const COMMA: &str = "; a comma is missing before it";
 
@@ -15,41 +20,58 @@ const INFIX: &str = "; an operation is written before its operands, as in `add(a
 
 const ROUNDS: &str = "; there are as many rounds as `rounds` says";
 
-// Returns advice on a word or a mark of the language, with which `rest` begins, that cannot follow
-// the text before it, after which `wanted` can follow.
-pub(crate) fn place_advice(
-    before: &[u8],
-    word: &[u8],
-    rest: &[u8],
-    wanted: Expected,
-) -> &'static str {
-    match word {
-        b"=" => equals_advice(rest, wanted),
-        b"(" => open_advice(before, rest, wanted),
-        b")" => close_advice(before, wanted),
-        b"," => comma_advice(before),
-        _ if wanted != Expected::This(Token::Equals) && last_word(before) == word => DOUBLED,
-        _ if is_operation(word) => operation_advice(before, word, rest, wanted),
-        _ => known_advice(before, word, rest, wanted),
+const REGISTERS: &str = "; `registers` says how many registers there are, from r0 on";
+
+// Returns advice on the word or the mark of the language at a place.
+pub(crate) fn place_advice(place: Place) -> &'static str {
+    if is_repeated(place.before, place.rest) {
+        return REPEATED;
+    }
+    match place.word {
+        b"=" => equals_advice(place),
+        b"(" => open_advice(place),
+        b")" => close_advice(place),
+        b"," => comma_advice(place.before),
+        _ if is_doubled(place) => DOUBLED,
+        word if is_operation(word) => operation_advice(place),
+        _ => known_advice(place),
     }
 }
 
-// Returns advice on a `=` at a place where `wanted` can follow.
-fn equals_advice(rest: &[u8], wanted: Expected) -> &'static str {
-    match wanted {
+// Returns whether the word of a place stands twice: what is expected follows it. Else a word may have
+// been left out before it.
+fn is_doubled(place: Place) -> bool {
+    let is_followed = match place.wanted {
+        Expected::This(Token::Equals) => false,
+        Expected::This(Token::Channels) => matches!(place.next, b"channels"),
+        Expected::This(Token::Registers) => matches!(place.next, b"registers"),
+        Expected::This(Token::Start) => matches!(place.next, b"start"),
+        Expected::This(Token::Round) => matches!(place.next, b"round"),
+        Expected::This(Token::Send) => matches!(place.next, b"send"),
+        Expected::This(Token::Finish) => matches!(place.next, b"finish"),
+        Expected::This(Token::Register(_)) => matches!(place.next, [b'r', _]),
+        Expected::This(Token::Comma) => matches!(place.next, b","),
+        _ => true,
+    };
+    place.last == place.word && is_followed
+}
+
+// Returns advice on a `=`. After an operand it is meant to compare.
+fn equals_advice(place: Place) -> &'static str {
+    match place.wanted {
         Expected::This(Token::Comma) | Expected::This(Token::Close) =>
             "; write `eq(a, b)` to compare",
-        _ if rest.starts_with(b"==") => "; write `eq(a, b)` to compare",
+        _ if place.rest.starts_with(b"==") && is_end(place.last) => "; write `eq(a, b)` to compare",
         _ => "; `=` is only written after the register of an assignment",
     }
 }
 
-// Returns advice on a `(` after a text, at a place where `wanted` can follow. Operands in brackets
-// that follow no other bracket lack the name of their operation.
-fn open_advice(before: &[u8], rest: &[u8], wanted: Expected) -> &'static str {
-    match wanted {
-        Expected::This(Token::Rounds) => comment_advice(rest),
-        Expected::Expression if has_comma(rest) && !matches!(last_word(before), b"(") => {
+// Returns advice on a `(`. Operands in brackets that follow no other bracket lack the name of their
+// operation.
+fn open_advice(place: Place) -> &'static str {
+    match place.wanted {
+        Expected::This(Token::Rounds) => comment_advice(place.rest),
+        Expected::Expression if has_comma(place.rest) && !matches!(place.last, b"(") => {
             "; the name of an operation is missing before it"
         }
         Expected::Expression => "; brackets are only written after the name of an operation",
@@ -60,79 +82,130 @@ fn open_advice(before: &[u8], rest: &[u8], wanted: Expected) -> &'static str {
     }
 }
 
-// Returns advice on a `)` after a text, at a place where `wanted` can follow.
-fn close_advice(before: &[u8], wanted: Expected) -> &'static str {
-    let advice = operands_advice(before);
-    match wanted {
+// Returns advice on a `)`.
+fn close_advice(place: Place) -> &'static str {
+    match place.wanted {
         Expected::This(Token::Open) => BRACKETED,
-        _ if advice.is_empty() => "; this bracket closes nothing",
-        _ => advice,
+        _ if open_operation(place.before).is_empty() => "; this bracket closes nothing",
+        _ => operands_advice(place.before),
     }
 }
 
 // Returns advice on a `,` after a text.
 fn comma_advice(before: &[u8]) -> &'static str {
-    let advice = operands_advice(before);
-    if advice.is_empty() {
+    if open_operation(before).is_empty() {
         return "; commas only separate operands";
     }
-    advice
+    operands_advice(before)
 }
 
-// Returns advice on the name of an operation, with which `rest` begins, after a text, at a place
-// where `wanted` can follow. With a bracket it begins an expression, and without one, after an
-// expression, it stands between its operands.
-fn operation_advice(before: &[u8], word: &[u8], rest: &[u8], wanted: Expected) -> &'static str {
-    let has_bracket = matches!(next_word(word, rest), b"(");
-    match wanted {
+// Returns whether an expression can end with this token.
+fn is_end(word: &[u8]) -> bool {
+    is_operand(word) || matches!(word, b")")
+}
+
+// Returns whether the operation of a place stands between its operands: an expression ends before
+// it, and another one, not in brackets with a comma, follows it.
+fn is_infix(place: Place) -> bool {
+    let is_bracket = matches!(place.next, b"(");
+    let has_operand = is_operand(place.next) || is_operation(place.next) || is_bracket;
+    is_end(place.last)
+        && has_operand
+        && !has_operands(place)
+        && !matches!(place.word, b"not" | b"if")
+}
+
+// Returns advice on the name of an operation. With a bracket it begins an expression, and after an
+// expression it may stand between its operands.
+fn operation_advice(place: Place) -> &'static str {
+    let has_bracket = matches!(place.next, b"(");
+    match place.wanted {
+        Expected::This(Token::Open) | Expected::This(Token::Equals) => missing_word(place.wanted),
+        Expected::This(Token::Channels)
+        | Expected::This(Token::Registers)
+        | Expected::This(Token::Start) => wanted_advice(place.wanted),
+        _ if is_infix(place) => INFIX,
         Expected::This(Token::Comma) if has_bracket => COMMA,
         Expected::This(Token::Register(_)) if has_bracket =>
             "; an expression is assigned to a register, as in `r0 = if(c, a, b)`",
-        Expected::This(Token::Comma)
-        | Expected::This(Token::Close)
-        | Expected::This(Token::Round)
-        | Expected::This(Token::Send)
-        | Expected::This(Token::Right)
-        | Expected::This(Token::Register(_))
-        | Expected::This(Token::Finish)
-        | Expected::End
-            if !has_bracket => INFIX,
-        _ => known_advice(before, word, rest, wanted),
+        Expected::This(Token::Comma) => "",
+        _ => known_advice(place),
     }
 }
 
-// Returns whether a word of the language is an expression.
-fn is_operand(word: &[u8]) -> bool {
-    matches!(
-        word,
-        b"id" | b"L" | b"R" | [b'r', b'0'..=b'9', ..] | [b'0'..=b'9', ..]
-    )
+// Returns whether a register is one that the header does not have.
+fn is_no_register(place: Place) -> bool {
+    match (place.word, registers_in(place.before)) {
+        ([b'r', digit], Some(registers)) => u32::from(*digit)
+            >= u32::from(b'0').saturating_add(registers),
+        _ => false,
+    }
 }
 
-// Returns advice on another word, with which `rest` begins, that cannot follow the text before it.
-fn known_advice(before: &[u8], word: &[u8], rest: &[u8], wanted: Expected) -> &'static str {
-    match wanted {
-        Expected::This(Token::Comma) if is_operand(word) => COMMA,
-        Expected::This(Token::Comma) => operands_advice(before),
-        Expected::This(Token::Close) => OPEN,
-        Expected::This(Token::Rounds)
-            if matches!(next_word(word, rest), b"rounds" | b":" | b"." | b")" | b"|") => {
-            "; leave out the numbers of the lines"
+// Returns advice on an operand where a comma can follow. A number after a number may be one that is
+// written with a blank, and the register of an assignment shows that a bracket is open.
+fn operand_advice(place: Place) -> &'static str {
+    let are_numbers = matches!(
+        (place.last, place.word),
+        ([b'0'..=b'9', ..], [b'0'..=b'9', ..])
+    );
+    match place.next {
+        b"=" => operands_advice(place.before),
+        b")" => COMMA,
+        _ if are_numbers => "",
+        _ => COMMA,
+    }
+}
+
+// Returns whether the first lines of a program have numbers.
+fn has_numbers(place: Place) -> bool {
+    let is_number = matches!(place.word, [b'0'..=b'9', ..]);
+    let is_marked = matches!(place.next, b":" | b"." | b")" | b"|")
+        && matches!(place.second, b"rounds");
+    let is_bare = matches!(place.next, b"rounds") && matches!(place.second, [b'0'..=b'9', ..]);
+    is_number && (is_marked || is_bare)
+}
+
+// Returns advice on another word.
+fn known_advice(place: Place) -> &'static str {
+    match place.wanted {
+        Expected::This(Token::Comma) if is_operand(place.word) => operand_advice(place),
+        Expected::This(Token::Comma) => operands_advice(place.before),
+        Expected::This(Token::Close) if is_operand(place.word) && !matches!(place.next, b"=") => {
+            operands_advice(place.before)
         }
-        Expected::This(Token::Round) => round_advice(word),
-        Expected::This(Token::Finish) if matches!(word, b"round") => ROUNDS,
-        Expected::Expression if matches!(word, b"left") => "; the message from the left is `L`",
-        Expected::Expression if matches!(word, b"right") => "; the message from the right is `R`",
-        _ => wanted_advice(wanted),
+        Expected::This(Token::Close) => OPEN,
+        Expected::This(Token::Rounds) if has_numbers(place) =>
+            "; leave out the numbers of the lines",
+        Expected::This(Token::Round) => round_advice(place),
+        Expected::This(Token::Finish) if matches!(place.word, b"round") => ROUNDS,
+        Expected::This(Token::Finish) | Expected::This(Token::Register(_))
+            if is_no_register(place) => REGISTERS,
+        Expected::Expression if matches!(place.last, b"(" | b"," | b"=") => {
+            in_expression_advice(place)
+        }
+        _ => wanted_advice(place.wanted),
+    }
+}
+
+// Returns advice on a word inside an expression.
+fn in_expression_advice(place: Place) -> &'static str {
+    match (place.word, place.next) {
+        (b"left", b")" | b"," | b"send" | b"finish") => "; the message from the left is `L`",
+        (b"right", b")" | b"," | b"send" | b"finish") => "; the message from the right is `R`",
+        _ => wanted_advice(place.wanted),
     }
 }
 
 // Returns advice on a word where a round can follow.
-fn round_advice(word: &[u8]) -> &'static str {
-    match word {
+fn round_advice(place: Place) -> &'static str {
+    match place.word {
         b"finish" => ROUNDS,
         b"send" => "; a round begins with the word `round`",
-        [b'r', b'0'..=b'9', ..] => "; each register is assigned once, then comes `round`",
+        _ if is_no_register(place) => REGISTERS,
+        [b'r', b'0'..=b'9', ..] if matches!(place.next, b"=") => {
+            "; each register is assigned once, then comes `round`"
+        }
         _ => "",
     }
 }

@@ -1,6 +1,9 @@
 //! Advice on marks and bytes of other languages and of other files.
 
-use crate::words::advice_at_start;
+ghost use Rattle.std.specs.Prelude.{◌≤◌, length};
+
+use crate::around::{Place, ends_in_comment};
+use crate::words::{advice_at_start, is_word_byte};
 use node_lang::{Expected, Token};
 
 const COMMENT: &str = "; a comment begins with `#`";
@@ -31,14 +34,42 @@ const NO_NAMES: &str = "; registers are `r0` to `r7`, and have no other names";
 
 const NO_MARK: &str = "; lines end without a mark";
 
-const UTF_16: &str = "; the file is UTF-16: save it as ASCII";
+const QUOTED: &str = "; leave out the quotation marks around the program";
+
+const LINK: &str =
+    "; this is a part of a link, in which `%0A` stands for a line feed and `%20` for a blank";
+
+const ENTITY: &str =
+    "; this is a character in HTML, as `&gt;` or `&nbsp;`: write the character itself";
+
+const TAG: &str = "; this is a mark of HTML: leave it out";
+
+const NO_FEED: &str = "; this stands for a line feed only in other texts: begin a new line";
 
 const QUOTATION: &str = "; this is a typographic quotation mark: write a plain one";
 
+const NO_QUOTATION: &str =
+    "; this is a typographic quotation mark: leave it out, as there are no texts in programs";
+
+const WRITE_ASCII: &str = "; write letters and marks of ASCII";
+
 const DASH: &str = "; this is a dash or a minus sign that is not ASCII";
 
+const BLANK: &str = "; this is a blank that is not ASCII: write a plain one";
+
+const NO_WIDTH: &str = "; this is a mark of no width: take it out";
+
+const FULL_WIDTH: &str = "; this is a character of full width: write the plain one";
+
+const OTHER_ALPHABET: &str =
+    "; this is a letter of another alphabet, which may look like a plain one";
+
 // Marks at the start of a text.
-const FIRST: [(&[u8], &str); 16] = [
+const FIRST: [(&[u8], &str); 20] = [
+    (b"- ", MARKDOWN),
+    (b"| ", MARKDOWN),
+    (b"|", MARKDOWN),
+    (b"**", MARKDOWN),
     (b"---", PATCH),
     (b"+", PATCH),
     (b"@@", PATCH),
@@ -151,52 +182,192 @@ const MARKS: [(&[u8], &str); 39] = [
     (b"}", "; a program has no such brackets"),
 ];
 
-// Bytes above 127 at the start of a text, each with advice.
-const BYTES: [(&[u8], &str); 19] = [
+// Bytes above 127 at the start of a text, each with advice that holds in comments too.
+const BYTES: [(&[u8], &str); 38] = [
     (
         &[0xef, 0xbb, 0xbf],
         "; this is a byte order mark: save the file without one",
     ),
-    (&[0xff, 0xfe], UTF_16),
-    (&[0xfe, 0xff], UTF_16),
     (
         &[0xc2, 0xa0],
         "; this is a blank that does not break: write a plain one",
     ),
+    (&[0xc2, 0xad], NO_WIDTH),
     (
         &[0xe2, 0x80, 0x8b],
         "; this is a blank of no width: take it out",
     ),
+    (&[0xe2, 0x80, 0x8c], NO_WIDTH),
+    (&[0xe2, 0x80, 0x8d], NO_WIDTH),
+    (&[0xe2, 0x80, 0x8e], NO_WIDTH),
+    (&[0xe2, 0x80, 0x8f], NO_WIDTH),
+    (&[0xe2, 0x81, 0xa0], NO_WIDTH),
+    (
+        &[0xe2, 0x80, 0xa8],
+        "; this parts lines elsewhere: write a line feed",
+    ),
+    (
+        &[0xe2, 0x80, 0xa9],
+        "; this parts lines elsewhere: write a line feed",
+    ),
+    (&[0xe2, 0x80, 0xaf], BLANK),
+    (&[0xe2, 0x81, 0x9f], BLANK),
+    (&[0xe3, 0x80, 0x80], BLANK),
     (&[0xe2, 0x80, 0x90], DASH),
     (&[0xe2, 0x80, 0x91], DASH),
     (&[0xe2, 0x80, 0x92], DASH),
     (&[0xe2, 0x80, 0x93], DASH),
     (&[0xe2, 0x80, 0x94], DASH),
+    (&[0xe2, 0x80, 0x95], DASH),
     (&[0xe2, 0x88, 0x92], DASH),
+    (
+        &[0xe2, 0x80, 0xa6],
+        "; these are three dots in one character: write them one by one",
+    ),
+    (&[0xef, 0xbc], FULL_WIDTH),
+    (&[0xef, 0xbd], FULL_WIDTH),
+    (&[0xd0], OTHER_ALPHABET),
+    (&[0xd1], OTHER_ALPHABET),
+    (&[0xce], OTHER_ALPHABET),
+    (&[0xcf], OTHER_ALPHABET),
+    (&[0xc3, 0x97], WRITE_ASCII),
+    (&[0xc3, 0xb7], WRITE_ASCII),
+    (&[0xc3, 0x9f], WRITE_ASCII),
+    (&[0xc3, 0x86], WRITE_ASCII),
+    (&[0xc3, 0xa6], WRITE_ASCII),
+    (&[0xc3, 0x98], WRITE_ASCII),
+    (&[0xc3, 0xb8], WRITE_ASCII),
+    (&[0xc3, 0x90], WRITE_ASCII),
+    (&[0xc3, 0xb0], WRITE_ASCII),
+    (&[0xc3, 0xbe], WRITE_ASCII),
+];
+
+// Bytes above 127 at the start of a text outside of comments.
+const SIGNS: [(&[u8], &str); 18] = [
+    (&[0xe2, 0x80, 0x98], NO_QUOTATION),
+    (&[0xe2, 0x80, 0x99], NO_QUOTATION),
+    (&[0xe2, 0x80, 0x9c], NO_QUOTATION),
+    (&[0xe2, 0x80, 0x9d], NO_QUOTATION),
+    (&[0xe2, 0x80, 0x9e], NO_QUOTATION),
+    (&[0xc2, 0xab], NO_QUOTATION),
+    (&[0xc2, 0xbb], NO_QUOTATION),
+    (&[0xc3, 0x97], PRODUCT),
+    (
+        &[0xc3, 0xb7],
+        "; there is no quotient: half of x is `shr(x, 1)`",
+    ),
+    (&[0xe2, 0x89, 0xa0], "; write `ne(a, b)`"),
+    (&[0xe2, 0x89, 0xa4], "; write `le(a, b)`"),
+    (&[0xe2, 0x89, 0xa5], "; write `le(b, a)`"),
+    (&[0xc2, 0xac], "; write `not(a)`"),
+    (&[0xe2, 0x88, 0xa7], "; write `and(a, b)`"),
+    (&[0xe2, 0x88, 0xa8], "; write `or(a, b)`"),
+    (&[0xe2, 0x8a, 0x95], "; write `xor(a, b)`"),
+    (&[0xe2, 0x86, 0x90], ASSIGNED),
+    (&[0xe2, 0x88, 0x88], "; write ASCII"),
+];
+
+// Quotation marks at the start of a text in a comment.
+const QUOTATIONS: [(&[u8], &str); 5] = [
     (&[0xe2, 0x80, 0x98], QUOTATION),
     (&[0xe2, 0x80, 0x99], QUOTATION),
     (&[0xe2, 0x80, 0x9c], QUOTATION),
     (&[0xe2, 0x80, 0x9d], QUOTATION),
-    (&[0xc3, 0x97], PRODUCT),
-    (&[0xe2, 0x89, 0xa0], "; write `ne(a, b)`"),
-    (&[0xe2, 0x89, 0xa4], "; write `le(a, b)`"),
-    (&[0xe2, 0x89, 0xa5], "; write `le(b, a)`"),
+    (&[0xe2, 0x80, 0x9e], QUOTATION),
 ];
 
-// Returns advice on the mark with which a text begins that is not of the language, at a place where
-// `wanted` can follow.
-pub(crate) fn mark_advice(rest: &[u8], wanted: Option<Expected>) -> &'static str {
-    match (rest, placed_advice(rest, wanted)) {
+// The beginnings of marks of HTML that stand in the middle of a text.
+const TAGS: [&[u8]; 12] = [
+    b"<br", b"<p>", b"</p", b"<div", b"</div", b"<span", b"</span", b"<pre", b"</pre", b"<code",
+    b"</code", b"</",
+];
+
+// Parts of a link that stand for a line feed, a carriage return and `=`, which each program has.
+const LINKED: [&[u8]; 5] = [b"%0A", b"%0a", b"%0D", b"%3D", b"%3d"];
+
+// Returns whether a part of a text is one of these.
+fn has_one(text: &[u8], parts: &[&[u8]]) -> bool {
+    for start in 0..text.len() {
+        if parts.iter().any(|part| text[start..].starts_with(part)) {
+            return true;
+        }
+    }
+    false
+}
+
+// Returns whether a text begins with a part of a link: `%` and two hexadecimal digits, in a text with
+// one that no program has.
+fn is_linked(place: Place) -> bool {
+    let is_part = matches!(
+        place.rest,
+        [b'%', b'0'..=b'7', b'0'..=b'9' | b'A'..=b'F' | b'a'..=b'f', ..]
+    );
+    is_part && (place.wanted == Expected::Number || has_one(place.rest, &LINKED))
+}
+
+// Returns the number of letters, digits and `#` at the start.
+fn entity_len(text: &[u8]) -> usize
+    ensures { result ≤ length text.now }
+{
+    text.iter()
+        .take_while(|byte| is_word_byte(**byte) || **byte == b'#')
+        .count()
+}
+
+// Returns whether a text begins with a character in HTML, as `&gt;`.
+fn is_entity(text: &[u8]) -> bool {
+    match text {
+        [b'&', rest @ ..] => {
+            let len = entity_len(rest);
+            len > 1 && rest[len..].starts_with(b";")
+        }
+        _ => false,
+    }
+}
+
+// Returns whether a text is a program in quotation marks.
+fn is_quoted(text: &[u8]) -> bool {
+    match text {
+        [b'"' | b'\'' | b'`', rest @ ..] => rest.starts_with(b"rounds") || rest.starts_with(b"#"),
+        _ => false,
+    }
+}
+
+// Returns the advice on a mark that is of a link, of HTML, or a quotation mark around the program.
+fn copied_advice(place: Place) -> Option<&'static str> {
+    if is_linked(place) {
+        return Some(LINK);
+    }
+    if is_entity(place.rest) {
+        return Some(ENTITY);
+    }
+    if TAGS.iter().any(|tag| place.rest.starts_with(tag)) {
+        return Some(TAG);
+    }
+    match (place.wanted, place.rest) {
+        (Expected::This(Token::Rounds), text) if is_quoted(text) => Some(QUOTED),
+        (Expected::End, [b'"' | b'\'' | b'`', ..]) => Some(
+            "; nothing follows the expression of `finish`",
+        ),
+        (_, [b'\\', b'n' | b'r' | b't', ..]) => Some(NO_FEED),
+        _ => None,
+    }
+}
+
+// Returns advice on the mark of a place that is not of the language.
+pub(crate) fn mark_advice(place: Place) -> &'static str {
+    let placed = copied_advice(place).or(placed_advice(place.rest, place.wanted));
+    match (place.rest, placed) {
         ([0..=31 | 127, ..], _) => "; this byte does not belong in a text",
         ([b'.', b'0'..=b'9', ..], _) => WHOLE,
         (_, Some(advice)) => advice,
-        _ => advice_at_start(&MARKS, rest).unwrap_or(""),
+        _ => advice_at_start(&MARKS, place.rest).unwrap_or(""),
     }
 }
 
 // Returns the advice on a mark that it has at this place alone.
-fn placed_advice(rest: &[u8], wanted: Option<Expected>) -> Option<&'static str> {
-    match wanted? {
+fn placed_advice(rest: &[u8], wanted: Expected) -> Option<&'static str> {
+    match wanted {
         Expected::This(Token::Rounds) => advice_at_start(&FIRST, rest),
         Expected::Number => advice_at_start(&BEFORE_NUMBERS, rest),
         Expected::Expression => advice_at_start(&BEFORE_EXPRESSIONS, rest),
@@ -218,11 +389,16 @@ pub(crate) fn comment_advice(rest: &[u8]) -> &'static str {
     }
 }
 
-// Returns advice on a byte above 127 at the start of a text.
-pub(crate) fn byte_advice(text: &[u8]) -> &'static str {
-    match advice_at_start(&BYTES, text) {
+// Returns advice on the byte above 127 with which `rest` begins, after the text `before`.
+pub(crate) fn byte_advice(before: &[u8], rest: &[u8]) -> &'static str {
+    let signs = if ends_in_comment(before) {
+        advice_at_start(&QUOTATIONS, rest)
+    } else {
+        advice_at_start(&SIGNS, rest)
+    };
+    match signs.or(advice_at_start(&BYTES, rest)) {
         Some(advice) => advice,
-        None => letter_advice(text),
+        None => letter_advice(rest),
     }
 }
 
@@ -230,7 +406,8 @@ pub(crate) fn byte_advice(text: &[u8]) -> &'static str {
 fn letter_advice(text: &[u8]) -> &'static str {
     match text {
         [0xc3, 0x80..=0xbf, ..] => "; this is a letter with an accent: write a plain one",
-        [0xc2..=0xf4, 0x80..=0xbf, ..] => "; write letters and marks of ASCII",
+        [0xe2, 0x80, 0x80..=0x8a, ..] => BLANK,
+        [0xc2..=0xf4, 0x80..=0xbf, ..] => WRITE_ASCII,
         _ => "; the file may be Latin-1: save it as ASCII",
     }
 }

@@ -10,12 +10,13 @@ ghost use Rattle.source_places.specs.Shown.{marked_line};
 ghost use Rattle.fault_notes.specs.TextNotes.{quoted, cause_of, IsTextNote, too_long_note};
 
 use crate::advice::{end_advice, word_advice};
+use crate::around::place_in;
 use crate::misplaced::place_advice;
 use crate::signs::byte_advice;
 use crate::words::{first_word, write_wanted_part};
 use node_lang::{Expected, FaultKind, TextFault, expected_in};
 use node_program::OutOfMemory;
-use source_places::{write_marked_line, write_place_head, write_shown};
+use source_places::{TextKind, kind_advice, write_marked_line, write_place_head, write_shown};
 use std::alloc::{AllocError, Global};
 use std::fmt::Write;
 
@@ -51,7 +52,7 @@ fn write_note(
     let word = word_at(text, fault.offset);
     write_place_head(out, text, fault.offset)?;
     write_cause(out, fault.kind, word, wanted)?;
-    out.push_str(advice_on(text, fault, word, wanted))?;
+    out.push_str(advice_on(text, fault, wanted))?;
     out.push_str("\n")?;
     write_marked_line(out, text, fault.offset)
 }
@@ -131,14 +132,17 @@ fn write_word(
 }
 
 // Returns advice, or an empty text.
-fn advice_on(text: &[u8], fault: TextFault, word: &[u8], wanted: Option<Expected>) -> &'static str
+fn advice_on(text: &[u8], fault: TextFault, wanted: Option<Expected>) -> &'static str
     requires { fault.offset ≤ length text.now }
 {
+    if let Some(advice) = kind_advice(text, TextKind::Program) {
+        return advice;
+    }
     let (before, rest) = text.split_at(fault.offset);
     match (fault.kind, wanted) {
-        (FaultKind::NotAscii, _) => byte_advice(rest),
-        (FaultKind::BadWord, wanted) => word_advice(word, rest, wanted),
-        (FaultKind::Unexpected, Some(wanted)) => place_advice(before, word, rest, wanted),
+        (FaultKind::NotAscii, _) => byte_advice(before, rest),
+        (FaultKind::BadWord, Some(wanted)) => word_advice(place_in(before, rest, wanted)),
+        (FaultKind::Unexpected, Some(wanted)) => place_advice(place_in(before, rest, wanted)),
         (FaultKind::EndOfText, wanted) => end_advice(text, wanted),
         _ => "",
     }

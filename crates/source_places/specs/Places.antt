@@ -1,6 +1,6 @@
 -- The place of a byte in a text: its line and its column, and the line around it.
-use Rattle.std.specs.Prelude.{ℕ, ◌+◌, ◌==◌, Bool, not, List, length, take, drop, count_by}
-use Rattle.std.specs.List.{before_first, after_last}
+use Rattle.std.specs.Prelude.{ℕ, zero, suc, ◌+◌, ◌==◌, Bool, not, List, length, take, drop, count_by}
+use Rattle.std.specs.List.{before_first, after_first, after_last}
 
 -- a line feed
 abbrev pub is_feed : ℕ → Bool
@@ -25,3 +25,8 @@ column text offset = length (line_before text offset) + 1
 -- the bytes from it on that are on its line: those before the next line feed
 abbrev pub line_from : List ℕ → ℕ → List ℕ
 line_from text offset = before_first is_feed (drop offset text)
+
+-- the text after this number of lines; after the last line it is empty
+abbrev pub after_lines : ℕ → List ℕ → List ℕ
+after_lines zero text = text
+after_lines (suc n) text = after_first is_feed (after_lines n text)

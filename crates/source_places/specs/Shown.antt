@@ -19,6 +19,14 @@ shown_byte b = if (b == 9) || (b == 13) then 32 ∷ []
 abbrev pub shown : List ℕ → List ℕ
 shown bytes = flat_map shown_byte bytes
 
+-- A byte as it is seen: a printable ASCII byte unchanged, and any other, also a tab and a carriage return, as `\x` and
+-- two hexadecimal digits.
+abbrev pub seen_byte : ℕ → List ℕ
+seen_byte b = if nat_le 32 b && nat_lt b 127 then b ∷ [] else escaped b
+
+abbrev pub escaped_bytes : List ℕ → List ℕ
+escaped_bytes bytes = flat_map seen_byte bytes
+
 -- the last `count` bytes of a list, or all if there are fewer
 abbrev pub last_bytes : ℕ → List ℕ → List ℕ
 last_bytes count bytes = drop (length bytes - count) bytes

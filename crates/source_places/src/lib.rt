@@ -1,13 +1,16 @@
 //! What notes are made of: the place of a byte in a text (its line and its column, and its line with
-//! a mark below it), and lists of numbers.
+//! a mark below it), lists of numbers, and advice on a text that is given in place of another one.
 #![tactic(auto)]
 
+mod files;
 mod heads;
+mod kinds;
 mod lists;
 mod places;
 mod shown;
 
 pub use heads::write_place_head;
+pub use kinds::{TextKind, kind_advice, line_kind};
 pub use lists::write_joined;
-pub use places::{column_of, first_line_len, line_of};
-pub use shown::{SHOWN_BYTES, first_of, write_marked_line, write_shown};
+pub use places::{after_line, column_of, first_line_len, from_line, line_of};
+pub use shown::{SHOWN_BYTES, first_of, write_escaped, write_marked_line, write_shown};

@@ -1,8 +1,8 @@
 //! Lines and columns.
 
-ghost use Rattle.std.specs.Prelude.{◌≡◌, ◌≤◌, length};
-ghost use Rattle.std.specs.List.{prefix_len, suffix_len};
-ghost use Rattle.source_places.specs.Places.{in_line, line_number, column, line_before as before, line_from as from};
+ghost use Rattle.std.specs.Prelude.{◌≡◌, ◌≤◌, ◌-◌, length};
+ghost use Rattle.std.specs.List.{after_first, prefix_len, suffix_len};
+ghost use Rattle.source_places.specs.Places.{after_lines, in_line, is_feed, line_number, column, line_before as before, line_from as from};
 
 /// Returns the line of the byte at this offset, counted from 1. The offset can be the text's
 /// length.
@@ -36,6 +36,28 @@ pub fn first_line_len(text: &[u8]) -> usize
     ensures within { result ≤ length text.now }
 {
     text.iter().take_while(|byte| **byte != b'\n').count()
+}
+
+/// Returns the text after the first line, an empty one if there is no other line.
+#[tactic(auto, using(std::proofs::lemmas::List::take_rest, std::proofs::lemmas::List::drop_min))]
+pub fn after_line(text: &[u8]) -> &[u8]
+    ensures { result.now ≡ after_first is_feed text.entry.now }
+{
+    let start = (first_line_len(text) + 1).min(text.len());
+    &text[start..]
+}
+
+/// Returns the text from the line with this number on, an empty one if there are fewer lines. Lines
+/// are counted from 1.
+pub fn from_line(text: &[u8], number: u64) -> &[u8]
+    ensures { result.now ≡ after_lines (number - 1) text.entry.now }
+{
+    let before = number.saturating_sub(1);
+    let mut rest = text;
+    'lines: for _line in 0..before {
+        rest = after_line(rest);
+    }
+    rest
 }
 
 // Returns the bytes before this offset that are on its line.

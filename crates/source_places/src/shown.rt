@@ -1,7 +1,7 @@
 //! A line of a text, with a mark below one of its bytes.
 
 ghost use Rattle.std.specs.Prelude.{◌≡◌, ◌≤◌, ◌++◌, length, take, replicate, OnOk, string_bytes};
-ghost use Rattle.source_places.specs.Shown.{escaped, shown_byte, shown, marked_line, last_bytes};
+ghost use Rattle.source_places.specs.Shown.{escaped, escaped_bytes, shown_byte, shown, seen_byte, marked_line, last_bytes};
 
 use crate::places::{line_before, line_from};
 use std::alloc::AllocError;
@@ -77,6 +77,29 @@ pub fn write_shown(out: &mut String, bytes: &[u8]) -> Result<(), AllocError>
 {
     'bytes: for byte in bytes {
         write_byte(out, *byte)?;
+    }
+    Ok(())
+}
+
+// Writes a byte so that it is seen, a tab or a carriage return too.
+fn write_seen_byte(out: &mut String, byte: u8) -> Result<(), AllocError>
+    ensures { OnOk result (string_bytes out.new ≡ string_bytes out.old ++ seen_byte byte) }
+{
+    if byte >= b' ' && byte < 127 {
+        return out.push(char::from(byte));
+    }
+    write_escape(out, byte)
+}
+
+/// Writes bytes so that each is seen: a printable ASCII byte unchanged, and any other byte, a tab and
+/// a carriage return too, as `\x` and two hexadecimal digits.
+///
+/// Fails if memory was refused; `out` can then have a part of them.
+pub fn write_escaped(out: &mut String, bytes: &[u8]) -> Result<(), AllocError>
+    ensures { OnOk result (string_bytes out.new ≡ string_bytes out.old ++ escaped_bytes bytes.now) }
+{
+    'bytes: for byte in bytes {
+        write_seen_byte(out, *byte)?;
     }
     Ok(())
 }

@@ -1,24 +1,13 @@
 //! The shape that the second line of a table text gives.
 
 ghost use Rattle.std.specs.Prelude.{◌≡◌, ◌≢◌, ℕ, ◌<◌, ◌≤◌, ◌^◌, List, IfSome, IfNone};
-ghost use Rattle.std.specs.List.{after_first};
-ghost use Rattle.source_places.specs.Places.{is_feed};
 ghost use Rattle.win_index.specs.declared.limits.TheConstants.{MAX_ROUNDS};
 ghost use Rattle.win_index.specs.ShapeRange.{IsShape};
 ghost use Rattle.table_notes.specs.TableSizes.{sizes_then, HasShape};
 
 use decimal_texts::field;
-use source_places::first_line_len;
+use source_places::after_line;
 use win_index::{MAX_ROUNDS, Shape};
-
-// Returns the text after the first line.
-#[tactic(auto, using(std::proofs::lemmas::List::take_rest, std::proofs::lemmas::List::drop_min))]
-fn after_line(text: &[u8]) -> &[u8]
-    ensures { result.now ≡ after_first is_feed text.entry.now }
-{
-    let start = (first_line_len(text) + 1).min(text.len());
-    &text[start..]
-}
 
 // Returns the numbers of rounds and of identifiers at the start of a line.
 fn two_sizes(line: &[u8]) -> Option<(u32, u32)>

@@ -9,14 +9,12 @@ use crate::headers::header_advice;
 use crate::sizes::shape_of;
 use decimal_texts::field;
 use node_program::OutOfMemory;
-use source_places::{first_line_len, write_joined, write_marked_line, write_place_head};
+use source_places::{
+    TextKind, first_line_len, kind_advice, write_joined, write_marked_line, write_place_head,
+};
 use std::alloc::{AllocError, Global};
 use std::fmt::Write;
 use win_index::Shape;
-
-const PROGRAM: &str = "; this looks like a program: `nbhd judge` takes one";
-
-const PRINTED: &str = "; this is what `nbhd` printed in place of a table";
 
 const STOPPED: &str = "; the text stops in this line: lines are missing";
 
@@ -49,7 +47,7 @@ fn form_advice(text: &[u8], offset: usize) -> &'static str
     if text.is_empty() {
         return "; the text is empty, so no file was given";
     }
-    if text.contains(&b'\r') {
+    if text.contains(&b'\r') && is_table_of_lines(text) {
         return "; lines end with a carriage return, which `tr -d '\\r'` takes out";
     }
     if offset == 0 {
@@ -65,39 +63,41 @@ fn form_advice(text: &[u8], offset: usize) -> &'static str
     line_advice(rest)
 }
 
+// Returns whether a text is not known to be another one than a table.
+fn is_table_of_lines(text: &[u8]) -> bool {
+    kind_advice(text, TextKind::Table).is_none()
+}
+
 // Returns advice on a text that does not begin like a table text.
 fn first_advice(text: &[u8]) -> &'static str {
-    if matches!(text, [b'0'..=b'9', ..]) {
-        return "; its first two lines are missing";
-    }
-    match field(text, b"rounds ", b' ') {
-        Some((_, rest)) if rest.starts_with(b"ids ") => {
-            "; its first line, `nbhd-table 2` or `nbhd-table 1`, is missing"
+    if let Some((_, rest)) = field(text, b"rounds ", b' ') {
+        if rest.starts_with(b"ids ") {
+            return "; its first line, `nbhd-table 2` or `nbhd-table 1`, is missing";
         }
-        _ => other_advice(text),
     }
+    match kind_advice(text, TextKind::Table) {
+        Some(advice) => advice,
+        None => other_advice(text),
+    }
+}
+
+// Returns whether a line is that of a window: numbers, a colon and a number.
+fn is_of_window(line: &[u8]) -> bool {
+    let has_form = line
+        .iter()
+        .all(|byte| matches!(*byte, b'0'..=b'9' | b' ' | b':'));
+    has_form && line.contains(&b':')
 }
 
 // Returns advice on a text that is not the rest of a table text.
 fn other_advice(text: &[u8]) -> &'static str {
-    match text {
-        [0xef, 0xbb, 0xbf, ..] => {
-            "; the text begins with a byte order mark: save the file without one"
-        }
-        [b'#', ..] => PROGRAM,
-        _ if text.starts_with(b"rounds") => PROGRAM,
-        _ if text.starts_with(b"nbhd-table ") => {
-            "; its first line is `nbhd-table 2`, or `nbhd-table 1`"
-        }
-        _ if is_printed(text) => PRINTED,
-        _ => "; its first line is `nbhd-table` and the version",
+    if is_of_window(&text[..first_line_len(text)]) {
+        return "; its first two lines are missing";
     }
-}
-
-// Returns whether a text begins as what `nbhd` prints in place of a table.
-fn is_printed(text: &[u8]) -> bool {
-    let is_fault = text.starts_with(b"text ") || text.starts_with(b"check ");
-    is_fault || text.starts_with(b"yes:") || text.starts_with(b"no:")
+    if text.starts_with(b"nbhd-table ") {
+        return "; its first line is `nbhd-table 2`, or `nbhd-table 1`";
+    }
+    "; its first line is `nbhd-table` and the version"
 }
 
 // Returns advice on the second line of a text, which does not have its form; `rest` is the text

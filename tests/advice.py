@@ -1,0 +1,160 @@
+"""What the advice of a note says of a program text, as a condition on the text: each piece of advice has a row, and where it is given
+its condition has to hold. Rows without a condition are sentences on the language that hold of each text, given where they are apt.
+"""
+
+import re
+
+from grammar import OPERANDS, TOKENS
+
+OPERAND = re.compile(r"id|L|R|r[0-9]|[0-9]+")
+WORD = re.compile(r"[A-Za-z0-9]+")
+
+
+class Place:
+    """A place of a text, with the tokens before it and from it on, and what is expected there."""
+
+    def __init__(self, text, at, wanted):
+        self.text, self.at, self.wanted = text, at, wanted
+        self.before = [found[1] for found in TOKENS.finditer(text[:at]) if found[1]]
+        self.rest = [found[1] for found in TOKENS.finditer(text[at:]) if found[1]]
+
+    def last(self):
+        return self.before[-1] if self.before else ""
+
+    def token(self, number=0):
+        return self.rest[number] if number < len(self.rest) else ""
+
+    def open_operations(self):
+        """The tokens before the brackets that are open."""
+        found = []
+        for index, token in enumerate(self.before):
+            if token == "(":
+                found.append(self.before[index - 1])
+            elif token == ")":
+                found.pop()
+        return found
+
+    def is_in(self, *wanted):
+        return self.wanted in wanted
+
+    def registers(self):
+        place = self.before.index("registers") + 1
+        return int(self.before[place])
+
+    def line(self, number):
+        """The line of the place, or one so many lines before it."""
+        lines = self.text.split("\n")
+        return lines[self.text[: self.at].count("\n") - number]
+
+    def has_comma(self, start):
+        """Whether a comma stands in the bracket with which the tokens from `start` on begin, outside of others in it."""
+        depth = 0
+        for token in self.rest[start:]:
+            depth += {"(": 1, ")": -1}.get(token, 0)
+            if depth < 1:
+                return False
+            if token == "," and depth == 1:
+                return True
+        return False
+
+    def ends_expression(self):
+        return self.last() == ")" or bool(OPERAND.fullmatch(self.last()))
+
+
+def takes(place, name, count):
+    """The operation with this name is open, and takes this number of operands."""
+    operations = place.open_operations()
+    return bool(operations) and operations[-1] == name and OPERANDS[name] == int(count)
+
+
+def is_infix(place):
+    """An operation stands between an expression and an operand."""
+    is_begun = OPERAND.fullmatch(place.token(1)) or place.token(1) in OPERANDS or place.token(1) == "("
+    return place.token() in OPERANDS and place.ends_expression() and bool(is_begun) and not place.has_comma(1)
+
+
+def is_comma_missing(place):
+    """An operand follows an operand, or an operation with its bracket does."""
+    begins = OPERAND.fullmatch(place.token()) or place.token() in OPERANDS and place.token(1) == "("
+    return place.is_in("`,`") and bool(begins) and place.token(1) != "="
+
+
+def is_joined(place):
+    """The word is two tokens of the language."""
+    word = WORD.match(place.text, place.at)[0]
+    known = re.compile(rf"{OPERAND.pattern}|{'|'.join(OPERANDS)}|rounds|channels|registers|start|round|send|left|right|finish")
+    return any(known.fullmatch(word[:at]) and known.fullmatch(word[at:]) for at in range(1, len(word)))
+
+
+def small(place, name):
+    """The word is this one but for capitals."""
+    word = WORD.match(place.text, place.at)[0]
+    return word != name and word.lower() == name
+
+
+def is_number(token):
+    return token.isdecimal()
+
+
+# Advice as a pattern, and its condition.
+ROWS = [
+    (r"`(\w+)` takes (\d) operands?", takes),
+    (r"a bracket is open", lambda place: bool(place.open_operations())),
+    (r"this bracket closes nothing", lambda place: not place.open_operations() and place.token() == ")"),
+    (r"commas only separate operands", lambda place: not place.open_operations() and place.token() == ","),
+    (r"operands are separated by commas", lambda place: place.is_in("`,`")),
+    (r"a comma is missing before it", is_comma_missing),
+    (r"the same word stands right before it", lambda place: place.token() == place.last()),
+    (r"the same line stands right before it", lambda place: place.line(0) == place.line(1) and WORD.search(place.line(0))),
+    (r"an operation is written before its operands, as in `add\(a, b\)`", is_infix),
+    (
+        r"the name of an operation is missing before it",
+        lambda place: place.token() == "(" and place.last() not in OPERANDS and place.has_comma(0),
+    ),
+    (r"brackets are only written after the name of an operation", lambda place: place.token() == "(" and place.last() not in OPERANDS),
+    (r"no brackets are allowed here", lambda place: place.token() == "(" and not place.is_in("an expression", "`(`")),
+    (
+        r"the operands of an operation are written in brackets, as in `if\(c, a, b\)`",
+        lambda place: place.last() in OPERANDS and place.token() != "(",
+    ),
+    (r"a `\(` is missing in it", lambda place: any(WORD.match(place.text, place.at)[0].startswith(name) for name in OPERANDS)),
+    (r"a blank is missing in it", is_joined),
+    (r"`=` is only written after the register of an assignment", lambda place: place.token() == "="),
+    (r"write `eq\(a, b\)` to compare", lambda place: place.token() == "=" and place.ends_expression()),
+    (r"an assignment is written `r0 = ..`", lambda place: place.is_in("`=`")),
+    (r"an expression is assigned to a register, as in `r0 = if\(c, a, b\)`", lambda place: place.token() in OPERANDS),
+    (r"an expression is missing here", lambda place: place.is_in("an expression")),
+    (r"write a number in digits", lambda place: place.is_in("a number")),
+    (
+        r"leave out the numbers of the lines",
+        lambda place: not place.before and is_number(place.token()) and place.token(1) == "rounds" and is_number(place.token(2)),
+    ),
+    (r"`registers` says how many registers there are, from r0 on", lambda place: int(place.token()[1:]) >= place.registers()),
+    (r"the message from the left is `L`", lambda place: place.is_in("an expression") and place.token() in ("left", "l")),
+    (
+        r"the message from the right is `R`(?:, and registers are `r0` to `r7`)?",
+        lambda place: place.is_in("an expression") and place.token() in ("right", "r"),
+    ),
+    (r"`(\w+)` is written with (?:small letters|a small letter)", small),
+    (r"there is no operation of this name: they are .*", lambda place: place.token() not in OPERANDS and place.token(1) == "("),
+    # Sentences on the language, where what they speak of is expected.
+    (r"a program begins with `rounds`, `channels` and `registers`", lambda place: place.is_in("`rounds`", "`channels`", "`registers`")),
+    (r"a round begins with the word `round`", lambda place: place.is_in("`round`")),
+    (r"a round begins with `send left` and `send right`", lambda place: place.is_in("`send`")),
+    (r"`send left` comes first, then `send right`", lambda place: place.is_in("`left`")),
+    (r"`send left` is followed by `send right`", lambda place: place.is_in("`right`")),
+    (r"each register is assigned, in order", lambda place: place.wanted.startswith("the assignment of r")),
+    (r"each register is assigned once, then comes (`round`|`finish`)", lambda place, then: place.is_in(then)),
+    (r"there are as many rounds as `rounds` says", lambda place: {place.token(), place.wanted} & {"round", "finish"}),
+    (r"the expression of `finish` ends the program", lambda place: place.is_in("the end of the text")),
+    (r"registers are `r0` to `r7`(?:, and have no other names)?", lambda place: not re.fullmatch("r[0-7]", place.token())),
+    (r"a number has only digits", lambda place: place.token()[0].isdecimal() and not is_number(place.token())),
+]
+
+
+def holds(text, at, wanted, advice):
+    """Whether a piece of advice is true of a text at a place."""
+    for pattern, condition in ROWS:
+        if found := re.fullmatch(pattern, advice):
+            return bool(condition(Place(text, at, wanted), *(found.groups() if condition.__code__.co_argcount > 1 else ())))
+    return False
