@@ -609,10 +609,25 @@ ONE_MINUS = "nbhd: the name of an option has two minus signs before it, as in `-
 DASH = "nbhd: the name of an option has two minus signs before it, and no dash, as in `--ids 8`\n"
 CAPITAL = "nbhd: the names of options have small letters, as in `--ids 8`\n"
 OTHER_IDS = "nbhd: the number of identifiers is given by `--ids`\n"
-NO_NUMBER = (
-    "nbhd: numbers are in digits: `--ids` 2 to 1024, `--rounds` 0 to 4, `--channels` and `--near` 1 to 4096, `--far` 0 to 4096, "
-    "`--workers` and `--segments` 1 to 64, `--place` from 0 on, `--base` 2 to 10\n"
-)
+NEAR_AND_FAR = "nbhd: `--near` takes one number, and `--far` another: L(2,1) is `--near 2 --far 1`\n"
+REFUTATION_NAME = "nbhd: a refutation is read from standard input, as in `nbhd refute --ids 3 --rounds 0 --channels 2 < FILE`\n"
+NO_FILE = "nbhd: `nbhd formula` reads no file\n"
+
+
+def no_number(option, range_of):
+    """The tip on a value of an option that is not a number."""
+    return f"nbhd: `--{option}` takes a number in digits, {range_of}\n"
+
+
+NO_IDS = no_number("ids", "from 2 to 1024")
+NO_ROUNDS = no_number("rounds", "from 0 to 4")
+NO_CHANNELS = no_number("channels", "from 1 to 4096")
+NO_NEAR = no_number("near", "from 1 to 4096")
+NO_FAR = no_number("far", "from 0 to 4096")
+NO_WORKERS = no_number("workers", "from 1 to 64")
+NO_SEGMENTS = no_number("segments", "from 1 to 64")
+NO_PLACE = no_number("place", "from 0 on")
+NO_BASE = no_number("base", "from 2 to 10")
 NO_TIP = "For more information, try '--help'.\n"
 TIPS = [
     ("run --ids 8 --ring 5 1 3 7", RING_IN_WORDS),
@@ -622,19 +637,19 @@ TIPS = [
     ("run --ids 8 --ring -1,2,3,4", NEGATIVE),
     ("judge --ids 8 programs/cv1.txt", FILE_NAME),
     ("judge cv1.txt --ids 8", FILE_NAME),
-    ("judge --ids 1.5", NO_TIP),
+    ("judge --ids 1.5", NO_IDS),
     ("judge --file=cv1.txt", FILE_NAME),
     ("judge --file cv1 --ids 8", FILE_NAME),
-    ("judge --ids eight", NO_NUMBER),
-    ("judge --ids=eight", NO_NUMBER),
-    ("table --ids=8 --workers=all", NO_NUMBER),
+    ("judge --ids eight", NO_IDS),
+    ("judge --ids=eight", NO_IDS),
+    ("table --ids=8 --workers=all", NO_WORKERS),
     ("audit --file=old.table", TABLE_NAME),
-    ("judge --ids 8 --near none", NO_NUMBER),
-    ("table --ids 8 --workers all", NO_NUMBER),
-    ("explain --ids 8 --ring 5,1,3,7 --place first", NO_NUMBER),
-    ("trace --ids 8 --ring 5,1,3,7 --base two", NO_NUMBER),
-    ("formula --ids 8 --rounds one --channels 3", NO_NUMBER),
-    ("refute --ids 8 --rounds 1 --channels three", NO_NUMBER),
+    ("judge --ids 8 --near none", NO_NEAR),
+    ("table --ids 8 --workers all", NO_WORKERS),
+    ("explain --ids 8 --ring 5,1,3,7 --place first", NO_PLACE),
+    ("trace --ids 8 --ring 5,1,3,7 --base two", NO_BASE),
+    ("formula --ids 8 --rounds one --channels 3", NO_ROUNDS),
+    ("refute --ids 8 --rounds 1 --channels three", NO_CHANNELS),
     ("audit cv1.table.txt", TABLE_NAME),
     ("migrate old.table", TABLE_NAME),
     ("judge -ids 8", ONE_MINUS),
@@ -647,7 +662,105 @@ TIPS = [
     ("judge --identifiers 8", OTHER_IDS),
     ("judge --nodes=8", OTHER_IDS),
     ("run --ids 8 --ring=5 1 3 7", RING_IN_WORDS),
+    *((f"judge --ids {value}", NO_IDS) for value in ["8k", "2.5", "8..10", "1e2", "2^5", "1k", "M", "--near"]),
+    *((f"judge --ids={value}", NO_IDS) for value in ["8k", "8,", "2^5", ""]),
+    ("judge --ids 8 --far 1.5", NO_FAR),
+    ("run --ids 8 --ring 5,1,3,7 --segments two", NO_SEGMENTS),
+    ("judge --ids 8 --near 2,1", NEAR_AND_FAR),
+    ("judge --near=2,1 --ids 8", NEAR_AND_FAR),
+    ("refute --ids 3 --rounds 0 --channels 2 no.lrat", REFUTATION_NAME),
+    ("formula --ids 3 --rounds 0 --channels 2 out.cnf", NO_FILE),
+    ("judge -near 2 --ids 8", ONE_MINUS),
+    ("judge --Near=2 --ids 8", CAPITAL),
 ]
+
+# What names of other programs are for, and what stands for them.
+RUN, TRACE, EXPLAIN = "run --ids 8 --ring 5,1,3,7", "trace --ids 8 --ring 5,1,3,7", "explain --ids 8 --ring 5,1,3,7"
+THREADS = "nbhd: the number of threads is given by `--workers`, as in `--workers 4`\n"
+LABELLING = "nbhd: L(2,1) is `--near 2 --far 1`, of `table`, `judge`, `formula` and `refute`\n"
+VERSION = "nbhd: the first line of `nbhd --help` has the version\n"
+IDENTIFIERS = "nbhd: the number of identifiers is given by `--ids`, as in `--ids 8`\n"
+OUTPUT = "as in `nbhd table --ids 8 < FILE > OUTPUT`\n"
+MESSAGES = "nbhd: `nbhd run` runs a program on a ring, and `nbhd trace` prints each round\n"
+JUDGES = "nbhd: `nbhd judge` judges a program on every ring, and `nbhd audit` a table\n"
+HELP = "nbhd: `nbhd --help` tells of the program, and `nbhd run --help` of a command\n"
+FIRST = "nbhd: the name of a command comes first, as in `nbhd check --ids 8`\n"
+
+# Words and the end of the standard error, which names what was probably meant.
+ADVICE = [
+    # A file without a suffix, and `-`.
+    ("judge --ids 8 mine", FILE_NAME),
+    ("judge --ids 8 -", FILE_NAME),
+    ("check mine --ids 8", FILE_NAME),
+    ("audit mine", TABLE_NAME),
+    ("refute --ids 3 --rounds 0 --channels 2 proof", REFUTATION_NAME),
+    ("formula --ids 3 --rounds 0 --channels 2 out", NO_FILE),
+    # Names of other programs for options.
+    *((f"judge --ids 8 {name} 4", THREADS) for name in "-w -j --threads --jobs --parallel --cores".split()),
+    ("judge --ids 8 --jobs=4", THREADS),
+    (f"{RUN} -j 4", "nbhd: a run has a thread for each segment, as in `--segments 4`\n"),
+    ("check --ids 8 -j 4", "nbhd: this command has one thread\n"),
+    *((f"judge --ids 8 {name} 2", LABELLING) for name in "--L21 --l --L -L --lambda".split()),
+    *((f"{TRACE} {name}", "as in `--base 2`\n") for name in "--bits --binary --hex --bin --radix".split()),
+    *((f"{EXPLAIN} {name} 0", "by its place in the ring, as in `--place 0`\n") for name in "--node --pos --position --index".split()),
+    *((line, VERSION) for line in ["-V", "--version", "judge -V", "version"]),
+    *((f"judge --ids 8 {name}", "there is no option for more or less\n") for name in "-v -q --quiet --verbose".split()),
+    *((f"table --ids 8 {name} out", OUTPUT) for name in "-o --output --out".split()),
+    *((f"judge {name} 8", IDENTIFIERS) for name in "-n -m --size --max --N".split()),
+    (f"{RUN} --seed 3", "nbhd: nothing is random; `shuf` makes a random ring\n"),
+    # Options of another command.
+    ("check --ids 8 --workers 2", "nbhd: `--workers` is an option of `table`, `judge` and `plan`\n"),
+    (f"{RUN} --near 2", "nbhd: `--near` is an option of `table`, `judge`, `formula` and `refute`\n"),
+    ("judge --ids 8 --ring 5,1,3,7", "nbhd: `--ring` is an option of `run`, `trace`, `explain` and `plan`\n"),
+    ("judge --ids 8 --rounds 1", "nbhd: `--rounds` is an option of `formula` and `refute`; a program says its own\n"),
+    ("audit --ids 8", "nbhd: the numbers of a table are in its text\n"),
+    ("print --ids 8", "`nbhd check` tells whether a program is accepted for M identifiers\n"),
+    # Words in place of a command.
+    *((f"{name} --ids 8", MESSAGES) for name in ["simulate", "exec"]),
+    *((f"{name} --ids 8", JUDGES) for name in ["verify", "validate", "test", "prove"]),
+    *((name, HELP) for name in ["man", "info"]),
+    ("compile --ids 8", "nbhd: `nbhd table` prints the table of a program\n"),
+    ("solve --ids 8", "nbhd: `nbhd formula` prints a formula for a solver\n"),
+    ("RUN --ids 8 --ring 5,1,3,7", "nbhd: the names of commands have small letters\n"),
+    ("nbhd run --ids 8 --ring 5,1,3,7", "nbhd: the name of the program stands twice\n"),
+    ("--ids 8", FIRST),
+    ("8", FIRST),
+    # Stray words.
+    ("run --ids 8 5,1,3,7", "nbhd: a ring is given by `--ring`, as in `--ring 5,1,3,7`\n"),
+    ("check 8", "nbhd: each number is the value of an option, as in `--ids 8`\n"),
+    ("audit migrate", "nbhd: one command is given at a time\n"),
+    # A word that is like a name, and of which nothing else is known, has what `clap` says of it alone.
+    ("chek --ids 8", NO_TIP),
+    ("table --ids 8 --worker 1", NO_TIP),
+    ("check --idz 8", NO_TIP),
+]
+
+# Words with bytes that are not printable, and the standard error.
+CARRIAGE = "nbhd: a word ends with a carriage return: save the script with line feeds alone\n"
+ESCAPED = [
+    (
+        ["check", "--ids", "8\r"],
+        "error: invalid value '8\\x0d' for '--ids <M>': invalid digit found in string\n\n"
+        f"For more information, try '--help'.\n{NO_IDS}{CARRIAGE}",
+    ),
+    (
+        ["run", "--ids", "8", "--ring", "5,1,3,7\r"],
+        "nbhd: bad ring\nnbhd: part 4 of the ring text, `7\\x0d`, is not a number from 0 to 4294967295"
+        f"; a ring is numbers with single commas, as 5,1,3,7\n{CARRIAGE}",
+    ),
+    (
+        ["run", "--ids", "8", "--ring", "5,\x1b[31m1"],
+        "nbhd: bad ring\nnbhd: part 2 of the ring text, `\\x1b[31m1`, is not a number from 0 to 4294967295"
+        "; a ring is numbers with single commas, as 5,1,3,7\n",
+    ),
+    (
+        ["\x1b[31m"],
+        "error: unrecognized subcommand '\\x1b[31m'\n\nUsage: nbhd <COMMAND>\n\nFor more information, try '--help'.\n",
+    ),
+]
+
+# Words of which `clap` says that they are like others, which is not shown.
+UNLIKE = ["man", "simulate --ids 8", "check --bits --ids 8"]
 
 # Ring texts, the number of the first part that is none, and this part.
 PARTS = [("5, 1", 2, " 1"), ("", 1, ""), ("5,1,3,7,", 5, ""), ("4294967296", 1, "4294967296")]

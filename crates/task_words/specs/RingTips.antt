@@ -2,6 +2,7 @@
 use Rattle.std.specs.Prelude.{◌≡◌, ℕ, ◌+◌, ◌<◌, ◌++◌, Option, Some, None, List, [], ◌∷◌, take, drop, slice_get, codes, bytes_eq, if◌then◌else◌}
 use Rattle.std.specs.Option.{option_or}
 use Rattle.std.specs.Fmt.{decimal}
+use Rattle.source_places.specs.Shown.{escaped_bytes}
 use Rattle.task_words.specs.Decimal.{IsNumber}
 use Rattle.task_words.specs.RingText.{parts_of}
 
@@ -11,12 +12,17 @@ pub record IsFirstBad (parts : List (List ℕ)) (index : ℕ) (part : List ℕ) 
   pub bad : ¬ IsNumber part
   pub before : (k : ℕ) (other : List ℕ) → k < index → slice_get parts k ≡ Some other → IsNumber other
 
+-- the tip on a part that is not a number, each of whose bytes is seen
+abbrev pub part_tip : ℕ → List ℕ → List ℕ
+part_tip number part = codes "nbhd: part " ++ (decimal number ++ (codes " of the ring text, `" ++ (escaped_bytes part
+    ++ codes "`, is not a number from 0 to 4294967295; a ring is numbers with single commas, as 5,1,3,7")))
+
 -- the tip names the first part that is not a number; parts are counted from 1
 pub record IsRingTip (text tip : List ℕ) : Type 0 where
   pub index : ℕ
   pub part : List ℕ
   pub first : IsFirstBad (parts_of text) index part
-  pub is : tip ≡ codes "nbhd: part " ++ (decimal (index + 1) ++ (codes " of the ring text, `" ++ (part ++ codes "`, is not a number from 0 to 4294967295; a ring is numbers with single commas, as 5,1,3,7")))
+  pub is : tip ≡ part_tip (index + 1) part
 
 -- the value of `--ring` that a word is or has, by the word before it: after `--ring` the word, or what follows `--ring=` in it
 abbrev pub ring_value : List ℕ → List ℕ → Option (List ℕ)

@@ -1,9 +1,25 @@
 -- What refused words of the command line were probably meant to be.
-use Rattle.std.specs.Prelude.{ℕ, ◌+◌, ◌==◌, nat_le, Bool, false, ◌&&◌, ◌||◌, not, Option, Some, None, List, [], ◌∷◌, take, drop, codes, bytes_eq, if◌then◌else◌}
+use Rattle.std.specs.Prelude.{ℕ, ◌+◌, ◌==◌, nat_le, Bool, false, ◌&&◌, ◌||◌, not, Option, Some, None, List, [], ◌∷◌, length, take, drop, codes, bytes_eq, if◌then◌else◌}
 use Rattle.std.specs.List.{list_any, prefix_len}
 use Rattle.std.specs.Option.{option_or}
 use Rattle.task_words.specs.declared.tips.Tip.{Tip}
 use Rattle.task_words.specs.declared.tips.Tip.TheVariants as tip
+use Rattle.task_words.specs.declared.tips.NumberOption.{NumberOption}
+use Rattle.task_words.specs.declared.tips.NumberOption.TheVariants as number
+use Rattle.task_words.specs.declared.tips.Input.{Input}
+use Rattle.task_words.specs.declared.tips.Input.TheVariants as input
+
+-- the line on a value of an option that is not a number
+abbrev pub number_line : NumberOption → List ℕ
+number_line number.Ids = codes "nbhd: `--ids` takes a number in digits, from 2 to 1024"
+number_line number.Rounds = codes "nbhd: `--rounds` takes a number in digits, from 0 to 4"
+number_line number.Channels = codes "nbhd: `--channels` takes a number in digits, from 1 to 4096"
+number_line number.Near = codes "nbhd: `--near` takes a number in digits, from 1 to 4096"
+number_line number.Far = codes "nbhd: `--far` takes a number in digits, from 0 to 4096"
+number_line number.Workers = codes "nbhd: `--workers` takes a number in digits, from 1 to 64"
+number_line number.Segments = codes "nbhd: `--segments` takes a number in digits, from 1 to 64"
+number_line number.Place = codes "nbhd: `--place` takes a number in digits, from 0 on"
+number_line number.Base = codes "nbhd: `--base` takes a number in digits, from 2 to 10"
 
 -- the line on a mistake for standard error
 abbrev pub tip_line : Tip → List ℕ
@@ -16,7 +32,10 @@ tip_line tip.OneMinus = codes "nbhd: the name of an option has two minus signs b
 tip_line tip.Dash = codes "nbhd: the name of an option has two minus signs before it, and no dash, as in `--ids 8`"
 tip_line tip.Capital = codes "nbhd: the names of options have small letters, as in `--ids 8`"
 tip_line tip.OtherIds = codes "nbhd: the number of identifiers is given by `--ids`"
-tip_line tip.NoNumber = codes "nbhd: numbers are in digits: `--ids` 2 to 1024, `--rounds` 0 to 4, `--channels` and `--near` 1 to 4096, `--far` 0 to 4096, `--workers` and `--segments` 1 to 64, `--place` from 0 on, `--base` 2 to 10"
+tip_line tip.RefutationName = codes "nbhd: a refutation is read from standard input, as in `nbhd refute --ids 3 --rounds 0 --channels 2 < FILE`"
+tip_line tip.NoFile = codes "nbhd: `nbhd formula` reads no file"
+tip_line tip.NearAndFar = codes "nbhd: `--near` takes one number, and `--far` another: L(2,1) is `--near 2 --far 1`"
+tip_line (tip.NoNumber option) = number_line option
 
 abbrev pub is_digit : ℕ → Bool
 is_digit byte = nat_le 48 byte && nat_le byte 57
@@ -56,9 +75,18 @@ name_part word = take (name_len word) word
 abbrev pub value_part : List ℕ → List ℕ
 value_part word = drop (name_len word + 1) word
 
+-- whether a word is `--ring` with its value
+abbrev pub is_ring : List ℕ → Bool
+is_ring word = has_value word && bytes_eq (name_part word) (codes "--ring")
+
 -- whether a word is the second number of a ring that is given in several words
 abbrev pub is_in_ring : List ℕ → List ℕ → List ℕ → Bool
-is_in_ring before last word = (bytes_eq before (codes "--ring") || has_value last) && begins_with_digit word
+is_in_ring before last word = (bytes_eq before (codes "--ring") || is_ring last) && begins_with_digit word
+
+-- whether a word is a list with commas in place of the value of `--near`
+abbrev pub is_near_and_far : List ℕ → List ℕ → Bool
+is_near_and_far last word = (bytes_eq last (codes "--near") || bytes_eq (name_part word) (codes "--near"))
+    && list_any (λ byte. byte == 44) word
 
 -- whether a word is the name of a file: it has a dot, and is no option and not the value of one
 abbrev pub is_file_name : List ℕ → List ℕ → Bool
@@ -75,36 +103,69 @@ abbrev pub is_other_ids : List ℕ → Bool
 is_other_ids word = bytes_eq (name_part word) (codes "--n") || (bytes_eq (name_part word) (codes "--m")
     || (bytes_eq (name_part word) (codes "--identifiers") || bytes_eq (name_part word) (codes "--nodes")))
 
--- whether this is the name of an option that takes a number
-abbrev pub takes_number : List ℕ → Bool
-takes_number word = bytes_eq word (codes "--ids") || (bytes_eq word (codes "--rounds") || (bytes_eq word (codes "--channels")
-    || (bytes_eq word (codes "--near") || (bytes_eq word (codes "--far") || (bytes_eq word (codes "--workers")
-    || (bytes_eq word (codes "--segments") || (bytes_eq word (codes "--place") || bytes_eq word (codes "--base"))))))))
+-- the option with this name, if it takes a number
+abbrev pub number_option : List ℕ → Option NumberOption
+number_option name =
+    if bytes_eq name (codes "--ids") then Some number.Ids
+    else if bytes_eq name (codes "--rounds") then Some number.Rounds
+    else if bytes_eq name (codes "--channels") then Some number.Channels
+    else if bytes_eq name (codes "--near") then Some number.Near
+    else if bytes_eq name (codes "--far") then Some number.Far
+    else if bytes_eq name (codes "--workers") then Some number.Workers
+    else if bytes_eq name (codes "--segments") then Some number.Segments
+    else if bytes_eq name (codes "--place") then Some number.Place
+    else if bytes_eq name (codes "--base") then Some number.Base
+    else None
 
--- whether a word begins neither with a digit nor with a minus sign
-abbrev pub is_no_number : List ℕ → Bool
-is_no_number word = not (begins_with_digit word) && not (begins_with_minus word)
+-- the number of digits at the start
+abbrev pub digits_len : List ℕ → ℕ
+digits_len word = prefix_len is_digit word
 
--- whether a word is not a number and the value of an option that takes one, or is such an option with such a value
-abbrev pub lacks_number : List ℕ → List ℕ → Bool
-lacks_number last word =
-    (takes_number last && is_no_number word) || (takes_number (name_part word) && (has_value word && is_no_number (value_part word)))
+-- digits alone
+abbrev pub is_digits : List ℕ → Bool
+is_digits word = digits_len word == length word
 
-abbrev pub is_capital : ℕ → Bool
-is_capital byte = nat_le 65 byte && nat_le byte 90
+-- a number: digits, perhaps behind a sign
+abbrev pub is_number : List ℕ → Bool
+is_number [] = false
+is_number (byte ∷ rest) = if (byte == 43) || (byte == 45) then is_digits rest else is_digits (byte ∷ rest)
 
-abbrev pub is_letter : ℕ → Bool
-is_letter byte = is_capital byte || (nat_le 97 byte && nat_le byte 122)
+-- the option whose value a word is, behind the name `last`, or has, if it takes a number and the value is none
+abbrev pub without_number : List ℕ → List ℕ → Option NumberOption
+without_number last word =
+    option_or (if is_number word then None else number_option last)
+    (if has_value word && not (is_number (value_part word)) then number_option (name_part word) else None)
 
--- whether a word is two minus signs and a capital
+-- whether this is the name of an option in capitals
+abbrev pub is_all_capitals : List ℕ → Bool
+is_all_capitals name =
+    bytes_eq name (codes "--IDS") || (bytes_eq name (codes "--RING") || (bytes_eq name (codes "--ROUNDS")
+    || (bytes_eq name (codes "--CHANNELS") || (bytes_eq name (codes "--NEAR") || (bytes_eq name (codes "--FAR")
+    || (bytes_eq name (codes "--WORKERS") || (bytes_eq name (codes "--SEGMENTS") || (bytes_eq name (codes "--PLACE")
+    || (bytes_eq name (codes "--BASE"))))))))))
+
+-- whether this is the name of an option with a capital as its first letter
+abbrev pub has_first_capital : List ℕ → Bool
+has_first_capital name =
+    bytes_eq name (codes "--Ids") || (bytes_eq name (codes "--Ring") || (bytes_eq name (codes "--Rounds")
+    || (bytes_eq name (codes "--Channels") || (bytes_eq name (codes "--Near") || (bytes_eq name (codes "--Far")
+    || (bytes_eq name (codes "--Workers") || (bytes_eq name (codes "--Segments") || (bytes_eq name (codes "--Place")
+    || (bytes_eq name (codes "--Base"))))))))))
+
+-- whether a word is the name of an option in capitals, or with a capital
 abbrev pub is_in_capitals : List ℕ → Bool
-is_in_capitals (first ∷ second ∷ third ∷ rest) = (first == 45) && ((second == 45) && is_capital third)
-is_in_capitals _ = false
+is_in_capitals word = is_all_capitals (name_part word) || has_first_capital (name_part word)
 
--- whether a word is one minus sign and a letter
+-- whether this is the name of an option with one minus sign
+abbrev pub is_minus_name : List ℕ → Bool
+is_minus_name name =
+    bytes_eq name (codes "-ids") || (bytes_eq name (codes "-ring") || (bytes_eq name (codes "-rounds")
+    || (bytes_eq name (codes "-channels") || (bytes_eq name (codes "-near") || (bytes_eq name (codes "-far")
+    || (bytes_eq name (codes "-workers") || (bytes_eq name (codes "-segments") || (bytes_eq name (codes "-place")
+    || (bytes_eq name (codes "-base"))))))))))
+
 abbrev pub has_one_minus : List ℕ → Bool
-has_one_minus (first ∷ second ∷ rest) = (first == 45) && is_letter second
-has_one_minus _ = false
+has_one_minus word = is_minus_name (name_part word)
 
 -- whether a word begins with a dash, of either length
 abbrev pub has_dash : List ℕ → Bool
@@ -120,26 +181,46 @@ tip_on_name word =
     else if has_dash word then Some tip.Dash
     else None
 
--- the tip on a word, by the two words before it and whether its command reads a table
-abbrev pub tip_on : Bool → List ℕ → List ℕ → List ℕ → Option Tip
-tip_on of_table before last word =
+-- the tip on the name of a file, by what the command reads
+abbrev pub file_tip : Input → Tip
+file_tip input.Program = tip.FileName
+file_tip input.Table = tip.TableName
+file_tip input.Refutation = tip.RefutationName
+file_tip input.Nothing = tip.NoFile
+
+-- the tip on a value that is not a number, or on a wrong name of an option
+abbrev pub tip_on_value : Option NumberOption → List ℕ → Option Tip
+tip_on_value (Some option) word = Some (tip.NoNumber option)
+tip_on_value None word = tip_on_name word
+
+-- the tip on a word, by what its command reads and the two words before it
+abbrev pub tip_on : Input → List ℕ → List ℕ → List ℕ → Option Tip
+tip_on reads before last word =
     if is_ring_for_ids last word then Some tip.RingForIds
     else if is_in_ring before last word then Some tip.RingInWords
     else if is_negative word then Some tip.Negative
-    else if is_file_name last word || is_file_option word then Some (if of_table then tip.TableName else tip.FileName)
-    else if lacks_number last word then Some tip.NoNumber
-    else tip_on_name word
+    else if is_file_name last word || is_file_option word then Some (file_tip reads)
+    else if is_near_and_far last word then Some tip.NearAndFar
+    else tip_on_value (without_number last word) word
 
 -- the tip on the first word that has one; `before` and `last` are the two words before these words
-abbrev pub tip_after : Bool → List ℕ → List ℕ → List (List ℕ) → Option Tip
-tip_after of_table before last [] = None
-tip_after of_table before last (word ∷ words) = option_or (tip_on of_table before last word) (tip_after of_table last word words)
+abbrev pub tip_after : Input → List ℕ → List ℕ → List (List ℕ) → Option Tip
+tip_after reads before last [] = None
+tip_after reads before last (word ∷ words) = option_or (tip_on reads before last word) (tip_after reads last word words)
 
--- whether words are those of a command that reads a table
-abbrev pub reads_table : List (List ℕ) → Bool
-reads_table [] = false
-reads_table (command ∷ words) = bytes_eq command (codes "audit") || bytes_eq command (codes "migrate")
+-- what the command with this name reads
+abbrev pub input_of_command : List ℕ → Input
+input_of_command command =
+    if bytes_eq command (codes "audit") || bytes_eq command (codes "migrate") then input.Table
+    else if bytes_eq command (codes "refute") then input.Refutation
+    else if bytes_eq command (codes "formula") then input.Nothing
+    else input.Program
+
+-- what the command of these words reads; without a command it is taken to be a program
+abbrev pub input_of : List (List ℕ) → Input
+input_of [] = input.Program
+input_of (command ∷ words) = input_of_command command
 
 -- the tip on words
 abbrev pub usage_tip : List (List ℕ) → Option Tip
-usage_tip words = tip_after (reads_table words) [] [] words
+usage_tip words = tip_after (input_of words) [] [] words

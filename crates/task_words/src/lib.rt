@@ -2,18 +2,21 @@
 #![tactic(auto)]
 
 mod command_line;
+mod foreign_names;
 mod help;
 pub mod limits;
 mod options;
 mod parsing;
 mod process;
+mod refused;
 pub mod ring_text;
 mod ring_tips;
 mod rows;
 pub mod task;
 mod tips;
+mod word_advice;
 pub mod words;
 
 pub use process::{parse_task, print_words_fault};
 pub use ring_tips::{ring_tip, ring_word};
-pub use tips::{Tip, usage_tip};
+pub use tips::{NumberOption, Tip, usage_tip};

@@ -4,6 +4,7 @@ ghost use Rattle.task_words.specs.Answers.{IsAnswer, IsParsed, IsTipFor, IsUnrea
 ghost use Rattle.task_words.specs.Task.{IsRunnable};
 ghost use Rattle.task_words.specs.WordsFault.{words_fault_code};
 
+use crate::refused::{carriage_line, usage_advice, usage_text};
 use crate::ring_tips::{ring_tip, ring_word};
 use crate::task::Task;
 use crate::tips::usage_tip;
@@ -50,19 +51,57 @@ fn after_name(words: &[String]) -> &[String]
     }
 }
 
-/// Prints the fault of the words to standard error, and a tip if there is one. Returns the exit
-/// status.
+/// Prints the fault of the words to standard error, and a tip or advice if there is one. Control
+/// characters of the words are escaped. Returns the exit status.
 pub fn print_words_fault<T: AllocGlobal + Env + Eprint>(rt: &T, fault: &WordsFault) -> u8
     ensures { result ≡ words_fault_code fault.now }
 {
-    let _ = match fault {
-        WordsFault::Usage(text) | WordsFault::Help(text) => eprint!(rt; "{text}"),
-        WordsFault::BadRing | WordsFault::OutOfMemory => eprintln!(rt; "{fault}"),
+    let tip = tip_on(rt, fault);
+    let advice = match tip {
+        Some(_) => None,
+        None => advice_on(rt, fault),
     };
-    if let Some(tip) = tip_on(rt, fault) {
+    print_fault(rt, fault, advice.is_some());
+    if let Some(tip) = tip {
         let _ = eprintln!(rt; "{tip}");
     }
+    if let Some(advice) = advice {
+        let _ = eprintln!(rt; "{advice}");
+    }
+    if let Some(line) = line_on_words(rt, fault) {
+        let _ = eprintln!(rt; "{line}");
+    }
     fault.code()
+}
+
+// Prints the fault of the words; with advice on them, without what `clap` says is alike.
+fn print_fault<T: AllocGlobal + Eprint>(rt: &T, fault: &WordsFault, has_advice: bool) {
+    let _ = match fault {
+        WordsFault::Usage(text) => match usage_text(rt.alloc(), text, has_advice) {
+            Ok(shown) => eprint!(rt; "{shown}"),
+            Err(_) => eprint!(rt; "{text}"),
+        },
+        WordsFault::Help(text) => eprint!(rt; "{text}"),
+        WordsFault::BadRing | WordsFault::OutOfMemory => eprintln!(rt; "{fault}"),
+    };
+}
+
+// Returns advice on words that `clap` refuses, or `None` if there is none, or if memory was refused.
+fn advice_on<T: AllocGlobal + Env>(rt: &T, fault: &WordsFault) -> Option<&'static str> {
+    let WordsFault::Usage(text) = fault else {
+        return None;
+    };
+    let words = words(rt).ok()?;
+    usage_advice(rt.alloc(), text, after_name(&words)).ok()?
+}
+
+// Returns a line on a carriage return in refused words, or `None` if there is none, or if memory was
+// refused.
+fn line_on_words<T: AllocGlobal + Env>(rt: &T, fault: &WordsFault) -> Option<&'static str> {
+    match fault {
+        WordsFault::Usage(_) | WordsFault::BadRing => carriage_line(after_name(&words(rt).ok()?)),
+        WordsFault::Help(_) | WordsFault::OutOfMemory => None,
+    }
 }
 
 // Returns a tip on refused words, or `None` if there is none, or if memory was refused.

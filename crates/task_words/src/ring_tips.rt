@@ -1,16 +1,19 @@
 //! The tip on a text that is no ring text.
 
 ghost use Rattle.std.specs.Prelude.{◌≡◌, map, All, IfOk, IfSome, IfNone, option_map, string_bytes};
+ghost use Rattle.source_places.specs.Shown.{escaped_bytes};
 ghost use Rattle.task_words.specs.Decimal.{IsNumber};
 ghost use Rattle.task_words.specs.RingText.{IsRingText};
 ghost use Rattle.task_words.specs.RingTips as texts;
 ghost use Rattle.task_words.specs.RingTips.{IsFirstBad, IsRingTip};
 
 use crate::ring_text::{number_of, parts};
+use source_places::write_escaped;
 use std::alloc::{AllocError, Global};
 
 /// Returns a line that names the first part of a text that is not a number, or `None` if it is a ring
-/// text. Fails if memory was refused.
+/// text. A byte of the part that is not printable ASCII is shown as `\x` and two hexadecimal digits.
+/// Fails if memory was refused.
 pub fn ring_tip(alloc: Global, text: &str) -> Result<Option<String>, AllocError>
     ensures tip { IfOk result (λ found. IfSome found (λ tip. IsRingTip text.now (string_bytes tip))) }
     ensures none { IfOk result (λ found. IfNone found (IsRingText text.now)) }
@@ -20,10 +23,26 @@ pub fn ring_tip(alloc: Global, text: &str) -> Result<Option<String>, AllocError>
         return Ok(None);
     };
     let number = index + 1;
-    let tip = format!(in alloc;
+    Ok(Some(part_tip(alloc, number, part)?))
+}
+
+// Returns a part so that each of its bytes is seen.
+fn seen(alloc: Global, part: &str) -> Result<String, AllocError>
+    ensures { IfOk result (λ text. string_bytes text ≡ escaped_bytes part.now) }
+{
+    let mut text = String::new(alloc);
+    write_escaped(&mut text, part.as_bytes())?;
+    Ok(text)
+}
+
+// Returns the line on a part that is not a number; `number` is its place, counted from 1.
+fn part_tip(alloc: Global, number: usize, part: &str) -> Result<String, AllocError>
+    ensures { IfOk result (λ tip. string_bytes tip ≡ texts.part_tip number part.now) }
+{
+    let part = seen(alloc, part)?;
+    format!(in alloc;
         "nbhd: part {number} of the ring text, `{part}`, is not a number from 0 to 4294967295; a ring is numbers with single commas, as 5,1,3,7"
-    )?;
-    Ok(Some(tip))
+    )
 }
 
 // Returns the first part that is not a number, with its index.

@@ -4,6 +4,51 @@ ghost use Rattle.std.specs.Prelude.{◌≡◌, ◌≤◌, ◌==◌, length, map,
 ghost use Rattle.std.specs.List.{list_any};
 ghost use Rattle.task_words.specs.Tips as tips;
 
+/// An option that takes a number.
+#[derive(Clone, Copy, Debug, PartialEq, Eq)]
+pub enum NumberOption {
+    Ids,
+    Rounds,
+    Channels,
+    Near,
+    Far,
+    Workers,
+    Segments,
+    Place,
+    Base,
+}
+
+impl NumberOption {
+    ghost use Rattle.std.specs.Prelude.{◌≡◌};
+    ghost use Rattle.task_words.specs.Tips.{number_line};
+
+    /// Returns the line on a value of this option that is not a number.
+    pub fn line(self) -> &'static str
+        ensures { result.now ≡ number_line self }
+    {
+        match self {
+            NumberOption::Ids => "nbhd: `--ids` takes a number in digits, from 2 to 1024",
+            NumberOption::Rounds => "nbhd: `--rounds` takes a number in digits, from 0 to 4",
+            NumberOption::Channels => "nbhd: `--channels` takes a number in digits, from 1 to 4096",
+            NumberOption::Near => "nbhd: `--near` takes a number in digits, from 1 to 4096",
+            NumberOption::Far => "nbhd: `--far` takes a number in digits, from 0 to 4096",
+            NumberOption::Workers => "nbhd: `--workers` takes a number in digits, from 1 to 64",
+            NumberOption::Segments => "nbhd: `--segments` takes a number in digits, from 1 to 64",
+            NumberOption::Place => "nbhd: `--place` takes a number in digits, from 0 on",
+            NumberOption::Base => "nbhd: `--base` takes a number in digits, from 2 to 10",
+        }
+    }
+}
+
+/// What a command reads from the standard input.
+#[derive(Clone, Copy, Debug, PartialEq, Eq)]
+pub(crate) enum Input {
+    Program,
+    Table,
+    Refutation,
+    Nothing,
+}
+
 /// A common mistake in words of the command line.
 #[derive(Clone, Copy, Debug, PartialEq, Eq)]
 pub enum Tip {
@@ -17,6 +62,10 @@ pub enum Tip {
     FileName,
     /// The name of a file, at a command that reads a table.
     TableName,
+    /// The name of a file, at the command that reads a refutation.
+    RefutationName,
+    /// The name of a file, at the command that reads none.
+    NoFile,
     /// An option with one minus sign.
     OneMinus,
     /// An option with a dash in place of minus signs.
@@ -25,8 +74,10 @@ pub enum Tip {
     Capital,
     /// Another name for the number of identifiers.
     OtherIds,
+    /// Two numbers as the value of `--near`.
+    NearAndFar,
     /// A word that is not a number, as the value of an option that takes one.
-    NoNumber,
+    NoNumber(NumberOption),
 }
 
 impl Tip {
@@ -46,14 +97,18 @@ impl Tip {
                 "nbhd: a text is read from standard input, as in `nbhd judge --ids 8 < FILE`",
             Tip::TableName =>
                 "nbhd: a table is read from standard input, as in `nbhd audit < FILE`",
+            Tip::RefutationName =>
+                "nbhd: a refutation is read from standard input, as in `nbhd refute --ids 3 --rounds 0 --channels 2 < FILE`",
+            Tip::NoFile => "nbhd: `nbhd formula` reads no file",
             Tip::OneMinus =>
                 "nbhd: the name of an option has two minus signs before it, as in `--ids 8`",
             Tip::Dash =>
                 "nbhd: the name of an option has two minus signs before it, and no dash, as in `--ids 8`",
             Tip::Capital => "nbhd: the names of options have small letters, as in `--ids 8`",
             Tip::OtherIds => "nbhd: the number of identifiers is given by `--ids`",
-            Tip::NoNumber =>
-                "nbhd: numbers are in digits: `--ids` 2 to 1024, `--rounds` 0 to 4, `--channels` and `--near` 1 to 4096, `--far` 0 to 4096, `--workers` and `--segments` 1 to 64, `--place` from 0 on, `--base` 2 to 10",
+            Tip::NearAndFar =>
+                "nbhd: `--near` takes one number, and `--far` another: L(2,1) is `--near 2 --far 1`",
+            Tip::NoNumber(option) => option.line(),
         }
     }
 }
@@ -62,12 +117,12 @@ impl Tip {
 pub fn usage_tip(words: &[String]) -> Option<Tip>
     ensures { result ≡ tips.usage_tip (map string_bytes words.now) }
 {
-    let of_table = reads_table(words);
+    let input = input_of(words);
     let mut before = "";
     let mut last = "";
     for word in words {
         let word = word.as_str();
-        if let Some(tip) = tip_on(of_table, before, last, word) {
+        if let Some(tip) = tip_on(input, before, last, word) {
             return Some(tip);
         }
         before = last;
@@ -76,19 +131,47 @@ pub fn usage_tip(words: &[String]) -> Option<Tip>
     None
 }
 
-// Returns whether these words are those of a command that reads a table.
-fn reads_table(words: &[String]) -> bool
-    ensures { result ≡ tips.reads_table (map string_bytes words.now) }
+// Returns what the command of these words reads. Without a command it is taken to be a program.
+fn input_of(words: &[String]) -> Input
+    ensures { result ≡ tips.input_of (map string_bytes words.now) }
 {
     match words {
-        [command, ..] => command.as_str() == "audit" || command.as_str() == "migrate",
-        [] => false,
+        [command, ..] => input_of_command(command.as_str()),
+        [] => Input::Program,
     }
 }
 
-// Returns the tip on a word, by the two words before it and whether its command reads a table.
-fn tip_on(of_table: bool, before: &str, last: &str, word: &str) -> Option<Tip>
-    ensures { result ≡ tips.tip_on of_table before.now last.now word.now }
+// Returns what the command with this name reads.
+fn input_of_command(command: &str) -> Input
+    ensures { result ≡ tips.input_of_command command.now }
+{
+    if command == "audit" || command == "migrate" {
+        return Input::Table;
+    }
+    if command == "refute" {
+        return Input::Refutation;
+    }
+    if command == "formula" {
+        return Input::Nothing;
+    }
+    Input::Program
+}
+
+// Returns the tip on the name of a file, by what the command reads.
+fn file_tip(input: Input) -> Tip
+    ensures { result ≡ tips.file_tip input }
+{
+    match input {
+        Input::Program => Tip::FileName,
+        Input::Table => Tip::TableName,
+        Input::Refutation => Tip::RefutationName,
+        Input::Nothing => Tip::NoFile,
+    }
+}
+
+// Returns the tip on a word, by the two words before it and what its command reads.
+fn tip_on(input: Input, before: &str, last: &str, word: &str) -> Option<Tip>
+    ensures { result ≡ tips.tip_on input before.now last.now word.now }
 {
     if is_ring_for_ids(last, word) {
         return Some(Tip::RingForIds);
@@ -100,16 +183,15 @@ fn tip_on(of_table: bool, before: &str, last: &str, word: &str) -> Option<Tip>
         return Some(Tip::Negative);
     }
     if is_file_name(last, word) || is_file_option(word) {
-        return Some(if of_table {
-            Tip::TableName
-        } else {
-            Tip::FileName
-        });
+        return Some(file_tip(input));
     }
-    if lacks_number(last.as_bytes(), word) {
-        return Some(Tip::NoNumber);
+    if is_near_and_far(last, word) {
+        return Some(Tip::NearAndFar);
     }
-    tip_on_name(word)
+    match without_number(last.as_bytes(), word) {
+        Some(option) => Some(Tip::NoNumber(option)),
+        None => tip_on_name(word),
+    }
 }
 
 // Returns the tip on a word that is a wrong name of an option.
@@ -142,7 +224,22 @@ fn is_ring_for_ids(last: &str, word: &str) -> bool
 fn is_in_ring(before: &str, last: &str, word: &str) -> bool
     ensures { result ≡ tips.is_in_ring before.now last.now word.now }
 {
-    (before == "--ring" || has_value(last)) && begins_with_digit(word.as_bytes())
+    (before == "--ring" || is_ring(last)) && begins_with_digit(word.as_bytes())
+}
+
+// Returns whether a word is `--ring` with its value.
+fn is_ring(word: &str) -> bool
+    ensures { result ≡ tips.is_ring word.now }
+{
+    has_value(word) && name_part(word.as_bytes()) == b"--ring".as_slice()
+}
+
+// Returns whether a word is a list with commas in place of the value of `--near`.
+fn is_near_and_far(last: &str, word: &str) -> bool
+    ensures { result ≡ tips.is_near_and_far last.now word.now }
+{
+    let is_near = last == "--near" || name_part(word.as_bytes()) == b"--near".as_slice();
+    is_near && contains(word, b',')
 }
 
 // Returns whether a word is an option with its value.
@@ -171,39 +268,79 @@ fn is_other_ids(word: &str) -> bool
         || name == b"--nodes".as_slice()
 }
 
-// Returns whether a word is not a number and the value of an option that takes one, or is such an
-// option with such a value.
-fn lacks_number(last: &[u8], word: &str) -> bool
-    ensures { result ≡ tips.lacks_number last.now word.now }
+// Returns the option whose value a word is or has, if it takes a number and the value is none.
+fn without_number(last: &[u8], word: &str) -> Option<NumberOption>
+    ensures { result ≡ tips.without_number last.now word.now }
 {
     let bytes = word.as_bytes();
-    (takes_number(last) && is_no_number(bytes))
-        || (takes_number(name_part(bytes)) && has_value(word) && is_no_number(value_part(bytes)))
+    if !is_number(bytes) {
+        if let Some(option) = number_option(last) {
+            return Some(option);
+        }
+    }
+    if has_value(word) && !is_number(value_part(bytes)) {
+        return number_option(name_part(bytes));
+    }
+    None
 }
 
-// Returns whether this is the name of an option that takes a number.
-fn takes_number(name: &[u8]) -> bool
-    ensures { result ≡ tips.takes_number name.now }
+// Returns the option with this name, if it takes a number.
+fn number_option(name: &[u8]) -> Option<NumberOption>
+    ensures { result ≡ tips.number_option name.now }
 {
-    name == b"--ids".as_slice()
-        || name == b"--rounds".as_slice()
-        || name == b"--channels".as_slice()
-        || name == b"--near".as_slice()
-        || name == b"--far".as_slice()
-        || name == b"--workers".as_slice()
-        || name == b"--segments".as_slice()
-        || name == b"--place".as_slice()
-        || name == b"--base".as_slice()
+    if name == b"--ids".as_slice() {
+        return Some(NumberOption::Ids);
+    }
+    if name == b"--rounds".as_slice() {
+        return Some(NumberOption::Rounds);
+    }
+    if name == b"--channels".as_slice() {
+        return Some(NumberOption::Channels);
+    }
+    if name == b"--near".as_slice() {
+        return Some(NumberOption::Near);
+    }
+    if name == b"--far".as_slice() {
+        return Some(NumberOption::Far);
+    }
+    if name == b"--workers".as_slice() {
+        return Some(NumberOption::Workers);
+    }
+    if name == b"--segments".as_slice() {
+        return Some(NumberOption::Segments);
+    }
+    if name == b"--place".as_slice() {
+        return Some(NumberOption::Place);
+    }
+    if name == b"--base".as_slice() {
+        return Some(NumberOption::Base);
+    }
+    None
 }
 
-// Returns whether a word begins neither with a digit nor with a minus sign.
-fn is_no_number(word: &[u8]) -> bool
-    ensures { result ≡ tips.is_no_number word.now }
+// Returns whether a word is a number: digits, perhaps behind a sign.
+fn is_number(word: &[u8]) -> bool
+    ensures { result ≡ tips.is_number word.now }
 {
     match word {
-        [first, ..] => !begins_with_digit(word) && *first != b'-',
-        [] => true,
+        [] => false,
+        [b'+' | b'-', rest @ ..] => is_digits(rest),
+        _ => is_digits(word),
     }
+}
+
+// Returns the number of digits at the start.
+fn digits_len(word: &[u8]) -> usize
+    ensures { result ≡ tips.digits_len word.now }
+{
+    word.iter().take_while(|byte| is_digit(**byte)).count()
+}
+
+// Returns whether all bytes are digits.
+fn is_digits(word: &[u8]) -> bool
+    ensures { result ≡ tips.is_digits word.now }
+{
+    digits_len(word) == word.len()
 }
 
 // Returns the number of bytes before the first `=` of a word.
@@ -250,24 +387,61 @@ fn is_file_name(last: &str, word: &str) -> bool
     !begins_with_minus(last) && !begins_with_minus(word) && contains(word, b'.')
 }
 
-// Returns whether a word is two minus signs and a capital.
+// Returns whether a word is the name of an option in capitals, or with a capital.
 fn is_in_capitals(word: &str) -> bool
     ensures { result ≡ tips.is_in_capitals word.now }
 {
-    match word.as_bytes() {
-        [first, second, third, ..] => *first == b'-' && *second == b'-' && is_capital(*third),
-        _ => false,
-    }
+    let name = name_part(word.as_bytes());
+    is_all_capitals(name) || has_first_capital(name)
 }
 
-// Returns whether a word is one minus sign and a letter.
+// Returns whether this is the name of an option in capitals.
+fn is_all_capitals(name: &[u8]) -> bool
+    ensures { result ≡ tips.is_all_capitals name.now }
+{
+    name == b"--IDS".as_slice()
+        || name == b"--RING".as_slice()
+        || name == b"--ROUNDS".as_slice()
+        || name == b"--CHANNELS".as_slice()
+        || name == b"--NEAR".as_slice()
+        || name == b"--FAR".as_slice()
+        || name == b"--WORKERS".as_slice()
+        || name == b"--SEGMENTS".as_slice()
+        || name == b"--PLACE".as_slice()
+        || name == b"--BASE".as_slice()
+}
+
+// Returns whether this is the name of an option with a capital as its first letter.
+fn has_first_capital(name: &[u8]) -> bool
+    ensures { result ≡ tips.has_first_capital name.now }
+{
+    name == b"--Ids".as_slice()
+        || name == b"--Ring".as_slice()
+        || name == b"--Rounds".as_slice()
+        || name == b"--Channels".as_slice()
+        || name == b"--Near".as_slice()
+        || name == b"--Far".as_slice()
+        || name == b"--Workers".as_slice()
+        || name == b"--Segments".as_slice()
+        || name == b"--Place".as_slice()
+        || name == b"--Base".as_slice()
+}
+
+// Returns whether a word is the name of an option with one minus sign.
 fn has_one_minus(word: &str) -> bool
     ensures { result ≡ tips.has_one_minus word.now }
 {
-    match word.as_bytes() {
-        [first, second, ..] => *first == b'-' && is_letter(*second),
-        _ => false,
-    }
+    let name = name_part(word.as_bytes());
+    name == b"-ids".as_slice()
+        || name == b"-ring".as_slice()
+        || name == b"-rounds".as_slice()
+        || name == b"-channels".as_slice()
+        || name == b"-near".as_slice()
+        || name == b"-far".as_slice()
+        || name == b"-workers".as_slice()
+        || name == b"-segments".as_slice()
+        || name == b"-place".as_slice()
+        || name == b"-base".as_slice()
 }
 
 // Returns whether a word begins with a dash, of either length.
@@ -282,16 +456,10 @@ fn has_dash(word: &str) -> bool
     }
 }
 
-fn is_capital(byte: u8) -> bool
-    ensures { result ≡ tips.is_capital byte }
+fn is_digit(byte: u8) -> bool
+    ensures { result ≡ tips.is_digit byte }
 {
-    matches!(byte, b'A'..=b'Z')
-}
-
-fn is_letter(byte: u8) -> bool
-    ensures { result ≡ tips.is_letter byte }
-{
-    is_capital(byte) || matches!(byte, b'a'..=b'z')
+    matches!(byte, b'0'..=b'9')
 }
 
 fn begins_with_digit(bytes: &[u8]) -> bool

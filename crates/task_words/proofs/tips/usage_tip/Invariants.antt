@@ -5,7 +5,7 @@ use Rattle.task_words.proofs.tips.usage_tip.Given as goal
 
 abbrev pub invariant-loop-word : goal.invariant-loop-word
 invariant-loop-word l = record {
-  rest : tips.usage_tip (map string_bytes l.words) ≡ tips.tip_after l.of_table l.before l.last (map string_bytes (drop l.word-index l.words));
+  rest : tips.usage_tip (map string_bytes l.words) ≡ tips.tip_after l.input l.before l.last (map string_bytes (drop l.word-index l.words));
   before : IsUtf8 l.before;
   last : IsUtf8 l.last;
 }
