@@ -17,6 +17,7 @@ READERS = [
     ("program", "judge --ids 8"),
     ("table", "audit"),
     ("table", "migrate"),
+    ("refutation", "refute --ids 3 --rounds 0 --channels 2"),
 ]
 TOOLS = ["model", "lrat"]
 
@@ -84,6 +85,24 @@ SILENT = [
     ("audit", b"hello\n"),
     ("audit", b"0 : 0\n1 : 1\nend\n"),
     ("audit", b"# a table\n0 : 0\n"),
+    ("refute --ids 3 --rounds 0 --channels 2", b"hello\n"),
+    ("refute --ids 3 --rounds 0 --channels 2", b"16 -1 0 4 6 2 3 11\n"),
+    ("refute --ids 3 --rounds 0 --channels 2", b"c nothing\n"),
+]
+
+# Lines of refutations, and the advice on them.
+LINES = [
+    (b"16 -1 0 4 6 2 3 11 0\r\n17 2 0 16 1 0\r\n", "lines end with a carriage return, which `tr -d '\\r'` takes out"),
+    (b"16  -1 0 4 6 2 3 11 0\n", "words are parted by single blanks, and a line ends without one"),
+    (b"16 -1 0 4 6 2 3 11 0 \n", "words are parted by single blanks, and a line ends without one"),
+    (b"16 -1 0 4 6 2 3 11\n", "each list ends with 0"),
+    (b"16 -1 0 4 6 2 3 11 0\n2 0\n", "a step has two lists, and each ends with 0"),
+    (b"16 -1 0 4 6 2 3 11 0\n-1 2 0\n", "`tools/lrat` adds the hints that a proof in DRAT lacks"),
+    (b"16 -1 0 4 6 2 3 11 0\n0\n", "`tools/lrat` adds the hints that a proof in DRAT lacks"),
+    (b"# a comment\n16 -1 0 4 6 2 3 11 0\n", "a comment begins with `c`"),
+    (b"", "the text is empty, so no file was given"),
+    (b"5 -1 0 4 0\n", "the options may be those of another formula\n  5 -1 0 4 0\n  ^\n"),
+    (b"16 -1 0 2 4 6 3 11 0\n", "the options may be those of another formula\n  16 -1 0 2 4 6 3 11 0\n  ^\n"),
 ]
 
 
@@ -94,6 +113,8 @@ def rows():
             yield line, text, said
     for (_, line), (text, said) in product(READERS, OTHERS):
         yield line, text, said
+    for text, said in LINES:
+        yield READERS[-1][1], text, said
 
 
 def rows_of_tools():

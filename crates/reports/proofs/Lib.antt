@@ -2,3 +2,4 @@ pub mod Joined
 pub mod Aligned
 pub mod NotRing
 pub mod Refused
+pub mod Pieces

@@ -1,6 +1,8 @@
 -- The notes on numbers of which there is no formula, and on a text that is no refutation.
-use Rattle.std.specs.Prelude.{◌≡◌, ℕ, ◌++◌, List, codes}
+use Rattle.std.specs.Prelude.{◌≡◌, ℕ, ◌-◌, ◌++◌, List, ◌∷◌, codes}
 use Rattle.std.specs.Fmt.{decimal}
+use Rattle.source_places.specs.Places.{after_lines}
+use Rattle.source_places.specs.Shown.{marked_line}
 use Rattle.fault_notes.specs.ProgramNotes.{IsIdsNote}
 use Rattle.refutation.specs.declared.fault.LineFault.{LineFault}
 use Rattle.refutation.specs.declared.fault.LineFault.TheVariants as line_fault
@@ -25,18 +27,27 @@ IsFormulaNote m t problem.TooManyClauses note = note ≡ clauses_note
 -- what is wrong with a line of a refutation
 abbrev pub line_cause : LineFault → List ℕ
 line_cause line_fault.Form =
-    codes "this line is not a step, as `5 -1 2 0 3 4 0`, a deletion, as `5 d 3 4 0`, or a comment; `tools/lrat` adds the hints that a proof in DRAT lacks"
-line_cause line_fault.NumberNotAscending = codes "the number of this step is not above those of the formula's clauses and of the steps before it"
+    codes "this line is not a step, as `5 -1 2 0 3 4 0`, a deletion, as `5 d 3 4 0`, or a comment"
+line_cause line_fault.NumberNotAscending = codes "the number of this step is not above those of the formula's clauses and of the steps before it; the options may be those of another formula"
 line_cause line_fault.UnknownVariable = codes "this clause has a variable that the formula lacks; the numbers may be those of another formula"
 line_cause line_fault.Exchange =
     codes "tables need not stay right by this exchange: identifiers are below `--ids` and channels below `--channels`, and two channels are exchanged only if near and far are at most 1"
 line_cause line_fault.UnknownHint = codes "a hint names no clause: there is none of its number yet, or it was deleted"
-line_cause line_fault.HintNotUnit = codes "the clause of a hint has several literals left, or none before the last hint"
+line_cause line_fault.HintNotUnit = codes "the clause of a hint has several literals left, or none before the last hint; the options may be those of another formula"
 line_cause line_fault.NoConflict = codes "after the last hint no clause has all its literals false"
 line_cause line_fault.NoEmptyClause = codes "the text ends here, before the empty clause"
 
+-- the start of the note on a line: its number, counted from 1, and what is wrong with it
+abbrev pub line_head : ℕ → LineFault → List ℕ
+line_head number f = codes "nbhd: line " ++ (decimal number ++ (codes ": " ++ line_cause f))
+
+-- the note on a line: its start, perhaps advice, and the line with a mark
+pub record IsLineNote (text : List ℕ) (number : ℕ) (f : LineFault) (note : List ℕ) : Type 0 where
+  pub advice : List ℕ
+  pub is : note ≡ line_head number f ++ (advice ++ 10 ∷ marked_line (after_lines (number - 1) text) 0)
+
 -- the note on a text that is no refutation; OutOfMemory has none
-abbrev pub refutation_note : RefuteError → List ℕ
-refutation_note refute.TooLong = codes "nbhd: the text of a refutation has at most 134217728 bytes\n"
-refutation_note (refute.At number f) = codes "nbhd: line " ++ (decimal number ++ (codes ": " ++ (line_cause f ++ codes "\n")))
-refutation_note refute.OutOfMemory = codes ""
+abbrev pub IsRefutationNote : List ℕ → RefuteError → List ℕ → Type 0
+IsRefutationNote text refute.TooLong note = note ≡ codes "nbhd: the text of a refutation has at most 134217728 bytes\n"
+IsRefutationNote text (refute.At number f) note = IsLineNote text number f note
+IsRefutationNote text refute.OutOfMemory note = note ≡ codes ""

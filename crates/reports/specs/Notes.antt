@@ -17,7 +17,7 @@ use Rattle.table_notes.specs.TableNotes.{long_note, IsFormNote, IsWindowNote, ch
 use Rattle.table_notes.specs.VerdictNotes.{no_tuples_note, verdict_note, HasPlaces}
 use Rattle.refutation.specs.declared.fault.RefuteError.TheVariants as refute
 use Rattle.reports.specs.Causes.{Reason, of_text, of_program, of_ring, of_place, of_segments, of_table_text, of_formula, of_refutation, of_no, of_no_tuples}
-use Rattle.reports.specs.FormulaNotes.{IsFormulaNote, refutation_note}
+use Rattle.reports.specs.FormulaNotes.{IsFormulaNote, IsRefutationNote}
 
 -- the note on a fault of a table text; OutOfMemory is no fault of one
 abbrev pub IsTableNote : List ℕ → TableFault → List ℕ → Type 0
@@ -37,7 +37,7 @@ IsNote input (of_place place places) note = note ≡ place_note place places
 IsNote input (of_segments segments places) note = note ≡ segments_note segments places
 IsNote input (of_table_text f) note = IsTableNote input f note
 IsNote input (of_formula m t f) note = IsFormulaNote m t f note
-IsNote input (of_refutation f) note = note ≡ refutation_note f
+IsNote input (of_refutation f) note = IsRefutationNote input f note
 IsNote input (of_no t ring places channels) note = note ≡ verdict_note t ring places channels
 IsNote input (of_no_tuples nodes ids) note = note ≡ no_tuples_note nodes ids
 

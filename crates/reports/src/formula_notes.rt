@@ -6,10 +6,12 @@ ghost use Rattle.win_index.specs.declared.limits.TheConstants.{MAX_ROUNDS};
 ghost use Rattle.reports.specs.FormulaNotes as notes;
 
 use crate::problem::ProblemFault;
+use crate::refutation_advice::line_advice;
 use fault_notes::ids_note;
 use node_program::OutOfMemory;
 use refutation::{LineFault, RefuteError};
-use std::alloc::Global;
+use source_places::{from_line, write_marked_line};
+use std::alloc::{AllocError, Global};
 
 // Returns the note on numbers of identifiers and rounds of which there is no formula.
 pub(crate) fn formula_note(
@@ -35,20 +37,41 @@ pub(crate) fn formula_note(
 }
 
 // Returns the note on a text that is no refutation, an empty one for `OutOfMemory`.
-pub(crate) fn refutation_note(alloc: Global, fault: RefuteError) -> Result<String, OutOfMemory>
-    ensures { IfOk result (λ note. string_bytes note ≡ notes.refutation_note fault) }
+pub(crate) fn refutation_note(
+    alloc: Global,
+    text: &[u8],
+    fault: RefuteError,
+) -> Result<String, OutOfMemory>
+    ensures { IfOk result (λ note. notes.IsRefutationNote text.now fault (string_bytes note)) }
 {
     match fault {
         RefuteError::TooLong => Ok(String::from_str(
             alloc,
             "nbhd: the text of a refutation has at most 134217728 bytes\n",
         )?),
-        RefuteError::At { line, fault } => {
-            let cause = line_cause(fault);
-            Ok(format!(in alloc; "nbhd: line {line}: {cause}\n")?)
-        }
+        RefuteError::At { line, fault } => line_note(alloc, text, line, fault),
         RefuteError::OutOfMemory => Ok(String::new(alloc)),
     }
+}
+
+// Returns the note on a line of a text, counted from 1: what is wrong with it, advice, and the line.
+fn line_note(alloc: Global, text: &[u8], line: u64, fault: LineFault) -> Result<String, OutOfMemory>
+    ensures { IfOk result (λ note. notes.IsLineNote text.now line fault (string_bytes note)) }
+{
+    let rest = from_line(text, line);
+    let mut note = line_head(alloc, line, fault)?;
+    note.push_str(line_advice(text, rest, fault))?;
+    note.push_str("\n")?;
+    write_marked_line(&mut note, rest, 0)?;
+    Ok(note)
+}
+
+// Returns the start of the note on a line: its number, and what is wrong with it.
+fn line_head(alloc: Global, line: u64, fault: LineFault) -> Result<String, AllocError>
+    ensures { IfOk result (λ head. string_bytes head ≡ notes.line_head line fault) }
+{
+    let cause = line_cause(fault);
+    format!(in alloc; "nbhd: line {line}: {cause}")
 }
 
 // Returns what is wrong with a line of a refutation.
@@ -57,10 +80,10 @@ fn line_cause(fault: LineFault) -> &'static str
 {
     match fault {
         LineFault::Form => {
-            "this line is not a step, as `5 -1 2 0 3 4 0`, a deletion, as `5 d 3 4 0`, or a comment; `tools/lrat` adds the hints that a proof in DRAT lacks"
+            "this line is not a step, as `5 -1 2 0 3 4 0`, a deletion, as `5 d 3 4 0`, or a comment"
         }
         LineFault::NumberNotAscending => {
-            "the number of this step is not above those of the formula's clauses and of the steps before it"
+            "the number of this step is not above those of the formula's clauses and of the steps before it; the options may be those of another formula"
         }
         LineFault::UnknownVariable => {
             "this clause has a variable that the formula lacks; the numbers may be those of another formula"
@@ -72,7 +95,7 @@ fn line_cause(fault: LineFault) -> &'static str
             "a hint names no clause: there is none of its number yet, or it was deleted"
         }
         LineFault::HintNotUnit => {
-            "the clause of a hint has several literals left, or none before the last hint"
+            "the clause of a hint has several literals left, or none before the last hint; the options may be those of another formula"
         }
         LineFault::NoConflict => "after the last hint no clause has all its literals false",
         LineFault::NoEmptyClause => "the text ends here, before the empty clause",

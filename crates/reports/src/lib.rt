@@ -12,6 +12,7 @@ pub mod lines;
 pub mod note;
 pub mod problem;
 pub mod refusal;
+mod refutation_advice;
 pub mod rings;
 pub mod status;
 pub mod texts;

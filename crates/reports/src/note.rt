@@ -38,7 +38,7 @@ pub fn note_on(alloc: Global, input: &[u8], cause: &Cause) -> Result<String, Out
         Cause::Segments { segments, places } => segments_note(alloc, *segments, *places),
         Cause::TableText(fault) => table_note(alloc, input, *fault),
         Cause::Formula { ids, rounds, fault } => formula_note(alloc, *ids, *rounds, *fault),
-        Cause::Refutation(fault) => refutation_note(alloc, *fault),
+        Cause::Refutation(fault) => refutation_note(alloc, input, *fault),
         Cause::No {
             rounds,
             ring,
