@@ -15,7 +15,7 @@ export function allowDragging(drawing, ring, edit, choose) {
     // Else a finger on a node would scroll the page, which ends the drag. No focus comes by itself then.
     node.addEventListener("touchstart", (event) => {
       event.preventDefault();
-      node.focus();
+      node.focus({ preventScroll: true });
     }, { passive: false });
   });
 }

@@ -14,7 +14,7 @@ import { startGraph, updateGraph } from "./view-graph.js";
 const VIEWS = { run: updateRun, judge: updateJudge, table: updateTable, graph: updateGraph };
 // The views that a value of the state belongs to. The text and the number of identifiers belong to all views.
 const USERS = {
-  ring: ["run"], step: ["run"], base: ["run"], near: ["judge", "graph"], far: ["judge", "graph"], prefix: ["table"], arrange: ["graph"],
+  ring: ["run"], step: ["run"], why: ["run"], base: ["run"], near: ["judge", "graph"], far: ["judge", "graph"], prefix: ["table"], arrange: ["graph"],
 };
 const PAUSE_MS = 250;
 
@@ -64,12 +64,12 @@ function showView() {
 function startTabs() {
   const names = Object.keys(VIEWS);
   for (const name of names) {
-    byId(`tab-${name}`).addEventListener("click", () => change({ view: name }));
+    byId(`tab-${name}`).addEventListener("click", () => change({ view: name }, { keep: true }));
     byId(`tab-${name}`).addEventListener("keydown", (event) => {
       const by = { ArrowLeft: -1, ArrowRight: 1 }[event.key];
       if (!by) return;
       const next = names[(names.indexOf(name) + by + names.length) % names.length];
-      change({ view: next });
+      change({ view: next }, { keep: true });
       byId(`tab-${next}`).focus();
     });
   }

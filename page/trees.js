@@ -21,6 +21,45 @@ export function treesOf(text) {
   return trees;
 }
 
+/** The number behind the last part of the tree whose root is at `i`. */
+function endOf(parts, i) {
+  const next = parts.findIndex(({ depth }, j) => j > i && depth <= parts[i].depth);
+  return next < 0 ? parts.length : next;
+}
+
+/**
+ * For each part of a tree its `branch`, `taken` if its value is that of an `if`, `other` if it is the one that is not, and `within`,
+ * the branches of the second kind that it stands in.
+ */
+export function branchesOf(parts) {
+  const found = parts.map(() => ({ branch: "", within: [] }));
+  parts.forEach(({ word, depth }, i) => {
+    if (word !== "if") return;
+    const operands = [];
+    for (let j = i + 1; j < endOf(parts, i); j += 1) if (parts[j].depth === depth + 1) operands.push(j);
+    const [condition, first, second] = operands;
+    const [taken, other] = parts[condition].value ? [first, second] : [second, first];
+    found[taken].branch = "taken";
+    found[other].branch = "other";
+    for (let j = other + 1; j < endOf(parts, other); j += 1) found[j].within.push(other);
+  });
+  return found;
+}
+
+/**
+ * Where the value of a register, of `L` or of `R` in a step comes from: the step's kind and round, the tree's head, and how many places
+ * further that node is; `null` for other words.
+ */
+export function sourceOf({ kind, round }, word) {
+  if (word === "L") return { kind: "send", round, head: `round ${round} right`, further: -1 };
+  if (word === "R") return { kind: "send", round, head: `round ${round} left`, further: 1 };
+  if (!/^r[0-9]$/.test(word)) return null;
+  const from = kind === "finish" ? round : round - 1;
+  return from === 0
+    ? { kind: "start", round: 0, head: `start ${word}`, further: 0 }
+    : { kind: "assign", round: from, head: `round ${from} ${word}`, further: 0 };
+}
+
 /** The trees that belong to a step of a run. */
 export function treesIn(trees, { kind, round }) {
   const heads = {

@@ -112,8 +112,9 @@ function show({ moving = false } = {}) {
   drawing.nodes.forEach((node, place) => describe(node, place, ring, step));
   if (step) showStep(step, moving);
   allowDragging(drawing, ring, edit, explain);
+  drawing.nodes[whyPlace()]?.classList.add("chosen");
   if (step) showWhy(step, ring);
-  drawing.nodes[focused]?.focus();
+  drawing.nodes[focused]?.focus({ preventScroll: true });
   return undefined;
 }
 
@@ -187,8 +188,23 @@ function highlight(place) {
 function explain(place, enter = false) {
   const step = steps?.[at];
   if (!step) return;
+  for (const node of drawing.nodes) node.classList.remove("chosen");
+  if (whyPlace() !== place) drawing.nodes[place].classList.add("chosen");
   if (whyPlace() === place) closeWhy();
-  else openWhy(place, step, readRing(state.ring), { enter, back: () => drawing?.nodes[place]?.focus() });
+  else openWhy(place, step, readRing(state.ring), { focus: enter ? "" : null, back: backTo(place) });
+}
+
+const backTo = (place) => () => drawing?.nodes[place]?.focus();
+
+/** Explains the node some places further in the step that a value comes from. */
+function lead({ kind, round, head, further }) {
+  const ring = readRing(state.ring);
+  const step = steps?.findIndex((other) => other.kind === kind && other.round === round) ?? -1;
+  if (step < 0) return;
+  const place = (whyPlace() + further + ring.length) % ring.length;
+  change({ why: String(place) }, { shown: true });
+  go(step);
+  openWhy(place, steps[step], ring, { focus: head, back: backTo(place) });
 }
 
 function edit(ring, focusPlace) {
@@ -236,7 +252,7 @@ function fillRegisters() {
 }
 
 export function startRun() {
-  startWhy();
+  startWhy(lead);
   byId("base").addEventListener("change", (event) => change({ base: event.target.value }));
   byId("back").addEventListener("click", () => { pause(); go(at - 1); });
   byId("forward").addEventListener("click", () => { pause(); go(at + 1, true); });

@@ -6,29 +6,36 @@ import { markWord, onWord } from "./editor.js";
 import { readRefusal } from "./faults.js";
 import { partTokens } from "./language.js";
 import { numerals } from "./numerals.js";
-import { state } from "./state.js";
-import { treesIn, treesOf } from "./trees.js";
+import { change, state } from "./state.js";
+import { branchesOf, sourceOf, treesIn, treesOf } from "./trees.js";
 
 const panel = byId("why");
 const box = byId("why-trees");
 
-let place = null; // of the node that is explained, if one is
 let leave = () => {}; // returns the focus
+let lead = () => {}; // shows another node in another step
 
-/** Explains the node at a place in a step of the run. With `enter` the focus goes there, and `back` returns it when that is closed. */
-export async function openWhy(at, step, ring, { enter, back }) {
-  place = at;
+/** The place of the node that is explained, or `null`. */
+export const whyPlace = () => (/^[0-9]+$/.test(state.why) ? Number(state.why) : null);
+
+/**
+ * Explains the node at a place in a step of the run. The focus goes to the tree of the head `focus`, or to the first one if that is
+ * empty, and `back` returns it when the panel is closed.
+ */
+export async function openWhy(place, step, ring, { focus = null, back }) {
+  change({ why: String(place) }, { keep: whyPlace() === null, shown: true });
   leave = back;
   await showWhy(step, ring);
-  if (enter) items()[0]?.focus();
+  if (focus === null) return;
+  const trees = [...box.querySelectorAll("[role=tree]")];
+  const tree = trees.find(({ ariaLabel }) => ariaLabel === focus) ?? trees[0];
+  tree?.parentElement.scrollIntoView({ block: "nearest" });
+  tree?.querySelector("[role=treeitem]")?.focus({ preventScroll: true });
 }
 
-export const whyPlace = () => place;
-
 export function closeWhy() {
-  if (place === null) return;
   drop("why");
-  place = null;
+  if (state.why !== "") change({ why: "" }, { shown: true });
   panel.hidden = true;
   box.replaceChildren();
   markWord(null);
@@ -36,33 +43,67 @@ export function closeWhy() {
 
 /** Shows the trees of the node that is explained, if one is, in another step. */
 export async function showWhy(step, ring) {
-  if (place === null) return;
-  if (place >= ring.length) return closeWhy();
+  const place = whyPlace();
+  if (place === null || place >= ring.length) return panel.hidden && state.why === "" ? undefined : closeWhy();
   const { ids, text } = state;
   const answer = await ask("why", "explain", { ids, ring: ring.join(","), place: String(place) }, text);
-  if (answer === undefined || place === null) return;
-  byId("why-heading").textContent = `Why? Node ${ring[place]} at place ${place}`;
+  if (answer === undefined || whyPlace() !== place) return undefined;
+  byId("why-heading").textContent = `Why? Node ${numerals(ring, state.base)[place]} at place ${place}`;
   panel.hidden = false;
   if (answer.status !== 0) {
     const { line, note } = readRefusal(answer, text);
     return box.replaceChildren(html("p", { class: "refused" }, ...coded(note || line)));
   }
   const tokens = partTokens(text);
-  return box.replaceChildren(...treesIn(treesOf(answer.out), step).map((tree) => drawTree(tree, tokens)));
+  box.replaceChildren(...treesIn(treesOf(answer.out), step).map((tree) => drawTree(tree, tokens, step, ring)));
+  panel.scrollTop = 0;
+  return bringIntoView();
 }
 
-function drawTree({ head, parts }, tokens) {
+/** Scrolls the page so that the ring and the panel are both in view. */
+function bringIntoView() {
+  const ring = byId("stage").getBoundingClientRect();
+  const own = panel.getBoundingClientRect();
+  const isBelow = getComputedStyle(panel).position === "fixed" && own.left < ring.right && own.right > ring.left;
+  if (ring.top < 0 || ring.bottom > (isBelow ? own.top : innerHeight)) scrollBy(0, ring.top - 4);
+}
+
+function drawTree({ head, parts }, tokens, step, ring) {
   const values = numerals(parts.map(({ value }) => value), state.base);
-  const items = parts.map(({ depth, word, number }, i) => html("li", {
-    role: "treeitem", "aria-level": depth, "data-part": number, tabindex: i === 0 ? "0" : "-1", style: { paddingLeft: `${depth * 1.3}em` },
-    onfocus: () => mark(number, tokens), onpointerenter: () => mark(number, tokens),
-    onkeydown: (event) => treeKey(event),
-  }, html("code", {}, word), " ", html("b", { class: "code" }, values[i])));
-  return html("section", { class: "tree" }, html("h4", {}, ...coded(`\`${head}\``)),
-    html("ul", { role: "tree", "aria-label": head }, items));
+  const branches = branchesOf(parts);
+  const folded = new Set(branches.flatMap((_, i) => (branches.some(({ within }) => within.includes(i)) ? [i] : [])));
+  const list = html("ul", { role: "tree", "aria-label": head });
+  const fold = (i, closed) => {
+    if (closed) folded.add(i);
+    else folded.delete(i);
+    list.children[i].ariaExpanded = String(!closed);
+    branches.forEach(({ within }, j) => { list.children[j].hidden = within.some((other) => folded.has(other)); });
+  };
+  list.append(...parts.map(({ depth, word, number }, i) => {
+    const source = sourceOf(step, word);
+    const follow = source && (() => lead(source));
+    const turn = folded.has(i) && (() => fold(i, !folded.has(i)));
+    return html("li", {
+      role: "treeitem", class: branches[i].branch, "aria-level": depth, "data-part": number, tabindex: i === 0 ? "0" : "-1",
+      style: { paddingLeft: `${depth * 1.1 - 0.6}em` },
+      onfocus: () => mark(number, tokens), onpointerenter: () => mark(number, tokens), onkeydown: (event) => treeKey(event, follow, turn),
+    }, html("code", {}, word), " ", html("b", { class: "code" }, values[i]),
+    source && html("button", { type: "button", class: "source", tabindex: "-1", onclick: follow }, nameOf(source, ring)),
+    branches[i].branch && html("span", { class: "branch", onclick: turn || null }, BRANCHES[branches[i].branch]));
+  }));
+  for (const i of folded) fold(i, true);
+  return html("section", { class: "tree" }, html("h4", {}, ...coded(`\`${head}\``)), list);
 }
 
-const items = () => [...box.querySelectorAll("[role=treeitem]")];
+const BRANCHES = { taken: "taken", other: "not taken" };
+
+/** What the button to the source of a value says. */
+function nameOf({ kind, round, further }, ring) {
+  if (further) return `from node ${numerals(ring, state.base).at((whyPlace() + further) % ring.length)}`;
+  return kind === "start" ? "from start" : `from round ${round}`;
+}
+
+const items = () => [...box.querySelectorAll("[role=treeitem]:not([hidden])")];
 
 /** Marks a part of a tree, and its word in the program. */
 function mark(number, tokens) {
@@ -70,23 +111,32 @@ function mark(number, tokens) {
   markWord(tokens[number] ?? null);
 }
 
-/** Arrows go along the parts: up and down to the next ones, left to the whole of which a part is one, right to its first part. */
-function treeKey(event) {
+/**
+ * Arrows go along the parts: up and down to the next ones, left to the whole of which a part is one, right to its first part, which
+ * unfolds it. Enter leads to where the part's value comes from.
+ */
+function treeKey(event, follow, turn) {
   const all = items();
-  const at = all.indexOf(event.target);
-  const level = (item) => Number(item?.ariaLevel ?? 0);
+  const item = event.currentTarget;
+  const at = all.indexOf(item);
+  const level = (other) => Number(other?.ariaLevel ?? 0);
   let to;
   if (event.key === "ArrowDown") to = all[at + 1];
   else if (event.key === "ArrowUp") to = all[at - 1];
-  else if (event.key === "ArrowRight") to = level(all[at + 1]) > level(event.target) ? all[at + 1] : undefined;
-  else if (event.key === "ArrowLeft") to = all.slice(0, at).findLast((item) => level(item) < level(event.target));
+  else if (event.key === "ArrowRight" && item.ariaExpanded === "false") turn();
+  else if (event.key === "ArrowLeft" && item.ariaExpanded === "true") turn();
+  else if (event.key === "ArrowRight") to = level(all[at + 1]) > level(item) ? all[at + 1] : undefined;
+  else if (event.key === "ArrowLeft") to = all.slice(0, at).findLast((other) => level(other) < level(item));
+  else if (event.key === "Enter" && follow) follow();
   else return;
   event.preventDefault();
   event.stopPropagation();
   to?.focus();
 }
 
-export function startWhy() {
+/** `show` shows the node a number of places further in another step, at the tree of a head. */
+export function startWhy(show) {
+  lead = show;
   const close = () => {
     closeWhy();
     leave();
@@ -100,7 +150,7 @@ export function startWhy() {
   box.addEventListener("pointerleave", () => markWord(null));
   // The other way round: the part of the word that the cursor is in.
   onWord((index) => {
-    if (place === null) return;
+    if (whyPlace() === null) return;
     const number = partTokens(state.text).findIndex(({ at, length }) => at <= index && index <= at + length);
     for (const item of items()) {
       const here = Number(item.dataset.part) === number;

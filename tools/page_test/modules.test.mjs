@@ -12,7 +12,7 @@ import { numerals } from "../../page/numerals.js";
 import { readRing, whyNoRing, withCommas } from "../../page/ring-text.js";
 import { countChannels, edgesOf, leastBytes, readTable } from "../../page/table.js";
 import { equalPairs, nameOf, sentenceOf, stepsOf } from "../../page/trace.js";
-import { treesIn, treesOf } from "../../page/trees.js";
+import { branchesOf, sourceOf, treesIn, treesOf } from "../../page/trees.js";
 import { readNo } from "../../page/verdict.js";
 
 const FAULTY = "rounds 1\nchannels 6\nregisters 1\nstart\nr0 = id\nround\n  send lift 0\n";
@@ -171,6 +171,23 @@ test("trees: the trees of an explanation, and those of a step", () => {
     ["start r0"], ["round 1 left", "round 1 right"], ["round 1 r0"], ["finish"],
   ]);
   assert.deepEqual(heads("assign", 2), []);
+});
+
+test("trees: the branch of an if that counts, and what stands in the other", () => {
+  const [{ parts }] = treesOf("round 2 r0\n if 7\n  eq 0\n   r0 1\n   3 3\n  if 1\n   0 0\n   5 5\n   1 1\n  add 7\n   L 3\n   4 4\n");
+  const branches = branchesOf(parts);
+  assert.deepEqual(branches.map(({ branch }) => branch), ["", "", "", "", "other", "", "other", "taken", "taken", "", ""]);
+  assert.deepEqual(branches.map(({ within }) => within), [[], [], [], [], [], [4], [4], [4], [], [], []]);
+});
+
+test("trees: where a value comes from", () => {
+  const found = (kind, round, word) => sourceOf({ kind, round }, word);
+  assert.deepEqual(found("finish", 0, "r1"), { kind: "start", round: 0, head: "start r1", further: 0 });
+  assert.deepEqual(found("finish", 2, "r1"), { kind: "assign", round: 2, head: "round 2 r1", further: 0 });
+  assert.deepEqual(found("send", 2, "r0"), { kind: "assign", round: 1, head: "round 1 r0", further: 0 });
+  assert.deepEqual(found("assign", 2, "L"), { kind: "send", round: 2, head: "round 2 right", further: -1 });
+  assert.deepEqual(found("assign", 2, "R"), { kind: "send", round: 2, head: "round 2 left", further: 1 });
+  for (const word of ["id", "3", "add"]) assert.equal(found("assign", 1, word), null);
 });
 
 test("language: the words of expressions, as the trees have them", () => {

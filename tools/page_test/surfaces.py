@@ -306,7 +306,9 @@ def binary(page):
     page.wait("decimal again", "document.querySelector('.message.right text').textContent === '5' && !location.hash.includes('base=')")
 
 
-ITEMS = "[...document.querySelectorAll('[role=treeitem]')]"
+ITEMS = "[...document.querySelectorAll('[role=treeitem]:not([hidden])')]"
+# The word and the value of a part.
+PART = "(e => [...e.querySelectorAll('code, b')].map(e => e.textContent).join(' '))"
 
 
 def why(page):
@@ -323,7 +325,7 @@ def why(page):
             page.wait(f"a run for why at {step}", "document.querySelectorAll('#stage .label').length === 4")
             open_why(page, way)
             page.wait(f"why at {step} by {way}", f"{ITEMS}.length")
-            found = page.value(f"{ITEMS}.map(e => [Number(e.ariaLevel), ...e.textContent.split(' ')])")
+            found = page.value(f"{ITEMS}.map(e => [Number(e.ariaLevel), {PART}(e).split(' ')].flat())")
             parts = [[(len(line) - len(line.lstrip()), *line.split()) for line in trees[head]] for head in wanted]
             values = [in_base_two([part[2] for part in tree]) if base == "2" else [part[2] for part in tree] for tree in parts]
             shown = [[part[0], part[1], value] for tree, texts in zip(parts, values) for part, value in zip(tree, texts)]
@@ -347,13 +349,77 @@ def open_why(page, way):
         page.browser.drag(*[page.middle(f"{node} .disc")] * 2)
 
 
+# The nodes and the first two lines of the tree are in view, and nothing lies over them.
+NEAR = """[...document.querySelectorAll('#stage .disc'), ...[...document.querySelectorAll('[role=treeitem] code')].slice(0, 2)].every(e => {
+    const r = e.getBoundingClientRect(), [x, y] = [r.x + r.width / 2, r.y + r.height / 2];
+    const seen = document.elementFromPoint(x, y)?.closest('#stage, #why');
+    return r.top >= 0 && r.bottom <= innerHeight && seen && seen === e.closest('#stage, #why');
+})"""
+
+
+def why_in_view(page):
+    """The ring and the tree are in view together, at once and after each step; a branch that does not count is folded."""
+    three = (ROOT / "examples/tutorial_three.txt").read_text()
+    for width, height, way in ((1366, 768, "mouse"), (1280, 800, "mouse"), (820, 1180, "finger"), (390, 844, "finger"), (640, 400, "mouse")):
+        page.browser.size(width, height)
+        page.browser.fingers(way == "finger")
+        page.open(**{**START, "ring": "5,1,3,7,0,2,6,4", "step": "", "example": "tutorial_three.txt"})
+        page.wait("a run for what is in view", "document.querySelectorAll('#stage .label').length === 8")
+        open_why(page, way)
+        for number in range(8):
+            page.wait(f"the ring and the tree at {width}, step {number}", f"{ITEMS}.length && {NEAR}")
+            if number < 7:
+                page.click("#forward")
+    page.browser.fingers(False)
+    page.browser.size(1280, 900)
+    page.open(**{**START, "ring": "5,1,3,7,0,2,6,4", "step": "6", "why": "3", "text": three})
+    page.wait("a link to why", f"{ITEMS}.length === 8")
+    STEPS.equal("the branch that counts", page.texts("li.taken code"), ["min"])
+    STEPS.equal("the other one", page.texts("li.other code"), ["if"])
+    page.focus("li.other")
+    page.browser.key("ArrowRight")
+    lines = nbhd(three, "explain", "--ids", "8", "--ring", "5,1,3,7,0,2,6,4", "--place", "3").split("\nround 3 r0\n")[1].split("\nfinish")[0]
+    # A branch in the other one stays folded.
+    STEPS.check("it is unfolded", 8 < page.value(f"{ITEMS}.length") <= len(lines.splitlines()), page.value(f"{ITEMS}.length"))
+    page.browser.key("ArrowLeft")
+    STEPS.equal("it is folded again", page.value(f"{ITEMS}.length"), 8)
+
+
+def why_leads_on(page):
+    """A value leads to the step that it comes from; the panel is in the link, and Back closes it and goes from tab to tab."""
+    page.open(**START)
+    page.wait_ring("a run that is asked why", "5,1,3,7")
+    # By the mouse, as Back skips what a page adds without a press.
+    page.browser.drag(*[page.middle("#tab-judge")] * 2)
+    page.wait("the judge", "document.querySelector('#verdict .word')")
+    page.browser.drag(*[page.middle("#tab-run")] * 2)
+    page.wait_ring("the run again", "5,1,3,7")
+    open_why(page, "mouse")
+    page.wait("why at finish", "document.querySelector('.tree .source')")
+    STEPS.check("it is in the link", "&why=1" in page.value("location.hash"), page.value("location.hash"))
+    page.click(".tree .source")
+    page.wait("the round that gave the register", "document.querySelector('.tree h4')?.textContent === 'round 1 r0'")
+    STEPS.equal("the focus is there", page.value(f"{PART}(document.activeElement)"), "add 4")
+    page.value(f"{ITEMS}.find(e => {PART}(e) === 'L 5').querySelector('.source').click()")
+    page.wait("the neighbour that sent it", "document.querySelector('#why-heading').textContent === 'Why? Node 5 at place 0'")
+    sent = page.texts(".tree h4")
+    STEPS.equal("what it sent", (sent, page.value(f"{PART}(document.activeElement)")), (["round 1 left", "round 1 right"], "r0 5"))
+    page.wait("the link follows", "location.hash.includes('step=1&why=0')")
+    page.value("history.back()")
+    page.wait("Back closes it", "document.querySelector('#why').hidden && !location.hash.includes('why=')")
+    page.value("history.back()")
+    page.wait("Back to the judge", "document.querySelector('#tab-judge').ariaSelected === 'true'")
+    page.value("history.back()")
+    page.wait("Back to the run", "document.querySelector('#tab-run').ariaSelected === 'true'")
+
+
 def why_keys(page):
     """Arrows go along the tree, whose parts mark their words and the other way round; Escape closes it."""
     page.open(**START, step="2")
     page.wait("a run for the keys of why", "document.querySelectorAll('#stage .label').length === 4")
     open_why(page, "keys")
     page.wait("a tree", f"{ITEMS}.length === 11")
-    asked = "[document.activeElement.textContent, document.querySelector('.ink .asked')?.textContent]"
+    asked = f"[{PART}(document.activeElement), document.querySelector('.ink .asked')?.textContent]"
     for key, part, word in (
         ("ArrowDown", "shl 4", "shl"),
         ("ArrowRight", "ldb 2", "ldb"),
@@ -375,4 +441,4 @@ def why_keys(page):
     STEPS.equal("and returns to the node", page.value("document.activeElement.dataset.place"), "1")
 
 
-SURFACES = [help_panel, documents, colours, touch, readers, screens, numbers, examples_by_name, localhost, graph_by_distance, paper, binary, why]
+SURFACES = [help_panel, documents, colours, touch, readers, screens, numbers, examples_by_name, localhost, graph_by_distance, paper, binary, why, why_in_view, why_leads_on]
