@@ -1,11 +1,11 @@
 -- The statements of the laws of this crate, one definition each.
-use Rattle.std.specs.Prelude.{◌≡◌, ◌↔◌, ℕ, ◌+◌, ◌*◌, ◌<◌, ◌≤◌, ◌⊎◌, Option, Some, List, length}
+use Rattle.std.specs.Prelude.{◌≡◌, ◌↔◌, ℕ, ◌+◌, ◌*◌, ◌<◌, ◌≤◌, ◌⊎◌, Option, List, length}
 use Rattle.win_index.specs.Ring.{IsRing}
-use Rattle.win_index.specs.Arcs.{window_around, part_at}
+use Rattle.win_index.specs.Arcs.{window_around}
 use Rattle.win_index.specs.Windows.{IsWindow}
 use Rattle.channel_tables.specs.Tables.{ChannelTable, channel_of}
 use Rattle.channel_tables.specs.declared.separation.Separation.{Separation}
-use Rattle.bad_tuples.specs.Apart.{extra, AreClose, IsBad, IsApart, IsApartEverywhere, IsLeastBad}
+use Rattle.bad_tuples.specs.Apart.{extra, AreClose, IsBad, IsApart, IsApartEverywhere}
 use Rattle.bad_tuples.specs.Proper.{IsProper, IsGoodEverywhere}
 use Rattle.bad_tuples.specs.Witnesses.{IsWitness}
 
@@ -29,17 +29,6 @@ OneApartIsProper = (t : ChannelTable) → IsApart t (record { near = 1; far = 0 
 -- and its channels are apart on every ring exactly if those of neighbours differ on every ring
 abbrev pub OneApartIsGood : Type 0
 OneApartIsGood = (t : ChannelTable) → IsApartEverywhere t (record { near = 1; far = 0 }) ↔ IsGoodEverywhere t
-
--- the least bad tuple of a table of t rounds, as a ring, is that of a witness, with the places t and t+1 if neighbours
--- are too close there, else t and t+2, and their channels
-abbrev pub LeastBadIsWitness : Type 0
-LeastBadIsWitness =
-    (t : ChannelTable) (s : Separation) (number step first second : ℕ) (tuple : List ℕ)
-    → let channel_at : ℕ → Option ℕ = λ step. channel_of t (part_at t.rounds step tuple) in
-    let close = AreClose s.near (channel_at 0) (channel_at 1) in
-    IsLeastBad t s 0 number tuple → (close × (step ≡ 1)) ⊎ ((¬ close) × (step ≡ 2)) → step ≤ extra s
-    → channel_at 0 ≡ Some first → channel_at step ≡ Some second
-    → IsWitness t s tuple (t.rounds, t.rounds + step) (first, second)
 
 -- a table has at most one witness
 abbrev pub OneWitness : Type 0

@@ -17,12 +17,6 @@ pub fn one_apart_differs()
     ensures good { law.OneApartIsGood }
 {}
 
-/// The least bad tuple of a table is the ring of a witness, with the channels of its first window
-/// and of its second or third one.
-pub fn least_bad_is_witness()
-    ensures { law.LeastBadIsWitness }
-{}
-
 /// A table has at most one witness: the ring, the places and the channels of the judge's no. A
 /// table whose channels are apart everywhere has none. Both places are places of the ring.
 #[tactic(auto, using(crate::proofs::Witnesses::one_witness))]

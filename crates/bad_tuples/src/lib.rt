@@ -3,10 +3,14 @@
 #![tactic(auto)]
 
 mod laws;
+mod tuple_lists;
 mod tuples;
+mod windows;
+mod witness;
 
 pub use channel_tables::Separation;
-pub use laws::{
-    least_bad_is_witness, less_is_apart, one_apart_differs, one_witness, tuples_suffice,
-};
-pub use tuples::{Tuples, judge_part, tuple_count, tuple_len, write_tuple};
+pub use laws::{less_is_apart, one_apart_differs, one_witness, tuples_suffice};
+pub use tuple_lists::TupleLists;
+pub use tuples::{Tuples, judge_part};
+pub use windows::Windows;
+pub use witness::Witness;

@@ -31,11 +31,7 @@ struct Row<'a> {
 fn found_in(verdict: &Verdict) -> Option<(&[u32], (u32, u32), (u32, u32))> {
     match verdict {
         Verdict::Yes => None,
-        Verdict::No {
-            ring,
-            places,
-            channels,
-        } => Some((ring.as_slice(), *places, *channels)),
+        Verdict::No(witness) => Some((witness.ring.as_slice(), witness.places, witness.channels)),
     }
 }
 

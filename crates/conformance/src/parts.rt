@@ -3,7 +3,7 @@
 use crate::filling::table_by;
 use channel_tables::Table;
 use lang_check::Plan;
-use nbhd_check::{Separation, judge_part, tuple_count};
+use nbhd_check::{Separation, Tuples, judge_part};
 use std::alloc::Global;
 use std::sync::Wait;
 use std::test::Fail;
@@ -20,7 +20,11 @@ const NEIGHBOURS_DIFFER: Separation = Separation { near: 1, far: 0 };
 // Returns what is the least number of a bad tuple from `low` on and below `high`, or `None` if a
 // table has no such part.
 fn least_in(table: &Table, low: u64, high: u64) -> Option<Option<u64>> {
-    if low > high || high > tuple_count(table, NEIGHBOURS_DIFFER) {
+    let tuples = Tuples {
+        windows: table,
+        separation: NEIGHBOURS_DIFFER,
+    };
+    if low > high || high > tuples.count() {
         return None;
     }
     Some(judge_part(table, NEIGHBOURS_DIFFER, low, high))

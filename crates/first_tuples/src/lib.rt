@@ -3,5 +3,6 @@
 #![tactic(auto)]
 
 mod first_tuples;
+mod program_windows;
 
-pub use first_tuples::{FIRST_TUPLES, Witness, first_witness};
+pub use first_tuples::{FIRST_TUPLES, first_witness};

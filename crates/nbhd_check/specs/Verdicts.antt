@@ -8,4 +8,4 @@ use Rattle.nbhd_check.specs.declared.verdict.Verdict.TheVariants.{Yes, No}
 
 abbrev pub IsVerdict : ChannelTable → Separation → Verdict → Type 0
 IsVerdict t s Yes = IsApartEverywhere t s
-IsVerdict t s (No ring places channels) = IsWitness t s ring.items places channels
+IsVerdict t s (No witness) = IsWitness t s witness.ring.items witness.places witness.channels

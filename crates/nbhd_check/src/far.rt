@@ -10,7 +10,7 @@ use crate::far_masks::FarMasks;
 use crate::masks::{group_masks, windows_per_family};
 use crate::run_search::{window_count, windows_per_run};
 use crate::search::{Search, free_windows};
-use bad_tuples::{Tuples, judge_part};
+use bad_tuples::Tuples;
 use channel_tables::Table;
 use std::alloc::Global;
 use std::thread::Threads;
@@ -28,15 +28,15 @@ const FIRST_TUPLES: usize = 1 << 13;
 pub(crate) fn far_free_windows<R: Threads + Sync>(
     rt: &R,
     alloc: Global,
-    tuples: Tuples,
+    tuples: Tuples<'_, Table>,
     most: u32,
     threads: u32,
 ) -> u32
-    requires { IsFarSearch tuples.table.now tuples.separation most }
-    ensures { AreFree tuples.entry.table.now (BeginsBadTuple tuples.entry.table.now tuples.entry.separation) 0 result }
+    requires { IsFarSearch tuples.windows.now tuples.separation most }
+    ensures { AreFree tuples.entry.windows.now (BeginsBadTuple tuples.entry.windows.now tuples.entry.separation) 0 result }
 {
-    let few = windows_before_masks(tuples.table).min(most);
-    if !is_long_search(tuples.table, most) || has_bad_tuple(tuples, 0, few) {
+    let few = windows_before_masks(tuples.windows).min(most);
+    if !is_long_search(tuples.windows, most) || has_bad_tuple(tuples, 0, few) {
         return 0;
     }
     if let Some(free) = free_by_masks(rt, alloc, tuples, most, threads) {
@@ -59,14 +59,17 @@ fn windows_before_masks(table: &Table) -> u32
 fn free_by_masks<R: Threads + Sync>(
     rt: &R,
     alloc: Global,
-    tuples: Tuples,
+    tuples: Tuples<'_, Table>,
     most: u32,
     threads: u32,
 ) -> Option<u32>
-    requires { IsFarSearch tuples.table.now tuples.separation most }
-    ensures { IfSome result (AreFree tuples.entry.table.now (BeginsBadTuple tuples.entry.table.now tuples.entry.separation) 0) }
+    requires { IsFarSearch tuples.windows.now tuples.separation most }
+    ensures { IfSome result (AreFree tuples.entry.windows.now (BeginsBadTuple tuples.entry.windows.now tuples.entry.separation) 0) }
 {
-    let Tuples { table, separation } = tuples;
+    let Tuples {
+        windows: table,
+        separation,
+    } = tuples;
     let distance = separation.far;
     let masks = group_masks(alloc, table, windows_per_family(table), distance);
     if masks.is_empty() {
@@ -90,14 +93,17 @@ fn free_by_masks<R: Threads + Sync>(
 fn free_by_counts<R: Threads + Sync>(
     rt: &R,
     alloc: Global,
-    tuples: Tuples,
+    tuples: Tuples<'_, Table>,
     most: u32,
     threads: u32,
 ) -> Option<u32>
-    requires { IsFarSearch tuples.table.now tuples.separation most }
-    ensures { IfSome result (AreFree tuples.entry.table.now (BeginsBadTuple tuples.entry.table.now tuples.entry.separation) 0) }
+    requires { IsFarSearch tuples.windows.now tuples.separation most }
+    ensures { IfSome result (AreFree tuples.entry.windows.now (BeginsBadTuple tuples.entry.windows.now tuples.entry.separation) 0) }
 {
-    let Tuples { table, separation } = tuples;
+    let Tuples {
+        windows: table,
+        separation,
+    } = tuples;
     let distance = separation.far;
     let limit = channel_limit(table);
     let family = windows_per_family(table) as u64;
@@ -118,13 +124,13 @@ fn free_by_counts<R: Threads + Sync>(
 }
 
 // Returns whether one of the `count` windows from number `first` on begins a bad tuple.
-fn has_bad_tuple(tuples: Tuples, first: u32, count: u32) -> bool
-    requires { first + count ≤ length (windows_of tuples.table.now) }
+fn has_bad_tuple(tuples: Tuples<'_, Table>, first: u32, count: u32) -> bool
+    requires { first + count ≤ length (windows_of tuples.windows.now) }
 {
     let each = tuples.per_window();
     let low = u64::from(first) * each;
     let high = low + u64::from(count) * each;
-    judge_part(tuples.table, tuples.separation, low, high).is_some()
+    tuples.least_bad(low, high).is_some()
 }
 
 // Estimates whether a test of all tuples that begin with one of the first `most` windows takes more

@@ -6,8 +6,8 @@ ghost use Rattle.bad_tuples.specs.Searches.{IsLeastOfAll};
 
 use crate::far::far_free_windows;
 use crate::near::near_free_windows;
-use bad_tuples::{Tuples, judge_part, tuple_count};
-use channel_tables::Separation;
+use bad_tuples::Tuples;
+use channel_tables::{Separation, Table};
 use std::alloc::Global;
 use std::thread::Threads;
 
@@ -15,24 +15,31 @@ use std::thread::Threads;
 pub(crate) fn least_of_all<R: Threads + Sync>(
     rt: &R,
     alloc: Global,
-    tuples: Tuples,
+    tuples: Tuples<'_, Table>,
     threads: u32,
 ) -> Option<u64>
-    ensures { IsLeastOfAll tuples.entry.table.now tuples.entry.separation result }
+    ensures { IsLeastOfAll tuples.entry.windows.now tuples.entry.separation result }
 {
-    let Tuples { table, separation } = tuples;
     let first = first_windows(rt, alloc, tuples, threads);
-    let count = tuple_count(table, separation);
+    let count = tuples.count();
     let low = u64::from(first) * tuples.per_window();
-    judge_part(table, separation, low.min(count), count)
+    tuples.least_bad(low.min(count), count)
 }
 
 // Returns a number of windows such that none of the windows below it begins a bad tuple. Neighbours
 // are judged first, by their masks, which takes the least time.
-fn first_windows<R: Threads + Sync>(rt: &R, alloc: Global, tuples: Tuples, threads: u32) -> u32
-    ensures { AreFree tuples.entry.table.now (BeginsBadTuple tuples.entry.table.now tuples.entry.separation) 0 result }
+fn first_windows<R: Threads + Sync>(
+    rt: &R,
+    alloc: Global,
+    tuples: Tuples<'_, Table>,
+    threads: u32,
+) -> u32
+    ensures { AreFree tuples.entry.windows.now (BeginsBadTuple tuples.entry.windows.now tuples.entry.separation) 0 result }
 {
-    let Tuples { table, separation } = tuples;
+    let Tuples {
+        windows: table,
+        separation,
+    } = tuples;
     if table.shape().rounds() == 0 {
         return single_windows(tuples);
     }
@@ -45,15 +52,22 @@ fn first_windows<R: Threads + Sync>(rt: &R, alloc: Global, tuples: Tuples, threa
 
 // Like `first_windows`, for no rounds. A window is one identifier then, and each other one can be
 // next to it and at distance two.
-fn single_windows(tuples: Tuples) -> u32
-    requires { tuples.table.now.rounds ≡ 0 }
-    ensures { AreFree tuples.entry.table.now (BeginsBadTuple tuples.entry.table.now tuples.entry.separation) 0 result }
+fn single_windows(tuples: Tuples<'_, Table>) -> u32
+    requires { tuples.windows.now.rounds ≡ 0 }
+    ensures { AreFree tuples.entry.windows.now (BeginsBadTuple tuples.entry.windows.now tuples.entry.separation) 0 result }
 {
-    let Tuples { table, separation } = tuples;
+    let Tuples {
+        windows,
+        separation,
+    } = tuples;
     let near = separation.near.max(separation.far);
     let separation = Separation { near, far: 0 };
-    let count = tuple_count(table, separation);
-    let first = judge_part(table, separation, 0, count).unwrap_or(count);
-    let each = u64::from(table.shape().ids()) - 1;
+    let nearest = Tuples {
+        windows,
+        separation,
+    };
+    let count = nearest.count();
+    let first = nearest.least_bad(0, count).unwrap_or(count);
+    let each = u64::from(windows.shape().ids()) - 1;
     (first / each) as u32
 }

@@ -1,12 +1,11 @@
 //! The judge's calls, and its verdict.
 use crate::least::least_of_all;
-use bad_tuples::{Tuples, tuple_len, write_tuple};
+use bad_tuples::{Tuples, Witness};
 use channel_tables::{Separation, Table};
 use node_program::OutOfMemory;
 use rayon::current_num_threads;
 use std::alloc::Global;
 use std::thread::Threads;
-use win_index::MAX_TUPLE_LEN;
 
 /// The verdict of the judge.
 #[derive(Debug, PartialEq, Eq, Drop)]
@@ -14,18 +13,11 @@ pub enum Verdict {
     /// On every ring the channels are as far apart as the separation requires.
     Yes,
     /// The channels of two places of a ring are closer.
-    No {
-        /// The ring's identifiers, from place 0 on.
-        ring: Vec<u32>,
-        /// Place `t` for `t` rounds, and its right neighbour or the place after that.
-        places: (u32, u32),
-        /// The channels of the two places.
-        channels: (u32, u32),
-    },
+    No(Witness),
 }
 
-ghost use Rattle.std.specs.Prelude.{◌≡◌, ℕ, List, ◌↔◌, IfOk, OnErr};
-ghost use Rattle.bad_tuples.specs.Apart.{IsApartEverywhere, IsLeastBad};
+ghost use Rattle.std.specs.Prelude.{◌≡◌, ◌↔◌, IfOk, OnErr};
+ghost use Rattle.bad_tuples.specs.Apart.{IsApartEverywhere};
 ghost use Rattle.nbhd_check.specs.Verdicts.{IsVerdict};
 
 /// Judges whether channels are as far apart as the separation requires on every ring of the table's
@@ -65,32 +57,12 @@ pub fn judge_with_workers<R: Threads + Sync>(
     ensures yes { IfOk result (λ verdict. (verdict ≡ Verdict.Yes) ↔ IsApartEverywhere table.now separation) }
     ensures memory { OnErr result (¬ IsApartEverywhere table.now separation) }
 {
-    let tuples = Tuples { table, separation };
+    let tuples = Tuples {
+        windows: table,
+        separation,
+    };
     match least_of_all(rt, alloc, tuples, workers) {
         None => Ok(Verdict::Yes),
-        Some(number) => no(alloc, tuples, number),
+        Some(number) => Ok(Verdict::No(tuples.witness(alloc, number)?)),
     }
-}
-
-// Returns the verdict on a table whose least bad tuple has this number.
-#[tactic(auto, using(bad_tuples::proofs::Witnesses::bad_is_not_apart))]
-fn no(alloc: Global, tuples: Tuples, number: u64) -> Result<Verdict, OutOfMemory>
-    requires { (tuple : List ℕ) × IsLeastBad tuples.table.now tuples.separation 0 number tuple }
-    ensures verdict { IfOk result (IsVerdict tuples.entry.table.now tuples.entry.separation) }
-    ensures yes { IfOk result (λ verdict. (verdict ≡ Verdict.Yes) ↔ IsApartEverywhere tuples.entry.table.now tuples.entry.separation) }
-    ensures memory { OnErr result (¬ IsApartEverywhere tuples.entry.table.now tuples.entry.separation) }
-{
-    let mut cells = [0; MAX_TUPLE_LEN];
-    let tuple = &mut cells[..tuple_len(tuples.table, tuples.separation)];
-    write_tuple(tuples.table, tuples.separation, number, tuple);
-    let step = tuples.broken_step(tuple);
-    let first = tuples.channel_from(tuple, 0);
-    let second = tuples.channel_from(tuple, step as usize);
-    let ring = tuple.to_vec(alloc)?;
-    let place = tuples.table.shape().rounds();
-    Ok(Verdict::No {
-        ring,
-        places: (place, place + step),
-        channels: (first, second),
-    })
 }

@@ -43,7 +43,8 @@ in_judgement placed input t s r few ids (bad ring places channels witness says) 
     let is = placed t s ring places channels witness in
     let long = is.0.long in
     let short = is.0.short in
-    its_cause input r _ says.2 (record { few_rounds = few; long = omega (arith, long); short = omega (arith, short, ids); first = is.1; second = is.2 })
+    let at' = witness.first_place in
+    its_cause input r _ says.2 (record { few_rounds = omega (arith, at', few); long = omega (arith, at', long); short = omega (arith, short, ids); first = is.1; second = is.2 })
 
 in_list : (input : List ℕ) (m t : ℕ) (places : List ℕ) (said : Report → Type 0) (r : Report) → t ≤ MAX_ROUNDS → (said r → IsOfInput input r)
     → IsAnswerOnRing m t places said r → IsOfInput input r

@@ -12,7 +12,7 @@ ghost use Rattle.reports.specs.Report.{Says, IsAnswerOnRing, IsJudgement, IsRunA
 use crate::places::places_text;
 use channel_tables::Table;
 use devices::fault::EngineFault;
-use first_tuples::{Witness, first_witness};
+use first_tuples::first_witness;
 use lang_check::Plan;
 use nbhd_check::{Separation, judge_with_workers};
 use reports::answer::Answer;
@@ -117,12 +117,7 @@ pub(crate) fn judge_report<T: Threads + Wait + Sync>(
     ensures fault { IfErr result (IsTaskFault workers) }
 {
     if let Some(witness) = first_witness(alloc, plan, separation)? {
-        let Witness {
-            ring,
-            places,
-            channels,
-        } = witness;
-        return Ok(no_answer(alloc, separation, ring, places, channels)?);
+        return Ok(no_answer(alloc, separation, witness)?);
     }
     let table = filled_table(rt, alloc, plan, workers)?;
     let verdict = judge_with_workers(rt, alloc, &table, separation, workers)?;

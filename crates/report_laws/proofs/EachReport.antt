@@ -124,7 +124,7 @@ module _ (readable : ReadTextsAreReadable) (stops : ReadingStopsAtFirstFault) (n
         good is (refl, refl, refl),
       )
   on_judgement t s (not_apart ring places channels is) = (
-    refuse (report.no_line s ring places channels) No (of_no t.rounds ring places channels),
+    refuse (report.no_line s ring places channels) No (of_no ring places channels),
     bad ring places channels is (refl, refl, refl),
   )
 

@@ -64,7 +64,7 @@ one_judgement one no_witness t d r s (bad ring i c witness says) (good is says')
 one_judgement one no_witness t d r s (bad ring i c witness says) (bad other j e witness' says') =
     let same = one t d ring other i j c e witness witness' in
     refused_once _ _ _ _ _ r s (λ k. report.no_line d (same.0 k) (same.1 k) (same.2 k))
-    (λ k. of_no t.rounds (same.0 k) (same.1 k) (same.2 k)) says says'
+    (λ k. of_no (same.0 k) (same.1 k) (same.2 k)) says says'
 
 -- there is one report on a list of identifiers, if there is one on a ring
 one_on_ring : OneRingFault → RingsHaveNoFault → (m t : ℕ) (x : List ℕ) (said : Report → Type 0)

@@ -177,7 +177,7 @@ HasNoAdvice (of_ring m t places f) = ⊤
 HasNoAdvice (of_place place places) = ⊤
 HasNoAdvice (of_segments segments places) = ⊤
 HasNoAdvice (of_refutation f) = ⊤
-HasNoAdvice (of_no t ring places channels) = ⊤
+HasNoAdvice (of_no ring places channels) = ⊤
 HasNoAdvice (of_no_tuples nodes ids) = ⊤
 HasNoAdvice _ = ⊥
 

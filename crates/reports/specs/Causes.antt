@@ -13,7 +13,7 @@ use Rattle.reports.specs.declared.cause.Cause.TheVariants as cause
 -- The cause of a report: the fault of a program text and its place; the refusal of a program for a number of
 -- identifiers; the fault of a list of identifiers, for m identifiers and t rounds; a place, or a number of segments, for a
 -- number of places; the fault of a table text; why there is no formula of m identifiers and t rounds; the fault of a refutation; or,
--- on a ring, two places and their channels, for t rounds; or, for a yes over no tuples, the least number of nodes of a ring
+-- on a ring, two places and their channels; or, for a yes over no tuples, the least number of nodes of a ring
 -- that is judged and the number of identifiers.
 pub data Reason : Type 0 where
   of_text : (kind : FaultKind) (offset : ℕ) → Reason
@@ -24,7 +24,7 @@ pub data Reason : Type 0 where
   of_table_text : (f : TableFault) → Reason
   of_formula : (m t : ℕ) (f : ProblemFault) → Reason
   of_refutation : (f : RefuteError) → Reason
-  of_no : (t : ℕ) (ring : List ℕ) (places channels : ℕ × ℕ) → Reason
+  of_no : (ring : List ℕ) (places channels : ℕ × ℕ) → Reason
   of_no_tuples : (nodes ids : ℕ) → Reason
 
 abbrev pub reason_of : Cause → Reason
@@ -36,7 +36,7 @@ reason_of (cause.Segments segments places) = of_segments segments places
 reason_of (cause.TableText f) = of_table_text f
 reason_of (cause.Formula ids rounds f) = of_formula ids rounds f
 reason_of (cause.Refutation f) = of_refutation f
-reason_of (cause.No rounds ring places channels) = of_no rounds ring.items places channels
+reason_of (cause.No witness) = of_no witness.ring.items witness.places witness.channels
 reason_of (cause.NoTuples nodes ids) = of_no_tuples nodes ids
 
 abbrev pub reason_in : Option Cause → Option Reason

@@ -38,7 +38,7 @@ IsNote input (of_segments segments places) note = note ≡ segments_note segment
 IsNote input (of_table_text f) note = IsTableNote input f note
 IsNote input (of_formula m t f) note = IsFormulaNote m t f note
 IsNote input (of_refutation f) note = IsRefutationNote input f note
-IsNote input (of_no t ring places channels) note = note ≡ verdict_note t ring places channels
+IsNote input (of_no ring places channels) note = note ≡ verdict_note ring places channels
 IsNote input (of_no_tuples nodes ids) note = note ≡ no_tuples_note nodes ids
 
 -- the note of a report: without a cause there is none, else it is on the cause, unless memory for it was refused
@@ -56,5 +56,5 @@ IsFound input (of_ring m t places f) = (t ≤ MAX_ROUNDS) × IsFirstFault m t pl
 IsFound input (of_table_text f) = (f ≢ table.OutOfMemory) × IsFault input f
 IsFound input (of_formula m t f) = t ≤ MAX_ROUNDS
 IsFound input (of_refutation f) = f ≢ refute.OutOfMemory
-IsFound input (of_no t ring places channels) = HasPlaces t ring places
+IsFound input (of_no ring places channels) = HasPlaces ring places
 IsFound input _ = ⊤

@@ -150,7 +150,7 @@ IsYes t s count = Tells (good_line count) Done (yes_cause t s count)
 -- The report of the judge: the channels are apart everywhere as the separation requires, or not on this ring.
 pub data IsJudgement (t : ChannelTable) (s : Separation) (r : Report) : Type 0 where
   good : IsApartEverywhere t s → IsYes t s (length (tuples t s)) r → IsJudgement t s r
-  bad : (ring : List ℕ) (places channels : ℕ × ℕ) → IsWitness t s ring places channels → Refuses (no_line s ring places channels) No (of_no t.rounds ring places channels) r → IsJudgement t s r
+  bad : (ring : List ℕ) (places channels : ℕ × ℕ) → IsWitness t s ring places channels → Refuses (no_line s ring places channels) No (of_no ring places channels) r → IsJudgement t s r
 
 -- The report on a list of identifiers, for m identifiers and t rounds: the first fault of a list that is not a ring, or
 -- the report on the ring.

@@ -2,6 +2,7 @@
 
 use crate::problem::ProblemFault;
 use lang_check::CheckFault;
+use nbhd_check::Witness;
 use node_lang::{Program, TextFault};
 use refutation::RefuteError;
 use table_text::TableFault;
@@ -46,12 +47,7 @@ pub enum Cause {
     /// The fault of a text that is no refutation.
     Refutation(RefuteError),
     /// The ring, the places and their channels at which a table breaks a separation.
-    No {
-        rounds: u32,
-        ring: Vec<u32>,
-        places: (u32, u32),
-        channels: (u32, u32),
-    },
+    No(Witness),
     /// A yes about no ring: there are fewer identifiers than a ring that is judged has nodes. This is
     /// the least number of its nodes.
     NoTuples {

@@ -13,7 +13,7 @@ use crate::cause::Cause;
 use crate::lines::{good_line, no_line};
 use crate::status::Status;
 use channel_tables::Table;
-use nbhd_check::{Separation, Verdict, judge, tuple_count, tuple_len};
+use nbhd_check::{Separation, Tuples, Verdict, Witness, judge};
 use node_program::OutOfMemory;
 use std::alloc::Global;
 use std::thread::Threads;
@@ -30,32 +30,21 @@ pub fn verdict_answer(
 {
     match verdict {
         Verdict::Yes => yes_answer(alloc, table, separation),
-        Verdict::No {
-            ring,
-            places,
-            channels,
-        } => no_answer(alloc, separation, ring, places, channels),
+        Verdict::No(witness) => no_answer(alloc, separation, witness),
     }
 }
 
-/// Returns the report of a no with this ring, places and channels.
+/// Returns the report of a no with this witness.
 pub fn no_answer(
     alloc: Global,
     separation: Separation,
-    ring: Vec<u32>,
-    places: (u32, u32),
-    channels: (u32, u32),
+    witness: Witness,
 ) -> Result<Answer, OutOfMemory>
-    ensures { IfOk result (λ r. (t : ChannelTable) → IsWitness t separation ring.items places channels → IsJudgement t separation (report_in r)) }
+    ensures { IfOk result (λ r. (t : ChannelTable) → IsWitness t separation witness.ring.items witness.places witness.channels
+        → IsJudgement t separation (report_in r)) }
 {
-    let line = no_line(alloc, separation, &ring, places, channels)?;
-    let cause = Cause::No {
-        rounds: places.0,
-        ring,
-        places,
-        channels,
-    };
-    Ok(Answer::WithCause(line, Status::No, cause))
+    let line = no_line(alloc, separation, &witness)?;
+    Ok(Answer::WithCause(line, Status::No, Cause::No(witness)))
 }
 
 // Returns the report of a yes on the table.
@@ -63,13 +52,17 @@ fn yes_answer(alloc: Global, table: &Table, separation: Separation) -> Result<An
     requires { IsApartEverywhere table.now separation }
     ensures { IfOk result (λ r. IsJudgement table.now separation (report_in r)) }
 {
-    let count = tuple_count(table, separation);
+    let tuples = Tuples {
+        windows: table,
+        separation,
+    };
+    let count = tuples.count();
     let line = good_line(alloc, count)?;
     if count > 0 {
         return Ok(Answer::Text(line, Status::Done));
     }
     let cause = Cause::NoTuples {
-        nodes: tuple_len(table, separation),
+        nodes: tuples.len(),
         ids: table.shape().ids(),
     };
     Ok(Answer::WithCause(line, Status::Done, cause))

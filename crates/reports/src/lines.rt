@@ -5,7 +5,7 @@ ghost use Rattle.reports.specs.Lines.{line, numbers_text};
 ghost use Rattle.reports.specs.Report as report;
 
 use lang_check::{CheckFault, Plan};
-use nbhd_check::Separation;
+use nbhd_check::{Separation, Witness};
 use node_lang::{FaultKind, TextFault};
 use node_program::OutOfMemory;
 use std::alloc::{AllocError, Global};
@@ -144,32 +144,26 @@ pub(crate) fn good_line(alloc: Global, tuples: u64) -> Result<String, AllocError
 pub(crate) fn no_line(
     alloc: Global,
     separation: Separation,
-    ring: &[u32],
-    places: (u32, u32),
-    channels: (u32, u32),
+    witness: &Witness,
 ) -> Result<String, AllocError>
-    ensures { IfOk result (λ text. string_bytes text ≡ report.no_line separation ring.now places channels) }
+    ensures { IfOk result (λ text. string_bytes text
+        ≡ report.no_line separation witness.now.ring.items witness.now.places witness.now.channels) }
 {
     let mut text = String::new(alloc);
-    write_no(&mut text, separation, ring, places, channels)?;
+    write_no(&mut text, separation, witness)?;
     Ok(text)
 }
 
 // Writes the line of a no. If neighbours' channels only have to differ, it has the one channel of
 // both places.
-fn write_no(
-    text: &mut String,
-    separation: Separation,
-    ring: &[u32],
-    places: (u32, u32),
-    channels: (u32, u32),
-) -> Result<(), AllocError>
-    ensures { OnOk result (string_bytes text.new ≡ string_bytes text.old ++ report.no_line separation ring.now places channels) }
+fn write_no(text: &mut String, separation: Separation, witness: &Witness) -> Result<(), AllocError>
+    ensures { OnOk result (string_bytes text.new ≡ string_bytes text.old
+        ++ report.no_line separation witness.now.ring.items witness.now.places witness.now.channels) }
 {
     text.push_str("no: ring ")?;
-    write_numbers(text, ring)?;
-    let (place, other_place) = places;
-    let (channel, other_channel) = channels;
+    write_numbers(text, &witness.ring)?;
+    let (place, other_place) = witness.places;
+    let (channel, other_channel) = witness.channels;
     if separation.near == 1 && separation.far == 0 {
         write!(text, " place {place} channel {channel}\n")
     } else {

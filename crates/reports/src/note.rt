@@ -39,12 +39,7 @@ pub fn note_on(alloc: Global, input: &[u8], cause: &Cause) -> Result<String, Out
         Cause::TableText(fault) => table_note(alloc, input, *fault),
         Cause::Formula { ids, rounds, fault } => formula_note(alloc, *ids, *rounds, *fault),
         Cause::Refutation(fault) => refutation_note(alloc, input, *fault),
-        Cause::No {
-            rounds,
-            ring,
-            places,
-            channels,
-        } => verdict_note(alloc, *rounds, ring, *places, *channels),
+        Cause::No(witness) => verdict_note(alloc, witness),
         Cause::NoTuples { nodes, ids } => no_tuples_note(alloc, *nodes, *ids),
     }
 }

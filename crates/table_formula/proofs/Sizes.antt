@@ -2,7 +2,6 @@
 use Rattle.std.proofs.Common.{◌≡◌, ℕ, ◌+◌, ◌*◌, ◌<◌, ◌≤◌, length, sym, ap, ◌∙◌, subst, arith}
 use Rattle.std.proofs.lemmas.Nat.{mul-le}
 use Rattle.win_index.specs.Windows.{windows}
-use Rattle.bad_tuples.specs.Apart.{extra}
 use Rattle.table_formula.specs.Problems.{Problem}
 use Rattle.table_formula.specs.Formula.{windows_of, tuples_of, conflicts_of, formula}
 use Rattle.table_formula.specs.Limits.{HasFewVariables, HasFewClauses, IsWithinLimits}
@@ -15,14 +14,13 @@ pub record AreSizes (p : Problem) (windows tuples pairs : ℕ) : Type 0 where
   pub tuples_is : tuples ≡ length (tuples_of p)
   pub pairs_is : pairs ≡ length (conflicts_of p)
 
--- they are known from a number of rounds, and from how much longer tuples are than windows
-pub sizes_are : (p : Problem) {level longer wins count tuples pairs : ℕ} → wins ≡ count →
+-- they are known from a number of rounds
+pub sizes_are : (p : Problem) {level wins count tuples pairs : ℕ} → wins ≡ count →
     count ≡ length (windows (2 * level + 1) p.ids) → level ≡ p.rounds →
-    tuples ≡ length (windows (2 * p.rounds + 1 + longer) p.ids) → longer ≡ extra p.separation →
-    pairs ≡ length (conflicts_of p) → AreSizes p wins tuples pairs
-sizes_are p same count_is level_is tuples_is longer_is pairs_is = record {
+    tuples ≡ length (tuples_of p) → pairs ≡ length (conflicts_of p) → AreSizes p wins tuples pairs
+sizes_are p same count_is level_is tuples_is pairs_is = record {
   windows_is = same ∙ count_is ∙ ap (λ r. length (windows (2 * r + 1) p.ids)) level_is;
-  tuples_is = tuples_is ∙ ap (λ x. length (windows (2 * p.rounds + 1 + x) p.ids)) longer_is;
+  tuples_is = tuples_is;
   pairs_is = pairs_is;
 }
 

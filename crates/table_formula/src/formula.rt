@@ -10,12 +10,13 @@ ghost use Rattle.table_formula.specs.FormulaFaults.{IsFormulaFault};
 use crate::conflict::{Conflict, conflict_count, conflicts_in};
 use crate::exchange::{Exchange, exchanged_number, other_of};
 use crate::limits::{MAX_CLAUSES, MAX_VARIABLES};
+use bad_tuples::TupleLists;
 use channel_tables::Separation;
 use clause_check::Literal;
 use node_program::MAX_CHANNELS;
 use std::alloc::{AllocError, Global};
 use std::marker::Model;
-use win_index::{MAX_TUPLE_LEN, Shape, rings_have_windows, tuples_are_rings};
+use win_index::{MAX_TUPLE_LEN, Shape};
 
 /// Why a problem has no formula here.
 #[derive(Clone, Copy, Debug, PartialEq, Eq)]
@@ -224,9 +225,10 @@ impl Formula {
         ensures within { All (λ l. l.variable < variable_count self.now) (take 2 out.new) }
     {
         let count = self.conflict_count();
+        let lists = self.lists();
         let mut cells = [0; MAX_TUPLE_LEN];
-        let tuple = &mut cells[..self.tuple_len()];
-        self.write_tuple(index / count, tuple);
+        let tuple = &mut cells[..lists.len()];
+        lists.write(index / count, tuple);
         let conflict = self.conflict((index % count) as usize);
         self.write_not_both(tuple, conflict, out);
         2
@@ -251,14 +253,16 @@ impl Formula {
         self.conflicts[index]
     }
 
-    // Writes the tuple with this number.
-    fn write_tuple(&self, number: u64, out: &mut [u32])
-        requires below { number < length (tuples_of self.now) }
-        requires room { length out.old ≡ 2 * self.now.rounds + 1 + extra self.now.separation }
-        ensures item { slice_get (tuples_of self.now) number ≡ Some out.new }
-        ensures tuple { IsWindow (2 * self.now.rounds + 1 + extra self.now.separation) self.now.ids out.new }
+    // Returns the tuples, as lists.
+    fn lists(&self) -> TupleLists
+        ensures rounds { result.shape.rounds ≡ self.now.rounds }
+        ensures ids { result.shape.ids ≡ self.now.ids }
+        ensures separation { result.separation ≡ self.now.separation }
     {
-        self.shape.tuple(extra_of(self.separation), number, out);
+        TupleLists {
+            shape: self.shape,
+            separation: self.separation,
+        }
     }
 
     // Writes the two literals of the clause of a tuple and a pair of channels.
@@ -282,19 +286,8 @@ impl Formula {
         ensures value { result ≡ window_in self.now tuple.now offset }
         ensures below { result < length (windows_of self.now) }
     {
-        tuples_are_rings();
-        rings_have_windows();
-        let rounds = self.shape.rounds();
-        let end = offset + 2 * rounds as usize + 1;
-        self.shape.window_number(rounds, &tuple[offset..end])
-    }
-
-    // Returns the number of identifiers of a tuple.
-    fn tuple_len(&self) -> usize
-        ensures value { result ≡ 2 * self.now.rounds + 1 + extra self.now.separation }
-        ensures few { result ≤ MAX_TUPLE_LEN }
-    {
-        2 * self.shape.rounds() as usize + 1 + extra_of(self.separation) as usize
+        let window = self.lists().window_in(tuple, offset);
+        self.shape.window_number(self.shape.rounds(), window)
     }
 
     // Returns the literal that a window has a channel, or that it does not; its variable is one of
@@ -320,13 +313,6 @@ impl Formula {
     }
 }
 
-// Returns by how many identifiers a tuple is longer than a window.
-fn extra_of(separation: Separation) -> u32
-    ensures { result ≡ extra separation }
-{
-    if separation.far == 0 { 1 } else { 2 }
-}
-
 // Returns the number of clauses of a formula, or its fault if it is not within the limits.
 fn clauses_of(shape: Shape, channels: u32, separation: Separation) -> Result<u64, FormulaFault>
     ensures ok { IfOk result (λ clauses. clauses ≡ length (formula (problem_of shape channels separation))) }
@@ -337,7 +323,7 @@ fn clauses_of(shape: Shape, channels: u32, separation: Separation) -> Result<u64
     if windows * u64::from(channels) > MAX_VARIABLES {
         return Err(FormulaFault::TooManyVariables);
     }
-    let tuples = shape.tuples(extra_of(separation));
+    let tuples = TupleLists { shape, separation }.count();
     let pairs = conflict_count(channels, separation);
     let Some(clauses) = clause_count(windows, tuples, pairs) else {
         return Err(FormulaFault::TooManyClauses);
@@ -370,7 +356,8 @@ fn conflicts_for(
         IfOk result (λ pairs. pairs.items ≡ close_in channels separation) }
     ensures none { length (tuples_of (problem_of shape channels separation)) ≡ 0 → IfOk result (λ pairs. pairs.items ≡ []) }
 {
-    if shape.tuples(extra_of(separation)) == 0 {
+    let lists = TupleLists { shape, separation };
+    if lists.count() == 0 {
         return Ok(Vec::new(alloc));
     }
     conflicts_in(alloc, channels, separation)

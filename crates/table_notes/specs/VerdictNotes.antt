@@ -19,27 +19,27 @@ abbrev pub channels_text : ℕ × ℕ → List ℕ
 channels_text channels = if channels.0 == channels.1 then codes "channel " ++ decimal channels.0
     else codes "channels " ++ (decimal channels.0 ++ (codes " and " ++ decimal channels.1))
 
--- the windows of the two places
-abbrev pub windows_text : ℕ → List ℕ → ℕ × ℕ → List ℕ
-windows_text t ring places =
+-- the windows of the two places, of as many rounds as the first place has nodes before it
+abbrev pub windows_text : List ℕ → ℕ × ℕ → List ℕ
+windows_text ring places =
     codes "; their windows are "
-    ++ (joined (codes " ") (window_around ring t places.0)
-    ++ (codes " and " ++ (joined (codes " ") (window_around ring t places.1) ++ codes "\n")))
+    ++ (joined (codes " ") (window_around ring places.0 places.0)
+    ++ (codes " and " ++ (joined (codes " ") (window_around ring places.0 places.1) ++ codes "\n")))
 
--- the places are two of a ring's, which is long enough for the windows of so many rounds
-pub record HasPlaces (t : ℕ) (ring : List ℕ) (places : ℕ × ℕ) : Type 0 where
-  pub few_rounds : t ≤ MAX_ROUNDS
-  pub long : t ≤ length ring
+-- the places are two of a ring's; the first one is t for t rounds
+pub record HasPlaces (ring : List ℕ) (places : ℕ × ℕ) : Type 0 where
+  pub few_rounds : places.0 ≤ MAX_ROUNDS
+  pub long : places.0 ≤ length ring
   pub short : length ring ≤ MAX_IDS
   pub first : places.0 < length ring
   pub second : places.1 < length ring
 
--- the note that on this ring the nodes at two places have these channels; t is the number of rounds
-abbrev pub verdict_note : ℕ → List ℕ → ℕ × ℕ → ℕ × ℕ → List ℕ
-verdict_note t ring places channels =
+-- the note that on this ring the nodes at two places have these channels; the first place is t for t rounds
+abbrev pub verdict_note : List ℕ → ℕ × ℕ → ℕ × ℕ → List ℕ
+verdict_note ring places channels =
     codes "nbhd: on the ring "
     ++ (joined (codes ",") ring
-    ++ (distance_text places ++ (pair_text ring places ++ (channels_text channels ++ windows_text t ring places))))
+    ++ (distance_text places ++ (pair_text ring places ++ (channels_text channels ++ windows_text ring places))))
 
 -- the note on a yes about no ring: so many identifiers are too few for a ring of so many nodes, the least that is
 -- judged

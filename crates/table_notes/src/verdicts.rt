@@ -6,6 +6,7 @@ ghost use Rattle.win_index.specs.declared.limits.TheConstants.{MAX_IDS, MAX_ROUN
 ghost use Rattle.source_places.specs.Lists.{joined};
 ghost use Rattle.table_notes.specs.VerdictNotes.{distance_text, pair_text, channels_text, no_tuples_note, windows_text, verdict_note, HasPlaces};
 
+use bad_tuples::Witness;
 use node_program::OutOfMemory;
 use source_places::write_joined;
 use std::alloc::{AllocError, Global};
@@ -22,25 +23,21 @@ pub fn no_tuples_note(alloc: Global, nodes: usize, ids: u32) -> Result<String, O
     Ok(note)
 }
 
-/// Returns the note on a no of the judge for `rounds` rounds: the ring, the nodes at the two
-/// places, their channels and their windows. Fails if memory was refused.
-pub fn verdict_note(
-    alloc: Global,
-    rounds: u32,
-    ring: &[u32],
-    places: (u32, u32),
-    channels: (u32, u32),
-) -> Result<String, OutOfMemory>
-    requires { HasPlaces rounds ring.now places }
-    ensures { IfOk result (λ note. string_bytes note ≡ verdict_note rounds ring.now places channels) }
+/// Returns the note on a no of the judge with this witness: the ring, the nodes at the two places,
+/// their channels and their windows. Fails if memory was refused.
+pub fn verdict_note(alloc: Global, witness: &Witness) -> Result<String, OutOfMemory>
+    requires { HasPlaces witness.now.ring.items witness.now.places }
+    ensures { IfOk result (λ note. string_bytes note
+        ≡ verdict_note witness.now.ring.items witness.now.places witness.now.channels) }
 {
+    let ring: &[u32] = &witness.ring;
     let mut note = String::new(alloc);
     note.push_str("nbhd: on the ring ")?;
     write_joined(&mut note, ring, ",")?;
-    note.push_str(distance_text(places))?;
-    write_pair(&mut note, ring, places)?;
-    write_channels(&mut note, channels)?;
-    write_windows(alloc, &mut note, rounds, ring, places)?;
+    note.push_str(distance_text(witness.places))?;
+    write_pair(&mut note, ring, witness.places)?;
+    write_channels(&mut note, witness.channels)?;
+    write_windows(alloc, &mut note, ring, witness.places)?;
     Ok(note)
 }
 
@@ -119,16 +116,16 @@ fn write_window(
 fn write_windows(
     alloc: Global,
     out: &mut String,
-    rounds: u32,
     ring: &[u32],
     places: (u32, u32),
 ) -> Result<(), AllocError>
-    requires { HasPlaces rounds ring.now places }
-    ensures { OnOk result (string_bytes out.new ≡ string_bytes out.old ++ windows_text rounds ring.now places) }
+    requires { HasPlaces ring.now places }
+    ensures { OnOk result (string_bytes out.new ≡ string_bytes out.old ++ windows_text ring.now places) }
 {
+    let (rounds, next) = places;
     out.push_str("; their windows are ")?;
-    write_window(alloc, out, rounds, ring, places.0)?;
+    write_window(alloc, out, rounds, ring, rounds)?;
     out.push_str(" and ")?;
-    write_window(alloc, out, rounds, ring, places.1)?;
+    write_window(alloc, out, rounds, ring, next)?;
     out.push_str("\n")
 }

@@ -17,6 +17,6 @@ overflow_mul-family-2 g c =
 
 pub returns : goal.returns
 returns g c =
-    free_of_both c.args.tuples.table.now c.args.tuples.separation c.args.most c.free_windows-free.result
+    free_of_both c.args.tuples.windows.now c.args.tuples.separation c.args.most c.free_windows-free.result
     c.free_windows-free.result
     c.requires.near c.free_windows-free.ensures.free c.free_windows-free.ensures.less (omega arith)

@@ -4,7 +4,7 @@ use Rattle.nbhd_check.proofs.far.free_by_masks.Goals as goal
 
 pub returns-then-free-most : goal.returns-then-free-most
 returns-then-free-most g c =
-    free_of_both c.args.tuples.table.now c.args.tuples.separation c.args.most c.free_windows-free.result
+    free_of_both c.args.tuples.windows.now c.args.tuples.separation c.args.most c.free_windows-free.result
     c.free_windows-free.result
     c.requires.near c.free_windows-free.ensures.free c.free_windows-free.ensures.less (omega arith)
 

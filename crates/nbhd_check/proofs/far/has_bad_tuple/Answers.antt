@@ -4,9 +4,9 @@ use Rattle.bad_tuples.specs.Apart.{run_len}
 use Rattle.bad_tuples.proofs.RunLengths.{all_runs}
 use Rattle.nbhd_check.proofs.far.has_bad_tuple.Goals as goal
 
-pub judge_part-requires-clause-within : goal.judge_part-requires-clause-within
-judge_part-requires-clause-within c =
-    let t = c.args.tuples.table.now in
+pub least_bad-requires-clause-within : goal.least_bad-requires-clause-within
+least_bad-requires-clause-within c =
+    let t = c.args.tuples.windows.now in
     let s = c.args.tuples.separation in
     let len : ℕ = run_len t s in
     let low : c.from.result * c.per_window-each.result ≡ c.args.first * len = λ q. c.from.ensures q * c.per_window-each.ensures.value q in

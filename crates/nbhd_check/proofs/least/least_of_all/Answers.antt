@@ -35,10 +35,10 @@ least_from_low t s low high (Some n) before after =
 
 pub returns : goal.returns
 returns g c =
-    let t = c.args.tuples.table.now in
+    let t = c.args.tuples.windows.now in
     let s = c.args.tuples.separation in
     let low_is : c.from.result * c.per_window.result ≡ c.first_windows-first.result * run_len t s = λ q. c.from.ensures q * c.per_window.ensures.value q in
     let low : c.min.result ≤ c.first_windows-first.result * run_len t s = omega (arith, c.min.ensures, low_is) in
-    subst (λ n. IsLeastIn t s 0 n c.judge_part.result) c.tuple_count-count.ensures
-    (least_from_low t s c.min.result c.tuple_count-count.result c.judge_part.result
-    (none_of_free t s c.min.result c.first_windows-first.result c.first_windows-first.ensures low) c.judge_part.ensures)
+    subst (λ n. IsLeastIn t s 0 n c.least_bad.result) c.count-count.ensures
+    (least_from_low t s c.min.result c.count-count.result c.least_bad.result
+    (none_of_free t s c.min.result c.first_windows-first.result c.first_windows-first.ensures low) c.least_bad.ensures)

@@ -68,35 +68,35 @@ none_before t s count (Some n) least = (least.1.1.least, omega (arith, least.0))
 
 -- each window begins a tuple with each other identifier
 module _ (c : After-from-each) where
-  each_is : c.from-each.result - 1 ≡ run_len c.args.tuples.table.now (record { near = c.max-near.result; far = 0 })
+  each_is : c.from-each.result - 1 ≡ run_len c.args.tuples.windows.now (record { near = c.max-near.result; far = 0 })
   each_is =
-      let t = c.args.tuples.table.now in
+      let t = c.args.tuples.windows.now in
       let own : c.from-each.result - 1 ≡ 1 * (t.ids - (2 * t.rounds + 1) - 0) = omega (arith, c.from-each.ensures, c.ids.ensures, c.shape.ensures.ids, c.requires) in
       own
 
-  before : NoneIsBad c.args.tuples.table.now (record { near = c.max-near.result; far = 0 }) 0 c.unwrap_or-first.result
-      × (c.unwrap_or-first.result ≤ c.tuple_count-count.result)
+  before : NoneIsBad c.args.tuples.windows.now (record { near = c.max-near.result; far = 0 }) 0 c.unwrap_or-first.result
+      × (c.unwrap_or-first.result ≤ c.count-count.result)
   before =
       rw c.unwrap_or-first.ensures
-      (none_before c.args.tuples.table.now (record { near = c.max-near.result; far = 0 }) c.tuple_count-count.result c.judge_part.result c.judge_part.ensures)
+      (none_before c.args.tuples.windows.now (record { near = c.max-near.result; far = 0 }) c.count-count.result c.least_bad.result c.least_bad.ensures)
 
 pub nonzero_div-result : goal.nonzero_div-result
 nonzero_div-result c = omega (arith, c.from-each.ensures, c.ids.ensures, c.shape.ensures.ids, c.shape.ensures.table.begun.shape.ids.enough)
 
 pub overflow_cast-result : goal.overflow_cast-result
 overflow_cast-result c =
-    let t = c.args.tuples.table.now in
+    let t = c.args.tuples.windows.now in
     let d = (goal.at.overflow_cast-result c).After-from-each in
     let each : ℕ = c.from-each.result - 1 in
     let windows : ℕ = length (windows_of t) in
-    let all : c.tuple_count-count.result ≡ windows * each = c.tuple_count-count.ensures ∙ all_runs t (record { near = c.max-near.result; far = 0 }) ∙ ap (λ n. windows * n) (sym (each_is d)) in
+    let all : c.count-count.result ≡ windows * each = c.count-count.ensures ∙ all_runs t (record { near = c.max-near.result; far = 0 }) ∙ ap (λ n. windows * n) (sym (each_is d)) in
     let some : 0 < each = omega (arith, c.from-each.ensures, c.ids.ensures, c.shape.ensures.ids, c.shape.ensures.table.begun.shape.ids.enough) in
     let few = quotient_below c.unwrap_or-first.result each (windows + 1) (omega (arith, (before d).1, all, row_more windows each, some)) in
     omega (arith, few, c.shape.ensures.table.begun.shape.few_windows)
 
 pub returns : goal.returns
 returns c number window from below item bad =
-    let t = c.args.tuples.table.now in
+    let t = c.args.tuples.windows.now in
     let s = c.args.tuples.separation in
     let d = (goal.at.returns c).After-from-each in
     let each : ℕ = c.from-each.result - 1 in

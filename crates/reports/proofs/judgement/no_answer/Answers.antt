@@ -5,6 +5,4 @@ use Rattle.reports.proofs.judgement.no_answer.Goals as goal
 
 pub returns : goal.returns
 returns c t witness =
-    let said = c.in_ok-line.ensures ∙ ap (λ ring. no_line c.args.separation ring c.args.places c.args.channels) c.deref.ensures.value in
-    let rounds = ap (λ r. Some (of_no r c.args.ring.items c.args.places c.args.channels)) witness.first_place in
-    bad c.args.ring.items c.args.places c.args.channels witness (said, refl, rounds)
+    bad c.args.witness.ring.items c.args.witness.places c.args.witness.channels witness (c.in_ok-line.ensures, refl, refl)

@@ -2,26 +2,23 @@ use Rattle.std.proofs.Common.{◌≡◌, ℕ, ◌+◌, ◌-◌, ◌*◌, ◌≤�
 use Rattle.bad_tuples.specs.Apart.{extra}
 use Rattle.bad_tuples.proofs.Products.{product_few}
 use Rattle.bad_tuples.proofs.RunLengths.{falling_two}
-use Rattle.bad_tuples.proofs.tuples.Tuples.per_window.Goals.{Else-self-eq0}
 use Rattle.bad_tuples.proofs.tuples.Tuples.per_window.Goals as goal
 
--- few identifiers are free
-free_few : (c : Else-self-eq0) → c.from.result - (2 * c.from-2.result + 1) ≤ 1024
-free_few c = omega (arith, c.from.ensures, c.ids.ensures, c.shape-shape.result.in_range.few)
-
 pub overflow_mul-result : goal.overflow_mul-result
-overflow_mul-result c =
+overflow_mul-result g c =
     let free : ℕ = c.from.result - (2 * c.from-2.result + 1) in
-    omega (arith, product_few free (free - 1) 1024 1024 1048576 (free_few c) (omega (arith, free_few c)) (omega arith))
+    let few : free ≤ 1024 = omega (arith, c.from.ensures, c.ids.ensures, c.shape-shape.result.in_range.few) in
+    omega (arith, product_few free (free - 1) 1024 1024 1048576 few (omega (arith, few)) (omega arith))
 
 pub returns-else-self-eq0-clause-few : goal.returns-else-self-eq0-clause-few
-returns-else-self-eq0-clause-few c =
+returns-else-self-eq0-clause-few g c =
     let free : ℕ = c.from.result - (2 * c.from-2.result + 1) in
-    product_few free (free - 1) 1024 1024 1048576 (free_few c) (omega (arith, free_few c)) (omega arith)
+    let few : free ≤ 1024 = omega (arith, c.from.ensures, c.ids.ensures, c.shape-shape.result.in_range.few) in
+    product_few free (free - 1) 1024 1024 1048576 few (omega (arith, few)) (omega arith)
 
 pub returns-else-self-eq0-clause-value : goal.returns-else-self-eq0-clause-value
-returns-else-self-eq0-clause-value c =
-    let t = c.args.self.table.now in
+returns-else-self-eq0-clause-value g c =
+    let t = g.W.Windows.table c.args.self.windows.now in
     let free_is : c.from.result - (2 * c.from-2.result + 1) ≡ t.ids - (2 * t.rounds + 1) =
     omega (
       arith,

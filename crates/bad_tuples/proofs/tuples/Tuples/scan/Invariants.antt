@@ -5,7 +5,8 @@ use Rattle.bad_tuples.proofs.tuples.Tuples.scan.Given as goal
 
 -- the tuple is the next one, and none before it is bad
 abbrev pub invariant-loop-number : goal.invariant-loop-number
-invariant-loop-number l =
-    (l.number < l.high → slice_get (tuples l.self.table.now l.self.separation) l.number ≡ Some l.tuple)
-    × IsWindow (2 * l.self.table.now.rounds + 1 + extra l.self.separation) l.self.table.now.ids l.tuple
-    × NoneIsBad l.self.table.now l.self.separation l.low l.number
+invariant-loop-number g l =
+    let t = g.W.Windows.table l.self.windows.now in
+    (l.number < l.high → slice_get (tuples t l.self.separation) l.number ≡ Some l.tuple)
+    × IsWindow (2 * t.rounds + 1 + extra l.self.separation) t.ids l.tuple
+    × NoneIsBad t l.self.separation l.low l.number

@@ -17,8 +17,9 @@ nonzero_rem-index c =
     (splits c.args.self.now c.args.index c.conflict_count-count.result c.requires.below
     c.conflict_count-count.ensures).some
 
-pub write_tuple-requires-clause-below : goal.write_tuple-requires-clause-below
-write_tuple-requires-clause-below c =
+pub write-requires-clause-below : goal.write-requires-clause-below
+write-requires-clause-below c =
+    rw (c.lists-lists.ensures.rounds, c.lists-lists.ensures.ids, c.lists-lists.ensures.separation)
     (splits c.args.self.now c.args.index c.conflict_count-count.result c.requires.below
     c.conflict_count-count.ensures).tuple
 
@@ -37,10 +38,10 @@ returns-clause-item c =
     let index = c.args.index in
     let cut = splits p index count c.requires.below c.conflict_count-count.ensures in
     let clause : slice_get (formula p) (length (windows_of p) + index)
-    ≡ Some (not_both p c.write_tuple.new.out c.conflict-conflict.result) =
-    pair_clause p (index / count) (index % count) (length (windows_of p) + index) c.write_tuple.new.out
+    ≡ Some (not_both p c.write.new.out c.conflict-conflict.result) =
+    pair_clause p (index / count) (index % count) (length (windows_of p) + index) c.write.new.out
     c.conflict-conflict.result cut.tuple cut.pair
     (ap (λ n. length (windows_of p) + n) cut.at')
-    (get_or_from_slice_get (tuples_of p) (index / count) c.write_tuple.new.out [] c.write_tuple.ensures.item)
+    (get_or_from_slice_get (tuples_of p) (index / count) c.write.new.out [] (rw (c.lists-lists.ensures.rounds, c.lists-lists.ensures.ids, c.lists-lists.ensures.separation) at c.write.ensures.item))
     c.conflict-conflict.ensures.item c.requires.below in
     clause ∙ ap Some (sym c.write_not_both.ensures.items)

@@ -1,0 +1,35 @@
+//! The windows of a program, with the channels that it computes for them.
+ghost use Rattle.first_tuples.specs.FirstTuples.{plan_table};
+
+use bad_tuples::Windows;
+use lang_check::Plan;
+use node_program::MAX_REGISTERS;
+use round_eval::{channel, width_of};
+use table_entries::table_has_the_channels_of_windows;
+use win_index::Shape;
+use window_states::window_state;
+
+/// The windows of a plan's program. Their channels are computed when they are asked for, by rounds on
+/// the window.
+#[derive(Clone, Copy)]
+pub(crate) struct ProgramWindows<'a> {
+    pub(crate) plan: &'a Plan,
+}
+
+impl<'a> Windows for ProgramWindows<'a> {
+    ghost table = { λ windows. plan_table windows.plan.now };
+
+    #[tactic(auto, unfolding(table_entries::specs::ProgramTables::table_of))]
+    fn shape(&self) -> Shape {
+        self.plan.shape()
+    }
+
+    #[tactic(auto, unfolding(table_entries::specs::ProgramTables::table_of))]
+    fn channel_of_window(&self, window: &[u32]) -> u32 {
+        table_has_the_channels_of_windows();
+        let mut cells = [0; MAX_REGISTERS as usize];
+        let state = &mut cells[..width_of(self.plan)];
+        window_state(self.plan, window, state);
+        channel(self.plan, state)
+    }
+}
