@@ -28,6 +28,8 @@ use Rattle.task_words.specs.declared.task.Task.{Task}
 use Rattle.task_words.specs.declared.task.Task.TheVariants.{Print, Table, Judge, Run, Trace, Explain, Plan, Audit, Migrate, Refute}
 use Rattle.reports.specs.declared.status.Status.TheVariants.{Done, No}
 use Rattle.reports.specs.Lines.{line, numbers_text}
+use Rattle.refutation.specs.declared.fault.RefuteError.TheVariants as refute
+use Rattle.reports.specs.FormulaNotes.{MayHaveAdvice}
 use Rattle.reports.specs.Causes.{Reason, of_ring, of_place, of_segments, of_refutation, of_no, of_no_tuples}
 use Rattle.reports.specs.Notes.{IsNote}
 use Rattle.reports.specs.Report.{Report, Says, place_lines}
@@ -170,13 +172,15 @@ AuditOfTableIsJudge =
     IsReport (Table m v near far) input r → r.status ≡ Done
     → IsReport Audit r.bytes s → IsReport (Judge m w near far) input s
 
--- the cause is a list that is no ring, a place that a ring has not, a number of segments, a fault of a refutation, a
--- no, or a yes over no tuples: its note has no advice
+-- the cause is a list that is no ring, a place that a ring has not, a number of segments, a no, a yes over no tuples, or a
+-- fault of a refutation other than a line that has not its form or an end too early: its note has no advice
 abbrev pub HasNoAdvice : Reason → Type 0
 HasNoAdvice (of_ring m t places f) = ⊤
 HasNoAdvice (of_place place places) = ⊤
 HasNoAdvice (of_segments segments places) = ⊤
-HasNoAdvice (of_refutation f) = ⊤
+HasNoAdvice (of_refutation refute.TooLong) = ⊤
+HasNoAdvice (of_refutation (refute.At line f)) = ¬ MayHaveAdvice f
+HasNoAdvice (of_refutation refute.OutOfMemory) = ⊤
 HasNoAdvice (of_no ring places channels) = ⊤
 HasNoAdvice (of_no_tuples nodes ids) = ⊤
 HasNoAdvice _ = ⊥

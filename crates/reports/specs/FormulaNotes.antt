@@ -1,5 +1,5 @@
 -- The notes on numbers of which there is no formula, and on a text that is no refutation.
-use Rattle.std.specs.Prelude.{◌≡◌, ℕ, ◌-◌, ◌++◌, List, ◌∷◌, codes}
+use Rattle.std.specs.Prelude.{◌≡◌, ℕ, ◌-◌, ◌++◌, List, [], ◌∷◌, ⊤, codes}
 use Rattle.std.specs.Fmt.{decimal}
 use Rattle.source_places.specs.Places.{after_lines}
 use Rattle.source_places.specs.Shown.{marked_line}
@@ -41,9 +41,16 @@ line_cause line_fault.NoEmptyClause = codes "the text ends here, before the empt
 abbrev pub line_head : ℕ → LineFault → List ℕ
 line_head number f = codes "nbhd: line " ++ (decimal number ++ (codes ": " ++ line_cause f))
 
--- the note on a line: its start, perhaps advice, and the line with a mark
+-- the faults of a line on which there may be advice: it has not the form of a line, or the text ends too early
+abbrev pub MayHaveAdvice : LineFault → Type 0
+MayHaveAdvice line_fault.Form = ⊤
+MayHaveAdvice line_fault.NoEmptyClause = ⊤
+MayHaveAdvice _ = ⊥
+
+-- the note on a line: its start, advice if there may be some, and the line with a mark
 pub record IsLineNote (text : List ℕ) (number : ℕ) (f : LineFault) (note : List ℕ) : Type 0 where
   pub advice : List ℕ
+  pub none : ¬ MayHaveAdvice f → advice ≡ []
   pub is : note ≡ line_head number f ++ (advice ++ 10 ∷ marked_line (after_lines (number - 1) text) 0)
 
 -- the note on a text that is no refutation; OutOfMemory has none

@@ -1,5 +1,8 @@
 //! Advice on a line of a text that is no refutation. It promises nothing.
 
+ghost use Rattle.std.specs.Prelude.{◌≡◌, []};
+ghost use Rattle.reports.specs.FormulaNotes.{MayHaveAdvice};
+
 use refutation::LineFault;
 use source_places::{TextKind, first_line_len, kind_advice, line_kind};
 
@@ -38,7 +41,9 @@ fn form_advice(line: &[u8]) -> &'static str {
 }
 
 // Returns advice on the fault of a line of a text, with which `rest` begins.
-pub(crate) fn line_advice(text: &[u8], rest: &[u8], fault: LineFault) -> &'static str {
+pub(crate) fn line_advice(text: &[u8], rest: &[u8], fault: LineFault) -> &'static str
+    ensures none { ¬ MayHaveAdvice fault → result.now ≡ [] }
+{
     match fault {
         LineFault::Form => match kind_advice(text, TextKind::Refutation) {
             Some(advice) => advice,
