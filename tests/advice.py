@@ -121,6 +121,8 @@ ROWS = [
     (r"a blank is missing in it", is_joined),
     (r"`=` is only written after the register of an assignment", lambda place: place.token() == "="),
     (r"write `eq\(a, b\)` to compare", lambda place: place.token() == "=" and place.ends_expression()),
+    (r"an assignment is written with one `=`", lambda place: place.token() == place.last() == "="),
+    (r"each assignment has one register", lambda place: place.token() == "=" and re.fullmatch("r[0-7]", place.last())),
     (r"an assignment is written `r0 = ..`", lambda place: place.is_in("`=`")),
     (r"an expression is assigned to a register, as in `r0 = if\(c, a, b\)`", lambda place: place.token() in OPERANDS),
     (r"an expression is missing here", lambda place: place.is_in("an expression")),

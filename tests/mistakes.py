@@ -366,6 +366,21 @@ COPIED = [
         "output = r0",
         "line 10, column 1: unknown word `output`; expected `finish`; registers are `r0` to `r7`, and have no other names",
     ),
+    ("r0 = id", "r0 == id", "line 5, column 5: unexpected `=`; expected an expression; an assignment is written with one `=`"),
+    ("r0 = id", "r0 = r1 = id", "line 5, column 9: unexpected `=`; expected `round`; each assignment has one register"),
+    ("finish r0", "finish r0 == 1", "line 10, column 11: unexpected `=`; expected the end of the text; write `eq(a, b)` to compare"),
+    (
+        "finish r0",
+        "finish |r0 - 1|",
+        "line 10, column 8: unknown word `|`; expected an expression; |a - b| is `sub(max(a, b), min(a, b))`",
+    ),
+    ("finish r0", "finish r0.", "line 10, column 10: unknown word `.`; expected the end of the text; lines end without a mark"),
+    ("rounds 1", "rounds 1.", "line 1, column 9: unknown word `.`; expected `channels`; lines end without a mark"),
+    (
+        "r0 = id",
+        "r0 = ..",
+        "line 5, column 6: unknown word `.`; expected an expression; where `..` stands in an example, an expression is written",
+    ),
     ("finish r0", "finish add(r0 # )", "line 11, column 1: unexpected end of the text; expected `,`; `add` takes 2 operands"),
 ]
 

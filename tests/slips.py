@@ -53,7 +53,7 @@ TWICE = {
     "(": [BRACKETS],
     ")": [TAKES, "this bracket closes nothing"],
     ",": [TAKES],
-    "=": [ONLY_ASSIGNED],
+    "=": ["an assignment is written with one `=`"],
     "operand": [SAME, ASSIGNED],
 }
 

@@ -729,6 +729,11 @@ ADVICE = [
     ("run --ids 8 5,1,3,7", "nbhd: a ring is given by `--ring`, as in `--ring 5,1,3,7`\n"),
     ("check 8", "nbhd: each number is the value of an option, as in `--ids 8`\n"),
     ("audit migrate", "nbhd: one command is given at a time\n"),
+    *((f"judge {word}", ONE_MINUS) for word in ["ids 8", "ids=8", "--ids 8 near 2", "-- ids 8"]),
+    (["judge", "--ids", "8", "<", "mine"], "nbhd: `<` and `>` are read by the shell, outside of quotes\n"),
+    ("run --ids 8 -r 5,1,3,7", "nbhd: a ring is given by `--ring`, of `run`, `trace`, `explain` and `plan`\n"),
+    ("audit --table old.table", TABLE_NAME),
+    ("migrate --version 2", "nbhd: `nbhd migrate` prints a table in the newest version\n"),
     # A word that is like a name, and of which nothing else is known, has what `clap` says of it alone.
     ("chek --ids 8", NO_TIP),
     ("table --ids 8 --worker 1", NO_TIP),
@@ -760,7 +765,7 @@ ESCAPED = [
 ]
 
 # Words of which `clap` says that they are like others, which is not shown.
-UNLIKE = ["man", "simulate --ids 8", "check --bits --ids 8"]
+UNLIKE = ["man", "simulate --ids 8", "simulat", "check --bits --ids 8"]
 
 # Ring texts, the number of the first part that is none, and this part.
 PARTS = [("5, 1", 2, " 1"), ("", 1, ""), ("5,1,3,7,", 5, ""), ("4294967296", 1, "4294967296")]

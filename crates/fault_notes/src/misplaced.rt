@@ -61,6 +61,11 @@ fn equals_advice(place: Place) -> &'static str {
     match place.wanted {
         Expected::This(Token::Comma) | Expected::This(Token::Close) =>
             "; write `eq(a, b)` to compare",
+        Expected::End => "; write `eq(a, b)` to compare",
+        Expected::Expression if matches!(place.last, b"=") =>
+            "; an assignment is written with one `=`",
+        Expected::This(Token::Round) | Expected::This(Token::Finish)
+            if matches!(place.last, [b'r', _]) => "; each assignment has one register",
         _ if place.rest.starts_with(b"==") && is_end(place.last) => "; write `eq(a, b)` to compare",
         _ => "; `=` is only written after the register of an assignment",
     }

@@ -98,7 +98,14 @@ const BEFORE_NUMBERS: [(&[u8], &str); 5] = [
 ];
 
 // Marks where an expression is wanted.
-const BEFORE_EXPRESSIONS: [(&[u8], &str); 5] = [
+const BEFORE_EXPRESSIONS: [(&[u8], &str); 9] = [
+    (
+        b"..",
+        "; where `..` stands in an example, an expression is written",
+    ),
+    (b"|", "; |a - b| is `sub(max(a, b), min(a, b))`"),
+    (b"&", ""),
+    (b"^", ""),
     (b"+", SIGN),
     (b".", WHOLE),
     (b":", "; an expression has no mark before it"),
@@ -350,6 +357,7 @@ fn copied_advice(place: Place) -> Option<&'static str> {
             "; nothing follows the expression of `finish`",
         ),
         (_, [b'\\', b'n' | b'r' | b't', ..]) => Some(NO_FEED),
+        (_, [b'.'] | [b'.', b'\n' | b'\r' | b' ', ..]) => Some(NO_MARK),
         _ => None,
     }
 }

@@ -24,6 +24,7 @@ pub(crate) enum Foreign {
     Output,
     Text,
     Identifiers,
+    Ring,
     Rounds,
     Colours,
     Parts,
@@ -32,7 +33,7 @@ pub(crate) enum Foreign {
 }
 
 // Names of commands of other programs.
-pub(crate) const COMMANDS: [(&[u8], Foreign); 52] = [
+pub(crate) const COMMANDS: [(&[u8], Foreign); 57] = [
     (b"man", Foreign::Help),
     (b"info", Foreign::Help),
     (b"usage", Foreign::Help),
@@ -41,11 +42,15 @@ pub(crate) const COMMANDS: [(&[u8], Foreign); 52] = [
     (b"commands", Foreign::Help),
     (b"version", Foreign::Version),
     (b"simulate", Foreign::Run),
+    (b"simulat", Foreign::Run),
+    (b"simulation", Foreign::Run),
     (b"exec", Foreign::Run),
     (b"execute", Foreign::Run),
     (b"sim", Foreign::Run),
     (b"verify", Foreign::Verify),
     (b"validate", Foreign::Verify),
+    (b"verification", Foreign::Verify),
+    (b"validation", Foreign::Verify),
     (b"test", Foreign::Verify),
     (b"prove", Foreign::Verify),
     (b"correct", Foreign::Verify),
@@ -63,6 +68,7 @@ pub(crate) const COMMANDS: [(&[u8], Foreign); 52] = [
     (b"dimacs", Foreign::Solve),
     (b"show", Foreign::Show),
     (b"draw", Foreign::Show),
+    (b"visualize", Foreign::Show),
     (b"graph", Foreign::Show),
     (b"dot", Foreign::Show),
     (b"plot", Foreign::Show),
@@ -88,7 +94,7 @@ pub(crate) const COMMANDS: [(&[u8], Foreign); 52] = [
 ];
 
 // Names of options of other programs.
-pub(crate) const OPTIONS: [(&[u8], Foreign); 84] = [
+pub(crate) const OPTIONS: [(&[u8], Foreign); 85] = [
     (b"-w", Foreign::Threads),
     (b"-j", Foreign::Threads),
     (b"--threads", Foreign::Threads),
@@ -152,7 +158,8 @@ pub(crate) const OPTIONS: [(&[u8], Foreign); 84] = [
     (b"--T", Foreign::Rounds),
     (b"--steps", Foreign::Rounds),
     (b"--round", Foreign::Rounds),
-    (b"-r", Foreign::Rounds),
+    (b"-r", Foreign::Ring),
+    (b"--cycle", Foreign::Ring),
     (b"-c", Foreign::Colours),
     (b"-C", Foreign::Colours),
     (b"-k", Foreign::Colours),
@@ -209,10 +216,11 @@ impl Foreign {
                 "nbhd: a report is on the standard output, a note on the standard error; there is no option for more or less",
             Foreign::Output =>
                 "nbhd: the answer is on the standard output, as in `nbhd table --ids 8 < FILE > OUTPUT`",
-            Foreign::Text =>
-                "nbhd: a text is read from standard input, as in `nbhd judge --ids 8 < FILE`",
+            Foreign::Text => file_line(command),
             Foreign::Identifiers =>
                 "nbhd: the number of identifiers is given by `--ids`, as in `--ids 8`",
+            Foreign::Ring =>
+                "nbhd: a ring is given by `--ring`, of `run`, `trace`, `explain` and `plan`",
             Foreign::Rounds =>
                 "nbhd: a program says its rounds; those of a formula are given by `--rounds`",
             Foreign::Colours =>
@@ -231,5 +239,19 @@ fn threads_line(command: &[u8]) -> &'static str {
             "nbhd: the number of threads is given by `--workers`, as in `--workers 4`",
         b"run" => "nbhd: a run has a thread for each segment, as in `--segments 4`",
         _ => "nbhd: this command has one thread",
+    }
+}
+
+// Returns the line on the name of a file, at the command with this name.
+pub(crate) fn file_line(command: &[u8]) -> &'static str {
+    match command {
+        b"formula" => "nbhd: `nbhd formula` reads no file",
+        b"audit" | b"migrate" => {
+            "nbhd: a table is read from standard input, as in `nbhd audit < FILE`"
+        }
+        b"refute" => {
+            "nbhd: a refutation is read from standard input, as in `nbhd refute --ids 3 --rounds 0 --channels 2 < FILE`"
+        }
+        _ => "nbhd: a text is read from standard input, as in `nbhd judge --ids 8 < FILE`",
     }
 }

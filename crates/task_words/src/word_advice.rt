@@ -1,6 +1,6 @@
 //! Advice on a word that `clap` refuses, which its text names. It promises nothing.
 
-use crate::foreign_names::{COMMANDS, Foreign, OPTIONS};
+use crate::foreign_names::{COMMANDS, Foreign, OPTIONS, file_line};
 
 const NO_COMMAND: &str = "nbhd: the name of a command comes first, as in `nbhd check --ids 8`";
 
@@ -118,6 +118,9 @@ fn command_advice(word: &str, lower: &str) -> Option<&'static str> {
 fn argument_advice(command: &[u8], word: &str) -> Option<&'static str> {
     let name = name_of(word);
     match (command, name) {
+        (b"migrate", b"--version") => Some(
+            "nbhd: `nbhd migrate` prints a table in the newest version",
+        ),
         (_, b"--version" | b"-V") => Some("nbhd: the first line of `nbhd --help` has the version"),
         ([b'-', ..] | [], _) => Some(NO_COMMAND),
         (b"audit" | b"migrate", [b'-', b'-', b'a'..=b'z', ..]) if is_option(name) => Some(
@@ -137,22 +140,37 @@ fn is_option(name: &[u8]) -> bool {
     name == b"--ids".as_slice() || advice_in(&OF_COMMANDS, name).is_some()
 }
 
+// Returns whether this is the name of an option without its minus signs.
+fn is_bare_option(word: &[u8]) -> bool {
+    matches!(
+        word,
+        b"ids"
+            | b"ring"
+            | b"rounds"
+            | b"channels"
+            | b"near"
+            | b"far"
+            | b"workers"
+            | b"segments"
+            | b"place"
+            | b"base"
+    )
+}
+
 // Returns advice on a word that is no option and not the value of one.
 fn stray_advice(command: &[u8], word: &[u8]) -> &'static str {
     match (command, word) {
         (_, word) if is_command(word) => "nbhd: one command is given at a time",
+        (_, word) if is_bare_option(word) => {
+            "nbhd: the name of an option has two minus signs before it, as in `--ids 8`"
+        }
         (b"run" | b"trace" | b"explain" | b"plan", [b'0'..=b'9', ..]) if word.contains(&b',') => {
             "nbhd: a ring is given by `--ring`, as in `--ring 5,1,3,7`"
         }
         (_, [b'0'..=b'9', ..] | []) =>
             "nbhd: each number is the value of an option, as in `--ids 8`",
-        (b"formula", _) => "nbhd: `nbhd formula` reads no file",
-        (b"audit" | b"migrate", _) =>
-            "nbhd: a table is read from standard input, as in `nbhd audit < FILE`",
-        (b"refute", _) => {
-            "nbhd: a refutation is read from standard input, as in `nbhd refute --ids 3 --rounds 0 --channels 2 < FILE`"
-        }
-        _ => "nbhd: a text is read from standard input, as in `nbhd judge --ids 8 < FILE`",
+        (_, [b'<' | b'>', ..]) => "nbhd: `<` and `>` are read by the shell, outside of quotes",
+        _ => file_line(command),
     }
 }
 
