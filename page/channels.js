@@ -35,15 +35,19 @@ export function badge(channel, x, y, radius, name = String(channel)) {
   const lower = (LOWER[shape] ?? 0) * radius;
   if (SHAPES[shape]) group.append(svg("path", { d: outline(SHAPES[shape], radius, lower), ...look }));
   else group.append(svg("circle", { r: radius, ...look }));
-  const digits = name.length;
-  const size = radius * (digits < 2 ? 1.25 : digits < 3 ? 1.1 : digits < 4 ? 0.8 : digits < 5 ? 0.62 : 3 / digits);
-  group.append(svg("text", { y: lower / 2, "font-size": size, class: "badge-number" }, name));
+  group.append(svg("text", { y: lower / 2, "font-size": radius * heightOf(name.length), class: "badge-number" }, name));
   return group;
 }
 
+/** The height of a badge's number with so many digits, in radii. */
+export const heightOf = (digits) => (digits < 2 ? 1.25 : digits < 3 ? 1.1 : digits < 4 ? 0.8 : digits < 5 ? 0.62 : 3 / digits);
+
 /** The badge of a channel as a separate image, for running text and lists. */
 export function badgeImage(channel, name = String(channel)) {
-  const image = svg("svg", { class: "badge-image", viewBox: "-15 -15 30 30", role: "img", "aria-label": `channel ${channel}` });
+  // On a large page the number is 20.5 pixels high.
+  const side = document.body.classList.contains("large") ? `${61.5 / heightOf(name.length)}px` : "";
+  const style = { width: side, height: side };
+  const image = svg("svg", { class: "badge-image", viewBox: "-15 -15 30 30", role: "img", "aria-label": `channel ${channel}`, style });
   image.append(badge(channel, 0, 0, 10, name));
   return image;
 }

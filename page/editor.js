@@ -12,6 +12,7 @@ const ink = box.querySelector(".ink");
 
 let fault = null; // the place of the mark: { row, column }, both from 0, the column in UTF-16 units
 let asked = null; // the place of the word that is asked about, as that of a fault
+let doing = null; // the first and the last row of what the run's step does
 let blocks = []; // of the copy: { element, seen, drawn }, where `drawn` is what the element was drawn from
 
 const watch = new IntersectionObserver((entries) => {
@@ -28,6 +29,7 @@ export function onEdit(listener) {
   area.addEventListener("input", () => {
     fault = null;
     asked = null;
+    doing = null;
     draw();
     listener(area.value);
   });
@@ -48,6 +50,20 @@ export function markWord(place) {
   if (mark) bringIntoSight(mark);
 }
 
+/** Marks the rows of what a step does, from the first to the last one, or none. */
+export function markRows(rows) {
+  if (doing?.join() === rows?.join()) return;
+  doing = rows;
+  draw();
+  scrollToRows();
+}
+
+/** Scrolls the editor to the rows of what a step does. While one types, the cursor decides what is visible. */
+export function scrollToRows() {
+  const first = doing && rowOf(doing[0]);
+  if (first && document.activeElement !== area) bringIntoSight(first);
+}
+
 /** The row and the column of an index of the text, both from 0. */
 function placeOf(index) {
   const before = area.value.slice(0, index).split("\n");
@@ -60,6 +76,7 @@ export function showText(text) {
   area.value = text;
   fault = null;
   asked = null;
+  doing = null;
   draw();
   area.setSelectionRange(0, 0);
   const head = rowOf(headRows(text.split("\n")));
@@ -119,7 +136,8 @@ function draw() {
 function drawBlock(number, text) {
   const block = blocks[number];
   const first = number * ROWS;
-  const marked = [fault, asked].map((place) => (place && first <= place.row && place.row < first + ROWS
+  const marks = [fault, asked, ...(doing ?? []).map((row) => ({ row, column: 0 }))];
+  const marked = marks.map((place) => (place && first <= place.row && place.row < first + ROWS
     ? `${place.row}:${place.column}` : "")).join(" ").trim();
   // The block of a mark has it in sight or not, so that one can go there.
   const coloured = block.seen || marked !== "";
@@ -136,7 +154,8 @@ const rowOf = (number) => ink.querySelector(`[data-row="${number + 1}"]`);
 function drawRow(text, number) {
   const faultAt = fault?.row === number ? fault.column : -1;
   const askedAt = asked?.row === number ? asked.column : -1;
-  const row = html("div", { "data-row": number + 1, class: faultAt < 0 ? "row" : "row faulty" },
+  const isDone = doing !== null && doing[0] <= number && number <= doing[1];
+  const row = html("div", { "data-row": number + 1, class: `row${faultAt < 0 ? "" : " faulty"}${isDone ? " now" : ""}` },
     pieces(text).flatMap((piece) => (piece.at === askedAt
       ? [html("span", { class: `${piece.kind} asked` }, piece.text)] : drawPiece(piece, faultAt))));
   if (faultAt >= text.length) row.append(html("mark", { class: "fault at-end" }));

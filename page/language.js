@@ -71,5 +71,20 @@ export function partTokens(text) {
     .map((match) => ({ at: match.index, length: match[0].length }));
 }
 
+/** The first and the last row of a program that a step of its run does, from 0; `null` for a text that has no such part. */
+export function rowsOfStep(text, { kind, round }) {
+  const tokens = [...text.matchAll(/#[^\n]*|[A-Za-z0-9]+|[=()]/g)].filter(([word]) => !word.startsWith("#"));
+  const heads = tokens.flatMap(([word], i) => (["start", "round", "finish"].includes(word) ? [i] : []));
+  const head = { start: 0, send: round, assign: round, finish: heads.length - 1 }[kind];
+  if (heads[head] === undefined) return null;
+  let [from, to] = [heads[head] + (kind === "finish" ? 0 : 1), heads[head + 1] ?? tokens.length];
+  const assigned = tokens.findIndex((_, i) => i >= from && tokens[i + 1]?.[0] === "=");
+  if (kind === "send") to = assigned;
+  if (kind === "assign") from = assigned;
+  if (from < 0 || to <= from) return null;
+  const rowOf = ({ index }) => text.slice(0, index).split("\n").length - 1;
+  return [rowOf(tokens[from]), rowOf(tokens[to - 1])];
+}
+
 /** The number of rounds that a text names, 0 if it names none. */
 export const roundsOf = (text) => Number(text.match(/^\s*rounds\s+(\d+)/m)?.[1] ?? 0);

@@ -15,6 +15,7 @@ const VIEWS = { run: updateRun, judge: updateJudge, table: updateTable, graph: u
 // The views that a value of the state belongs to. The text and the number of identifiers belong to all views.
 const USERS = {
   ring: ["run"], step: ["run"], why: ["run"], base: ["run"], near: ["judge", "graph"], far: ["judge", "graph"], prefix: ["table"], arrange: ["graph"],
+  large: ["run", "judge"],
 };
 const PAUSE_MS = 250;
 
@@ -25,6 +26,7 @@ function update(changed) {
   showExample();
   showMissing();
   if (changed.has("view")) showView();
+  if (changed.has("large")) showSize();
   if (changed.has("text") || changed.has("ids")) {
     checked = null;
     showText(state.text);
@@ -61,6 +63,12 @@ function showView() {
   }
 }
 
+/** Shows the page with large numbers, for a class, or as usual. */
+function showSize() {
+  document.body.classList.toggle("large", state.large !== "");
+  byId("large").ariaPressed = String(state.large !== "");
+}
+
 function startTabs() {
   const names = Object.keys(VIEWS);
   for (const name of names) {
@@ -76,6 +84,7 @@ function startTabs() {
 }
 
 function startTools() {
+  byId("large").addEventListener("click", () => change({ large: state.large ? "" : "1" }));
   byId("copy-link").addEventListener("click", async ({ target }) => {
     try {
       await navigator.clipboard.writeText(link());

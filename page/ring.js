@@ -1,7 +1,7 @@
 // The drawing of a ring. Place 0 is at the top, and the right neighbour of a place is the next one clockwise.
 
 import { arc, arrowhead, point, svg } from "./dom.js";
-import { badge, colourOf } from "./channels.js";
+import { badge, colourOf, heightOf } from "./channels.js";
 
 /** The height of a message, and its width for a number of digits. */
 export const PILL = 19;
@@ -77,19 +77,26 @@ export function drawNode(size, place, identifier, channel, label) {
   group.append(svg("circle", disc));
   if (size.numbered) {
     const digits = String(identifier).length;
-    const font = Math.min(size.node * 0.95, (size.node * 2.9) / Math.max(digits, 2));
+    const font = Math.min(size.node * 0.95, (size.node * 2.3) / Math.max(digits, 2));
     const kind = channel === undefined ? "identifier" : "identifier on-colour";
     group.append(svg("text", { class: kind, "font-size": font }, identifier));
   } else {
     group.append(svg("title", {}, identifier));
   }
   if (channel !== undefined && size.numbered) {
-    const small = size.n <= 12 ? 11 : size.n <= 32 ? 8.5 : 7.5;
+    const small = radiusOfBadge(size.n, channel.text.length);
     const [x, y] = point(turn, -(size.node + small * 1.3 + (size.n <= 12 ? 7 : 3)));
     group.append(badge(channel.number, x, y, small, channel.text));
   }
   if (label !== undefined && size.numbered) group.append(drawLabel(size, turn, label));
   return group;
+}
+
+/** The radius of the badges of a ring. On a large page their numbers are as high as those beside the nodes. */
+function radiusOfBadge(n, digits) {
+  const usual = n <= 12 ? 11 : n <= 32 ? 8.5 : 7.5;
+  const isLarge = document.body.classList.contains("large") && n <= 12;
+  return isLarge ? Math.min(Math.max(usual, 13.5 / heightOf(digits)), 24) : usual;
 }
 
 /** Moves a node to `turn` on the circle, or to the point `at` of the drawing. */

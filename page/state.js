@@ -3,9 +3,9 @@
 import { withCommas } from "./ring-text.js";
 
 // The step of a run is its number, `end` for the last one, and empty for the start; `why` is the place of the node that is explained.
-// The base is that of a run's numbers.
+// The base is that of a run's numbers; `large` is `1` for a class.
 const DEFAULTS = {
-  view: "run", ids: "8", ring: "5,1,3,7", step: "", why: "", base: "10", near: "1", far: "0", prefix: "", arrange: "channel",
+  view: "run", ids: "8", ring: "5,1,3,7", step: "", why: "", base: "10", near: "1", far: "0", prefix: "", arrange: "channel", large: "",
 };
 const BASES = ["2", "10"];
 const FIRST = "cv1.txt";

@@ -215,7 +215,7 @@ function pointLabel(window, { turn }, [x, y], along) {
 
 function showClose({ windows, channels }, close) {
   if (close.length === 0) return byId("edges").replaceChildren();
-  const badges = ([a, b]) => [...new Set([channels[a], channels[b]])].map(badgeImage);
+  const badges = ([a, b]) => [...new Set([channels[a], channels[b]])].map((channel) => badgeImage(channel));
   return byId("edges").replaceChildren(
     html("h3", {}, state.near === "1" ? "Edges between equal channels" : "Edges between channels that are too close"),
     html("ul", { class: "close-edges" }, close.slice(0, 24).map(([a, b]) =>

@@ -12,7 +12,9 @@ import { nameOf, sentenceOf, stepsOf } from "./trace.js";
 import { showTrace, markStep, markPlace } from "./trace-table.js";
 import { fillTray } from "./tray.js";
 import { closeWhy, openWhy, showWhy, startWhy, whyPlace } from "./why.js";
-import { numerals } from "./numerals.js";
+import { numerals, widthOf } from "./numerals.js";
+import { markRows } from "./editor.js";
+import { rowsOfStep } from "./language.js";
 import { PROGRAM_REFUSED, readRefusal } from "./faults.js";
 
 const STEP_MS = 1500;
@@ -69,8 +71,8 @@ export async function updateRun(checked) {
   return show();
 }
 
-/** The texts of numbers, in the base of the state. */
-const shown = (values) => numerals(values, state.base);
+/** The texts of numbers, in the base of the state, and as wide as the identifiers. */
+const shown = (values) => numerals(values, state.base, widthOf(readRing(state.ring) ?? []));
 
 /** Shows the ring without a run, and why. */
 function showRefused(why) {
@@ -89,6 +91,7 @@ function show({ moving = false } = {}) {
   const ring = readRing(state.ring);
   const step = steps?.[at];
   stage.classList.toggle("idle", !step);
+  markRows(step ? rowsOfStep(state.text, step) : null);
   for (const name of ["back", "play", "forward"]) byId(name).disabled = !step;
   byId("run-say").replaceChildren(...(step ? coded(sentenceOf(step, shown(ring))) : []));
   drawing = null;
@@ -271,7 +274,10 @@ export function startRun() {
   });
 }
 
-export const stopRun = pause;
+export function stopRun() {
+  pause();
+  markRows(null);
+}
 
 /** Offers random rings from the least size that the program has on. */
 function offerSizes({ rounds, ids }) {

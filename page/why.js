@@ -2,10 +2,10 @@
 
 import { ask, drop } from "./ask.js";
 import { byId, coded, html } from "./dom.js";
-import { markWord, onWord } from "./editor.js";
+import { markWord, onWord, scrollToRows } from "./editor.js";
 import { readRefusal } from "./faults.js";
 import { partTokens } from "./language.js";
-import { numerals } from "./numerals.js";
+import { numerals, widthOf } from "./numerals.js";
 import { change, state } from "./state.js";
 import { branchesOf, sourceOf, treesIn, treesOf } from "./trees.js";
 
@@ -57,6 +57,7 @@ export async function showWhy(step, ring) {
   const tokens = partTokens(text);
   box.replaceChildren(...treesIn(treesOf(answer.out), step).map((tree) => drawTree(tree, tokens, step, ring)));
   panel.scrollTop = 0;
+  scrollToRows();
   return bringIntoView();
 }
 
@@ -69,7 +70,7 @@ function bringIntoView() {
 }
 
 function drawTree({ head, parts }, tokens, step, ring) {
-  const values = numerals(parts.map(({ value }) => value), state.base);
+  const values = numerals(parts.map(({ value }) => value), state.base, widthOf(ring));
   const branches = branchesOf(parts);
   const folded = new Set(branches.flatMap((_, i) => (branches.some(({ within }) => within.includes(i)) ? [i] : [])));
   const list = html("ul", { role: "tree", "aria-label": head });

@@ -5,10 +5,10 @@ import { readFileSync } from "node:fs";
 import { test } from "node:test";
 
 import { readRefusal } from "../../page/faults.js";
-import { headRows, OPERATIONS, partTokens, pieces, roundsOf } from "../../page/language.js";
+import { headRows, OPERATIONS, partTokens, pieces, roundsOf, rowsOfStep } from "../../page/language.js";
 import { fewerChannels } from "../../page/least.js";
 import { clamp, whyNoNumber } from "../../page/numbers.js";
-import { numerals } from "../../page/numerals.js";
+import { numerals, widthOf } from "../../page/numerals.js";
 import { readRing, whyNoRing, withCommas } from "../../page/ring-text.js";
 import { countChannels, edgesOf, leastBytes, readTable } from "../../page/table.js";
 import { equalPairs, nameOf, sentenceOf, stepsOf } from "../../page/trace.js";
@@ -156,6 +156,8 @@ test("numerals: decimal, and binary as wide as the widest", () => {
   assert.deepEqual(numerals([5, 0, 10], "10"), ["5", "0", "10"]);
   assert.deepEqual(numerals([5, 0, 10], "2"), ["0101", "0000", "1010"]);
   assert.deepEqual(numerals([0], "2"), ["0"]);
+  assert.deepEqual(numerals([0, 9], "10", widthOf([7])), ["0", "9"]);
+  assert.deepEqual(numerals([0], "2", widthOf([5, 7])), ["000"]);
   assert.deepEqual(numerals([4294967295], "2"), ["1".repeat(32)]);
 });
 
@@ -188,6 +190,15 @@ test("trees: where a value comes from", () => {
   assert.deepEqual(found("assign", 2, "L"), { kind: "send", round: 2, head: "round 2 right", further: -1 });
   assert.deepEqual(found("assign", 2, "R"), { kind: "send", round: 2, head: "round 2 left", further: 1 });
   for (const word of ["id", "3", "add"]) assert.equal(found("assign", 1, word), null);
+});
+
+test("language: the rows that a step does", () => {
+  const text = "rounds 2 # start\nchannels 6\nregisters 2\nstart\nr0 = id\nr1 = 0\nround\nsend left 0\nsend right r0\nr0 = L\nr1 = add(\n"
+    + "R,\n1)\nround send left r1 send right 0 r0 = 0 r1 = 1 # finish\nfinish r0\n";
+  const found = (kind, round) => rowsOfStep(text, { kind, round });
+  assert.deepEqual([found("start", 0), found("send", 1), found("assign", 1)], [[4, 5], [7, 8], [9, 12]]);
+  assert.deepEqual([found("send", 2), found("assign", 2), found("finish", 2)], [[13, 13], [13, 13], [14, 14]]);
+  assert.equal(found("send", 3), null);
 });
 
 test("language: the words of expressions, as the trees have them", () => {

@@ -282,8 +282,8 @@ def paper(page):
 
 
 def in_base_two(values):
-    """Numbers in binary, all as wide as the widest."""
-    width = max(len(f"{int(value):b}") for value in values)
+    """Numbers in binary, all as wide as the widest and as the identifiers of 5,1,3,7."""
+    width = max(3, *(len(f"{int(value):b}") for value in values))
     return [f"{int(value):0{width}b}" for value in values]
 
 
@@ -413,6 +413,36 @@ def why_leads_on(page):
     page.wait("Back to the run", "document.querySelector('#tab-run').ariaSelected === 'true'")
 
 
+# The height of the letters of an element on the screen.
+HEIGHT = "(e => parseFloat(getComputedStyle(e).fontSize) * (e.ownerSVGElement?.getScreenCTM().a ?? 1))"
+NUMBERS = ".ring .identifier, .ring .label, .ring .badge-number, .message text, .trace td, .trace .badge-number, .ink, .tree code, .tree b"
+
+
+def large(page):
+    """Large numbers are 20 px high or more at each step, also in binary, and nothing is too wide; the rows that a step does are marked."""
+    rows = {0: ["r0 = id"], 1: ["send left 0", "send right r0"], 2: [CV1.split("send right r0\n")[1].split("\n")[0]], 3: ["finish r0"]}
+    for width, height in ((1920, 1080), (1280, 800)):
+        page.browser.size(width, height)
+        for base in ("10", "2"):
+            for ring in ("5,1,3,7", "5,1,3,7,0,2,6,4"):
+                page.open(**{**START, "ring": ring, "step": "", "base": base, "large": "1", "why": "1"})
+                for step, marked in rows.items():
+                    page.wait(f"step {step} at {width}", f"document.querySelectorAll('#timeline button')[{step}]?.ariaCurrent === 'step' && {ITEMS}.length")
+                    least = page.value(f"Math.min(...[...document.querySelectorAll('{NUMBERS}')].map({HEIGHT}))")
+                    STEPS.check(f"numbers of {ring} to the base {base} at {width}, step {step}", least >= 20, least)
+                    STEPS.equal(f"the rows of step {step}", [text.strip() for text in page.texts(".row.now")], marked)
+                    inside = "(r => (b => r.top >= b.top && r.bottom <= b.bottom)(document.querySelector('#editor').getBoundingClientRect()))"
+                    seen = f"{inside}(document.querySelector('.row.now').getBoundingClientRect())"
+                    STEPS.check(f"they are in sight at {width}, step {step}", page.value(seen))
+                    page.click("#forward")
+                STEPS.check(f"large at {width}: nothing is too wide", page.value("document.documentElement.scrollWidth <= innerWidth"))
+    page.browser.size(1280, 900)
+    page.click("#tab-judge")
+    STEPS.equal("no row is marked beside another view", page.count(".row.now"), 0)
+    page.click("#large")
+    STEPS.equal("as usual", page.value("document.body.className.includes('large')"), False)
+
+
 def why_keys(page):
     """Arrows go along the tree, whose parts mark their words and the other way round; Escape closes it."""
     page.open(**START, step="2")
@@ -441,4 +471,4 @@ def why_keys(page):
     STEPS.equal("and returns to the node", page.value("document.activeElement.dataset.place"), "1")
 
 
-SURFACES = [help_panel, documents, colours, touch, readers, screens, numbers, examples_by_name, localhost, graph_by_distance, paper, binary, why, why_in_view, why_leads_on]
+SURFACES = [help_panel, documents, colours, touch, readers, screens, numbers, examples_by_name, localhost, graph_by_distance, paper, binary, why, large, why_in_view, why_leads_on]

@@ -443,6 +443,8 @@ def graph(page):
         said = {0: "None joins", 1: "1 joins"}.get(len(equal), f"{len(equal)} join")
         STEPS.check(f"its sentence for {ids}", f" {said} windows with equal channels." in page.text("#graph-say"))
         STEPS.equal(f"their list for {ids}", page.texts(".close-edges .code"), equal[:24])
+        named = page.value("[...document.querySelectorAll('.close-edges .badge-image')].every(e => e.ariaLabel === `channel ${e.textContent}`)")
+        STEPS.check(f"their badges for {ids}", named)
     page.open(view="graph", ids="5", text=LDB)
     page.wait("the graph for the keys", "document.querySelectorAll('.graph .point').length")
     page.focus(".graph .point[tabindex='0']")
