@@ -4,20 +4,6 @@
 // and the least one with a table.
 const KNOWN = [
   [0, 1, 0, 2, 2, 1, 2],
-  [0, 1, 0, 3, 3, 2, 3],
-  [0, 1, 0, 4, 4, 3, 4],
-  [0, 1, 0, 5, 5, 4, 5],
-  [0, 1, 0, 6, 6, 5, 6],
-  [0, 1, 0, 7, 7, 6, 7],
-  [0, 1, 1, 3, 3, 2, 3],
-  [0, 1, 1, 4, 4, 3, 4],
-  [0, 1, 1, 5, 5, 4, 5],
-  [0, 1, 1, 6, 6, 5, 6],
-  [0, 1, 1, 7, 7, 6, 7],
-  [0, 2, 1, 3, 3, 4, 5],
-  [0, 2, 1, 4, 4, 6, 7],
-  [0, 2, 1, 5, 5, 8, 9],
-  [0, 2, 1, 6, 6, 10, 11],
   [1, 1, 0, 4, 4, 1, 2],
   [1, 1, 0, 5, 6, 2, 3],
   [1, 1, 0, 7, 25, 3, 4],
@@ -38,15 +24,37 @@ const KNOWN = [
   [2, 2, 1, 8, 8, 5, 10],
 ];
 
+// Rounds, the most identifiers and channels of examples that keep neighbours apart by 1.
+const EXAMPLES = [
+  [1, 20, 4, "sperner_20_4.txt"],
+  [1, 162, 5, "five_162.txt"],
+  [2, 23, 3, "three_23.txt"],
+];
+
 const channels = (number) => (number === 1 ? "one channel" : `${number} channels`);
 
-/** A sentence on the fewest channels for a table with so many, or `undefined` where nothing is known. */
-export function fewerChannels(rounds, ids, near, far, own) {
+/** The greatest number of channels that is refuted, and the least one with a table, or `undefined` where neither is known. */
+export function knownChannels(rounds, ids, near, far) {
   const row = KNOWN.find(([t, p, q, from, to]) => t === rounds && p === near && q === far && from <= ids && ids <= to);
-  if (!row) return undefined;
-  const [refuted, least] = row.slice(5);
-  if (own <= refuted) return `No program does it with so few: with ${channels(refuted)} there is no table.`;
+  if (row) return row.slice(5);
+  // Without a round any two identifiers can be neighbours, so their channels are `near` apart.
+  return rounds === 0 && ids >= 3 && near >= far ? [(ids - 1) * near, (ids - 1) * near + 1] : undefined;
+}
+
+/**
+ * What is known of fewer channels than so many for a table, as a sentence and the name of an example with as few as are known, if there
+ * is one; or `undefined` where nothing is known.
+ */
+export function fewerChannels(rounds, ids, near, far, own) {
+  const known = knownChannels(rounds, ids, near, far);
+  if (!known) return undefined;
+  const [refuted, least] = known;
+  if (own <= refuted) return { says: `No program does it with so few: with ${channels(refuted)} there is no table.` };
   const none = `with ${channels(refuted)} there is none`;
-  if (own > least) return `Fewer channels? There is a table with ${channels(least)}, and ${none}.`;
-  return own === refuted + 1 ? `Fewer channels? No: ${none}.` : `Fewer channels? ${none[0].toUpperCase()}${none.slice(1)}; more is not known.`;
+  if (own > least) {
+    const example = EXAMPLES.find(([t, most, count]) => near === 1 && far === 0 && t === rounds && ids <= most && count === least);
+    return { says: `Fewer channels? There is a table with ${channels(least)}, and ${none}.`, example: example?.[3] };
+  }
+  if (own === refuted + 1) return { says: `Fewer channels? No: ${none}.` };
+  return { says: `Fewer channels? ${none[0].toUpperCase()}${none.slice(1)}; more is not known.` };
 }

@@ -63,9 +63,13 @@ function demand() {
 }
 
 /** What is known of fewer channels, as a list of at most one paragraph. */
-function fewer({ ids, rounds, channels }) {
-  const known = fewerChannels(rounds, ids, Number(state.near), Number(state.far), channels);
-  return known ? [html("p", { class: "aside fewer" }, known)] : [];
+function fewer({ ids, rounds, channels, bound }) {
+  // The program may never use the channels above its bound.
+  const known = fewerChannels(rounds, ids, Number(state.near), Number(state.far), Math.min(channels, bound + 1));
+  if (!known) return [];
+  const link = (href, words) => html("a", { href, target: "_blank" }, words);
+  const example = known.example && [" ", link(`#view=judge&ids=${ids}&example=${known.example}`, known.example)];
+  return [html("p", { class: "aside fewer" }, known.says, example, " ", link("docs/LEAST.html#what-is-known", "What is known"))];
 }
 
 function showYes(line, accepted) {

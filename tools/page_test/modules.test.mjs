@@ -6,7 +6,7 @@ import { test } from "node:test";
 
 import { readRefusal } from "../../page/faults.js";
 import { headRows, OPERATIONS, partTokens, pieces, roundsOf, rowsOfStep } from "../../page/language.js";
-import { fewerChannels } from "../../page/least.js";
+import { fewerChannels, knownChannels } from "../../page/least.js";
 import { clamp, whyNoNumber } from "../../page/numbers.js";
 import { numerals, widthOf } from "../../page/numerals.js";
 import { readRing, whyNoRing, withCommas } from "../../page/ring-text.js";
@@ -146,10 +146,18 @@ test("verdict: a no of neighbours and one at distance two", () => {
 });
 
 test("least: what is known of fewer channels", () => {
-  assert.equal(fewerChannels(1, 8, 1, 0, 6), "Fewer channels? There is a table with 4 channels, and with 3 channels there is none.");
-  assert.equal(fewerChannels(1, 8, 1, 0, 4), "Fewer channels? No: with 3 channels there is none.");
-  assert.equal(fewerChannels(1, 8, 1, 0, 3), "No program does it with so few: with 3 channels there is no table.");
-  assert.equal(fewerChannels(3, 8, 1, 0, 3), undefined);
+  const said = (...words) => fewerChannels(...words)?.says;
+  assert.equal(said(1, 8, 1, 0, 6), "Fewer channels? There is a table with 4 channels, and with 3 channels there is none.");
+  assert.equal(fewerChannels(1, 8, 1, 0, 6).example, "sperner_20_4.txt");
+  assert.equal(fewerChannels(1, 22, 1, 0, 6).example, undefined);
+  assert.equal(said(1, 8, 1, 0, 4), "Fewer channels? No: with 3 channels there is none.");
+  assert.equal(said(1, 8, 1, 0, 3), "No program does it with so few: with 3 channels there is no table.");
+  assert.equal(said(3, 8, 1, 0, 3), undefined);
+});
+
+test("least: the rule without a round, for every number of identifiers", () => {
+  assert.deepEqual([knownChannels(0, 2, 1, 0), knownChannels(0, 2, 2, 1)], [[1, 2], undefined]);
+  assert.deepEqual([knownChannels(0, 1024, 1, 0), knownChannels(0, 8, 1, 1), knownChannels(0, 9, 2, 1)], [[1023, 1024], [7, 8], [16, 17]]);
 });
 
 test("numerals: decimal, and binary as wide as the widest", () => {

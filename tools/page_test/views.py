@@ -341,8 +341,10 @@ def judge_distances(page):
     STEPS.check("its number of tuples", f"{tuples:,} tuples" in page.text(".verdict"), page.text(".verdict"))
     rings = "On every ring of 4 to 8 distinct identifiers below 8, neighbours’ channels differ."
     STEPS.check("its rings", rings in page.text(".verdict"), page.text(".verdict"))
-    fewer = "Fewer channels? There is a table with 4 channels, and with 3 channels there is none."
+    fewer = "Fewer channels? There is a table with 4 channels, and with 3 channels there is none. sperner_20_4.txt What is known"
     STEPS.equal("what is known of fewer channels", page.texts(".verdict .fewer"), [fewer])
+    links = page.value("[...document.querySelectorAll('.fewer a')].map(e => e.getAttribute('href'))")
+    STEPS.equal("its links", links, ["#view=judge&ids=8&example=sperner_20_4.txt", "docs/LEAST.html#what-is-known"])
     for ids, far, said in (
         ("4", "0", "On every ring of 4 distinct identifiers below 4, neighbours’ channels differ."),
         ("4", "1", "No ring has 5 distinct identifiers below 4."),
