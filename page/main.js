@@ -112,3 +112,4 @@ const examples = await loadExamples();
 fillExamples(examples);
 followAddress(examples);
 showView();
+byId("loading").remove();

@@ -45,6 +45,7 @@ export function change(values, { keep = false, shown = false } = {}) {
 /** Reads the state from the address, now and after each change of it. */
 export function followAddress(knownExamples) {
   examples = knownExamples;
+  keepOverReload();
   addEventListener("hashchange", () => {
     if (location.hash !== written) read();
   });
@@ -52,6 +53,21 @@ export function followAddress(knownExamples) {
     if (location.hash !== written) read();
   });
   read();
+}
+
+/** Lets a change that is not in the address yet survive a reload. */
+function keepOverReload() {
+  const key = "left";
+  const [navigation] = performance.getEntriesByType("navigation");
+  try {
+    const left = sessionStorage.getItem(key);
+    sessionStorage.removeItem(key);
+    if (navigation?.type === "reload" && left) history.replaceState(null, "", left);
+  } catch {
+    // Nothing is kept where the browser allows none.
+    return;
+  }
+  addEventListener("pagehide", () => sessionStorage.setItem(key, fragment()));
 }
 
 /** The address of the page in its current state. */

@@ -74,13 +74,17 @@ export async function updateRun(checked) {
 /** The texts of numbers, in the base of the state, and as wide as the identifiers. */
 const shown = (values) => numerals(values, state.base, widthOf(readRing(state.ring) ?? []));
 
+function sayRefused(why) {
+  refused.replaceChildren(...coded(why));
+  refused.hidden = false;
+}
+
 /** Shows the ring without a run, and why. */
 function showRefused(why) {
   steps = null;
   closeWhy();
   byId("ring").setAttribute("aria-invalid", String(why !== PROGRAM_REFUSED));
-  refused.replaceChildren(...coded(why));
-  refused.hidden = false;
+  sayRefused(why);
   byId("trace").replaceChildren();
   timeline.replaceChildren();
   byId("shown-register").hidden = true;
@@ -289,12 +293,14 @@ function offerSizes({ rounds, ids }) {
 
 function randomRing() {
   const field = byId("random-size");
-  field.setCustomValidity(whyNoNumber("nodes", field.value) ?? "");
-  if (field.value === "") return field.reportValidity();
+  const why = whyNoNumber("nodes", field.value);
+  field.setAttribute("aria-invalid", why !== null);
+  if (why) return sayRefused(why);
   const ids = clamp(Number(state.ids) || 0, 1, 1024);
   const size = clamp(Number(field.value), Math.min(Number(field.min), ids), ids);
   const left = Array.from({ length: ids }, (_, i) => i);
   const ring = Array.from({ length: size }, () => left.splice(Math.floor(Math.random() * left.length), 1)[0]);
   field.value = size;
+  refused.hidden = true;
   return change({ ring: ring.join(",") });
 }

@@ -157,6 +157,14 @@ def screens(page):
         STEPS.check(f"the rule is in view at {width}", page.value(f"{rows}.length > 4 && {seen} && {INSIDE}(document.querySelector('#editor'))"))
         discs = f"[...document.querySelectorAll('#stage .disc')].every({INSIDE})"
         STEPS.check(f"the ring is in view at {width}", page.value(discs))
+    for width, height in ((600, 800), (640, 400), (720, 450), (720, 1000)):
+        page.browser.size(width, height)
+        for view in ("run", "judge", "table", "graph"):
+            page.open(**{**START, "view": view, "step": "end"})
+            page.wait(f"{view} at {width}", "document.querySelector('.stage svg, .windows li, #graph-say')")
+            STEPS.check(f"{view} at {width}: nothing is too wide", page.value("document.documentElement.scrollWidth <= innerWidth"))
+            if view == "table":
+                STEPS.check(f"the prefix at {width}", page.value("document.querySelector('#prefix').clientWidth > 100"))
     for width, height in ((390, 844), (320, 568)):
         page.browser.size(width, height)
         for name, state in SMALL.items():
@@ -185,6 +193,28 @@ SMALL = {
 }
 
 
+def loading(page):
+    """The page says what it waits for, asks for its modules at once, and keeps what was typed over a reload; high contrast has its marks."""
+    text = (ROOT / "page/index.html").read_text(encoding="utf-8")
+    named = set(re.findall(r'rel="modulepreload" href="([^"]*)"', text))
+    STEPS.equal("its modules", named, {file.name for file in (ROOT / "page").glob("*.js")} - {"theme.js", "main.js"})
+    STEPS.check("it says what it needs", "<noscript>" in text and 'id="loading"' in text)
+    page.open(**START)
+    page.wait_ring("the ring before a reload", "5,1,3,7")
+    STEPS.equal("nothing is said to load", page.count("#loading"), 0)
+    page.fill("#text", LDB)
+    page.browser.call("Page.reload")
+    page.wait("what was typed is kept", f"document.querySelector('#check > *') && document.querySelector('#text').value === {json.dumps(LDB)}")
+    page.open(**START)
+    page.wait_ring("another link after it", "5,1,3,7")
+    STEPS.equal("which has its own text", page.value("document.querySelector('#text').value"), CV1)
+    page.browser.call("Emulation.setEmulatedMedia", features=[{"name": "forced-colors", "value": "active"}])
+    for mark in ("#timeline [aria-current=step]", "#tab-run", ".row.now"):
+        style = page.value(f"getComputedStyle(document.querySelector('{mark}')).outlineStyle")
+        STEPS.equal(f"{mark} in forced colours", style, "solid")
+    page.browser.size(1280, 900)
+
+
 def numbers(page):
     """An emptied number says what is wanted, and a random ring has enough nodes."""
     page.open(**START)
@@ -210,7 +240,7 @@ def numbers(page):
     page.wait("a random ring has enough nodes", "document.querySelectorAll('#stage .badge').length === 10")
     page.fill("#random-size", "")
     page.click("#random")
-    STEPS.check("no size", "A number is wanted" in page.value("document.querySelector('#random-size').validationMessage"))
+    page.wait("no size", "/^A number is wanted: how many nodes/.test(document.querySelector('#run-refused').textContent)")
 
 
 def examples_by_name(page):
@@ -272,6 +302,9 @@ def paper(page):
         page.open(**{**START, **state})
         page.wait(f"{name} before it is printed", "document.querySelector('#stage .badge, .verdict .word')")
         made = subprocess.run([reader, "-layout", "-", "-"], input=page.browser.printed(), capture_output=True).stdout.decode()
+        if name == "a run":
+            whole = [sheet for sheet in made.split("\f") if "start r0" in sheet]
+            STEPS.check("the trace stands on one sheet", len(whole) == 1 and whole[0].count("finish") >= 1 and "node" in whole[0], made[-600:])
         found = "".join(made.split())
         program = "".join(text.split())
         STEPS.check(f"{name}: the program", program in found.replace("\f", ""), made[:300])
@@ -471,4 +504,4 @@ def why_keys(page):
     STEPS.equal("and returns to the node", page.value("document.activeElement.dataset.place"), "1")
 
 
-SURFACES = [help_panel, documents, colours, touch, readers, screens, numbers, examples_by_name, localhost, graph_by_distance, paper, binary, why, large, why_in_view, why_leads_on]
+SURFACES = [help_panel, documents, colours, touch, readers, screens, loading, numbers, examples_by_name, localhost, graph_by_distance, paper, binary, why, large, why_in_view, why_leads_on]
