@@ -48,8 +48,10 @@ export async function updateRun(checked) {
   steps = null;
   show();
   byId("run").classList.add("pending");
-  const answer = await ask("run", "trace", { ids: state.ids, ring: state.ring }, state.text);
-  if (answer === undefined) return undefined;
+  const asked = state.ring;
+  const answer = await ask("run", "trace", { ids: state.ids, ring: asked }, state.text);
+  // An example may have brought another ring by now, whose run is asked for when its text is checked.
+  if (answer === undefined || state.ring !== asked) return undefined;
   byId("run").classList.remove("pending");
   if (answer.status !== 0) {
     const { line, note } = readRefusal(answer, state.text);

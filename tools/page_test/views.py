@@ -554,6 +554,7 @@ def exercises(page):
         page.browser.open(page.url + fragment)
         page.wait(f"exercise {number}", f"document.querySelector('.check.{'bad' if number in (3, 10) else 'good'}')")
         view = re.search(r"view=(\w+)", fragment)[1]
+        STEPS.check(f"exercise {number}: no verdict is shown", view in ("run", "table"))
         STEPS.check(f"exercise {number}: its view", page.value(f"!document.querySelector('#{view}').hidden"))
 
 
@@ -562,6 +563,8 @@ def examples(page):
     names = sorted(file.name for file in (ROOT / "examples").glob("*.txt"))
     names = ["cv1.txt", "ldb.txt", *(name for name in names if name != "cv1.txt")]
     facts = page.value("[...document.querySelectorAll('#examples .aside')].map(e => e.textContent)")
+    options = [file.name for file in (ROOT / "examples").glob("*.txt") if re.search(r"#.* --\w", file.read_text())]
+    STEPS.equal("examples that speak of the command line", options, [])
     STEPS.equal("the list of examples", [fact.split(" ")[0] for fact in facts], names)
     count = len(names)
     for number in range(count):
