@@ -60,8 +60,10 @@ export function markRows(rows) {
 
 /** Scrolls the editor to the rows of what a step does. While one types, the cursor decides what is visible. */
 export function scrollToRows() {
-  const first = doing && rowOf(doing[0]);
-  if (first && document.activeElement !== area) bringIntoSight(first);
+  if (!doing || document.activeElement === area) return;
+  const [first, last] = doing.map(rowOf);
+  if (last) bringIntoSight(last);
+  if (first) bringIntoSight(first);
 }
 
 /** The row and the column of an index of the text, both from 0. */
