@@ -504,4 +504,5 @@ def why_keys(page):
     STEPS.equal("and returns to the node", page.value("document.activeElement.dataset.place"), "1")
 
 
-SURFACES = [help_panel, documents, colours, touch, readers, screens, loading, numbers, examples_by_name, localhost, graph_by_distance, paper, binary, why, large, why_in_view, why_leads_on]
+SURFACES = [help_panel, documents, colours, touch, readers, screens, loading, numbers, examples_by_name, localhost, graph_by_distance]
+SURFACES += [paper, binary, why, large, why_in_view, why_leads_on]
