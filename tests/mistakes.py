@@ -370,6 +370,12 @@ COPIED = [
     ("r0 = id", "r0 = r1 = id", "line 5, column 9: unexpected `=`; expected `round`; each assignment has one register"),
     ("finish r0", "finish r0 == 1", "line 10, column 11: unexpected `=`; expected the end of the text; write `eq(a, b)` to compare"),
     (
+        "rounds 1\nchannels 6\n",
+        "rounds+1%0Achannels+6%0A",
+        "line 1, column 7: unknown word `+`; expected a number; this is a part of a link",
+    ),
+    ("rounds 1", "<program/>", "line 1, column 1: unknown word `<`; expected `rounds`; a program has no marks of HTML or XML"),
+    (
         "finish r0",
         "finish |r0 - 1|",
         "line 10, column 8: unknown word `|`; expected an expression; |a - b| is `sub(max(a, b), min(a, b))`",

@@ -65,7 +65,7 @@ const OTHER_ALPHABET: &str =
     "; this is a letter of another alphabet, which may look like a plain one";
 
 // Marks at the start of a text.
-const FIRST: [(&[u8], &str); 20] = [
+const FIRST: [(&[u8], &str); 21] = [
     (b"- ", MARKDOWN),
     (b"| ", MARKDOWN),
     (b"|", MARKDOWN),
@@ -77,7 +77,8 @@ const FIRST: [(&[u8], &str); 20] = [
     (b">", PROMPT),
     (b"`", MARKDOWN),
     (b"~~~", MARKDOWN),
-    (b"<", COMMENT),
+    (b"<!", COMMENT),
+    (b"<", "; a program has no marks of HTML or XML"),
     (b"!", COMMENT),
     (b"%", COMMENT),
     (b";", COMMENT),
@@ -344,6 +345,11 @@ fn is_quoted(text: &[u8]) -> bool {
 fn copied_advice(place: Place) -> Option<&'static str> {
     if is_linked(place) {
         return Some(LINK);
+    }
+    if place.rest.starts_with(b"+") && has_one(place.rest, &LINKED) {
+        return Some(
+            "; this is a part of a link, in which `+` stands for a blank and `%0A` for a line feed",
+        );
     }
     if is_entity(place.rest) {
         return Some(ENTITY);
