@@ -1,6 +1,6 @@
 use Rattle.std.proofs.Common.{◌≡◌, ℕ, ◌+◌, ◌*◌, ◌^◌, ◌<◌, ◌≤◌, nat_lt, min, length, get_or, ◌∙◌, arith, refl}
 use Rattle.nbhd_check.specs.Counts.{held_count}
-use Rattle.bad_tuples.proofs.Products.{product_few}
+use Rattle.std.proofs.Math.Nat.{mul-le-mul}
 use Rattle.nbhd_check.proofs.Cells.{row_more, rows_within}
 use Rattle.nbhd_check.proofs.HeldCounts.{close_of_sums, entries_below}
 use Rattle.nbhd_check.proofs.counts.close_count.Goals.{After-deref-cells}
@@ -20,8 +20,8 @@ module _ (c : After-deref-cells) (v : ℕ) (le : v ≤ c.args.counts.now.limit) 
   small few =
       let ids_few = c.shape.ensures.table.begun.shape.ids.few in
       let row : v * (c.ids.result + 1) ≤ 2 ^ 32 * 1025 =
-      product_few v (c.ids.result + 1) (2 ^ 32) 1025 _ (omega (arith, few))
-      (omega (arith, ids_few, c.ids.ensures, c.shape.ensures.ids)) (omega arith) in
+      mul-le-mul {n₁ = v} {m₁ = c.ids.result + 1} {n₂ = 2 ^ 32} {m₂ = 1025} (omega (arith, few))
+      (omega (arith, ids_few, c.ids.ensures, c.shape.ensures.ids)) in
       omega (arith, row, ids_few, c.requires.x)
 
 pub offset_bounds-cells-high : goal.offset_bounds-cells-high

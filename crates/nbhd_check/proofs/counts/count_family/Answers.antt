@@ -3,8 +3,7 @@ use Rattle.std.proofs.lemmas.List.{take_at, get_or-replicate}
 use Rattle.std.proofs.lemmas.Bool.{cases_lt}
 use Rattle.std.proofs.Math.ListN.{get_or-eq_default, length-replicate, replicate}
 use Rattle.nbhd_check.specs.Counts.{IsFamily}
-use Rattle.std.proofs.Math.Nat.{mul-le-mul_right}
-use Rattle.bad_tuples.proofs.Products.{product_few}
+use Rattle.std.proofs.Math.Nat.{mul-le-mul, mul-le-mul_right}
 use Rattle.nbhd_check.proofs.FarFree.{family_is, some_product}
 use Rattle.nbhd_check.proofs.counts.count_family.Goals.{After-window_number}
 use Rattle.nbhd_check.proofs.counts.count_family.Goals as goal
@@ -95,7 +94,7 @@ pub overflow_mul-count : goal.overflow_mul-count
 overflow_mul-count c =
     let others : ℕ = c.ids.result - length c.args.shared.now in
     let few : others ≤ 1024 = omega (arith, c.ids.ensures, c.shape-shape.result.in_range.few) in
-    omega (arith, product_few others (others - 1) 1024 1024 1048576 few (omega (arith, few)) (omega arith))
+    omega (arith, mul-le-mul {n₁ = others} {m₁ = others - 1} {n₂ = 1024} {m₂ = 1024} few (omega (arith, few)))
 
 pub window_number-requires-clause-window : goal.window_number-requires-clause-window
 window_number-requires-clause-window c =

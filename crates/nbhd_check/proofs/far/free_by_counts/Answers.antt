@@ -1,5 +1,5 @@
 use Rattle.std.proofs.Common.{ℕ, ◌*◌, ◌^◌, ◌≤◌, arith}
-use Rattle.bad_tuples.proofs.Products.{product_few}
+use Rattle.std.proofs.Math.Nat.{mul-le-mul}
 use Rattle.nbhd_check.proofs.Runs.{free_of_both}
 use Rattle.nbhd_check.proofs.far.free_by_counts.Goals as goal
 
@@ -9,10 +9,10 @@ overflow_mul-family-2 g c =
     let few = c.windows_per_family-family.ensures.table.begun.shape.ids.few in
     let small : family ≤ 1048576 =
     rw c.windows_per_family-family.ensures.value
-    (product_few _ _ 1024 1024 _ (omega (arith, few)) (omega (arith, few)) (omega arith)) in
+    (mul-le-mul {n₂ = 1024} {m₂ = 1024} (omega (arith, few)) (omega (arith, few))) in
     let product : 8 * family * family ≤ 2 ^ 43 =
-    product_few (8 * family) family 8388608 1048576 _ (omega (arith, small)) (omega (arith, small))
-    (omega arith) in
+    mul-le-mul {n₁ = 8 * family} {m₁ = family} {n₂ = 8388608} {m₂ = 1048576} (omega (arith, small))
+    (omega (arith, small)) in
     omega (arith, product)
 
 pub returns : goal.returns

@@ -1,10 +1,10 @@
 use Rattle.std.proofs.Common.{◌≡◌, ℕ, ◌+◌, ◌-◌, ◌*◌, length, take, drop, slice_get, Some, subst, sym, ap, ◌∙◌, arith, length-drop}
+use Rattle.std.proofs.Math.Nat.{mul-le-mul}
 use Rattle.std.proofs.lemmas.List.{get_or-take, length-take-le}
 use Rattle.win_index.specs.Windows.{unused, windows, IsWindow}
 use Rattle.nbhd_check.specs.Runs.{wide}
 use Rattle.bad_tuples.proofs.Prefixes.{place_of_last, run_of, one_run, window_drop, window_take}
 use Rattle.win_index.proofs.Numbers.{windows_all}
-use Rattle.bad_tuples.proofs.Products.{product_few}
 use Rattle.nbhd_check.proofs.Suffixes.{shared_cut}
 use Rattle.nbhd_check.proofs.near.second_runs.Goals as goal
 
@@ -62,8 +62,8 @@ pub overflow_mul-result : goal.overflow_mul-result
 overflow_mul-result c =
     omega (
       arith,
-      product_few c.window_number-number.result
-          (c.ids.result - length (take (2 * c.rounds-level.result - 1) (drop 1 c.args.window.now)))
-          4294967296 1024 4398046511104 (omega (arith, c.window_number-number.type_inv))
-          (omega (arith, c.ids.ensures, c.shape-shape.result.in_range.few)) (omega arith),
+      mul-le-mul {n₁ = c.window_number-number.result}
+          {m₁ = c.ids.result - length (take (2 * c.rounds-level.result - 1) (drop 1 c.args.window.now))}
+          {n₂ = 4294967296} {m₂ = 1024} (omega (arith, c.window_number-number.type_inv))
+          (omega (arith, c.ids.ensures, c.shape-shape.result.in_range.few)),
     )
