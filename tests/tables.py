@@ -1,5 +1,9 @@
 """Tables of programs and reports on table texts: a row has the words, the input, the standard output and the exit status."""
 
+from itertools import permutations
+from random import Random
+
+from damaged import SHAPES, text_of as text_of_entries, window_count
 from programs import CV1, ID0, ID0_OF_4, LDB, RED, SHIFT4, TWICE_ID, TWO_REGISTERS, ZERO, cv1_of
 
 # The table of two identifiers and no rounds that gives each identifier itself as its channel, in both versions.
@@ -14,6 +18,35 @@ MIGRATIONS = [(OLD, NEW), (NEW, NEW), (ONE_CHANNEL, ONE_CHANNEL)]
 
 # The line of an audit of a table text.
 AUDITS = [(OLD, "yes: 2 tuples\n", 0), (NEW, "yes: 2 tuples\n", 0)]
+
+# A table of three identifiers and no rounds, in both versions: identifier 0 has channel 9, 1 has 4095, and 2 has 0.
+OLD_OF_3 = b"nbhd-table 1\nrounds 0 ids 3 channels 4096\n0 : 9\n1 : 4095\n2 : 0\nend\n"
+NEW_OF_3 = b"nbhd-table 2\nrounds 0 ids 3 channels 4096 near 7 far 4096\n0 : 9\n1 : 4095\n2 : 0\nend\n"
+# The table of four identifiers and one round in which each window has its own number as its channel.
+NUMBERED = b"nbhd-table 2\nrounds 1 ids 4 channels 24 near 1 far 0\n" + b"".join(
+    b"%d %d %d : %d\n" % (*it, number) for number, it in enumerate(WINDOWS)
+) + b"end\n"
+PLACES_OF_3 = "   0    2    0\n   1    0    9\n   2    1 4095\n"
+
+# Rings, table texts, and the report. On the last ring the windows are 2 0 3, 0 3 1, 3 1 2 and 1 2 0, of the numbers 13, 4, 21 and 8.
+APPLIED = [
+    ("2,0,1", OLD_OF_3, PLACES_OF_3, 0),
+    ("2,0,1", NEW_OF_3, PLACES_OF_3, 0),
+    ("02,00,1", NEW_OF_3, PLACES_OF_3, 0),
+    ("1,0", NEW_OF_3, "   0    1 4095\n   1    0    9\n", 0),
+    ("3,2,1,0", ONE_CHANNEL, "   0    3    0\n   1    2    0\n   2    1    0\n   3    0    0\n", 0),
+    ("0,3,1,2", NUMBERED, "   0    0   13\n   1    3    4\n   2    1   21\n   3    2    8\n", 0),
+    ("0", NEW_OF_3, "ring fault G1\n", 4),
+    ("0,1,2", NUMBERED, "ring fault G1\n", 4),
+    ("0,1,2,0", NEW_OF_3, "ring fault G2\n", 4),
+    ("0,3", NEW_OF_3, "ring fault G3 place 1\n", 4),
+    ("0,1,2,4294967295", NUMBERED, "ring fault G3 place 3\n", 4),
+    ("1,1", NEW_OF_3, "ring fault G4 places 0 1\n", 4),
+    ("0,1,2,1", NUMBERED, "ring fault G4 places 1 3\n", 4),
+    # A fault of the text comes before one of the ring.
+    ("0,0,9", CV1, "table fault A1 at 0\n", 3),
+    ("0,0,9", NEW_OF_3[:-1], "table fault A1 at 79\n", 3),
+]
 
 # Texts of which only so many bytes are there, and the fault.
 STOPS = [
@@ -121,6 +154,19 @@ TABLE_LINES = [
 # Programs and options whose table is the same with each number of workers.
 BY_WORKERS = [(CV1, "--ids 8"), (cv1_of(12), "--ids 64"), (RED, "--ids 8"), (TWO_REGISTERS, "--ids 8")]
 
+# Programs, their numbers of identifiers, and rings, on which the table text has the channels of the program.
+APPLIED_ALIKE = [
+    (CV1, 8, "5,1,3,7"),
+    (CV1, 8, "0,1,2,3,4,5,6,7"),
+    (CV1, 8, "5,1,3"),
+    (CV1, 8, "5,1,3,8"),
+    (LDB, 8, "0,1,2,3"),
+    (ID0, 2, "1,0"),
+    (TWO_REGISTERS, 8, "7,0,6,1,5"),
+    (RED, 8, "5,1,3,7,0,2,4,6"),
+    (SHIFT4, 10, "9,1,2,3,4,5,6,7,8,0"),
+]
+
 # Programs and options whose table text is judged as the program is. The last two have long texts.
 JUDGED_ALIKE = [
     (CV1, "--ids 8"),
@@ -151,13 +197,32 @@ def refused():
     yield from OTHERS
 
 
+def applied_by_hand():
+    """Rings on tables with random channels, which are looked up here."""
+    random = Random(1987)
+    for rounds, ids, channels, near, far, version in SHAPES:
+        entries = [random.randrange(channels) for _ in range(window_count(rounds, ids))]
+        channel_of = dict(zip(permutations(range(ids), 2 * rounds + 1), entries))
+        text = text_of_entries(version, rounds, ids, channels, (near, far), entries)
+        for length in sorted({2 * rounds + 2, (2 * rounds + 2 + ids) // 2, ids}):
+            ring = random.sample(range(ids), length)
+            lines = []
+            for place, identifier in enumerate(ring):
+                window = tuple(ring[(place + step) % length] for step in range(-rounds, rounds + 1))
+                lines.append(f"{place:4} {identifier:4} {channel_of[window]:4}\n")
+            yield f"apply --ring {','.join(map(str, ring))}", text, "".join(lines), 0
+
+
 def rows():
+    yield from applied_by_hand()
     for text, newest in MIGRATIONS:
         yield "migrate", text, newest, 0
     for text, out, status in AUDITS:
         yield "audit", text, out, status
+    for ring, text, out, status in APPLIED:
+        yield f"apply --ring {ring}", text, out, status
     for text, fault in refused():
-        for task in ["audit", "migrate"]:
+        for task in ["audit", "apply --ring 0,1", "migrate"]:
             yield task, text, f"table fault {fault}\n", 3
     for text, fault in BLANKS:
         yield "audit", text, f"table fault {fault}\n", 3

@@ -21,6 +21,7 @@ Commands:
   explain  Runs a program on a ring, and prints how one node computes each of its values
   plan     Prints the channels of a ring's places, looked up in the table
   audit    Tells whether channels are far enough apart on every ring, by a table text
+  apply    Prints the channels of a ring's places, looked up in a table text
   migrate  Prints a table text of any version in the newest one
   formula  Prints the formula that asks for a table of some size, for a SAT solver
   refute   Checks a solver's refutation: there is no table of this size
@@ -145,6 +146,32 @@ Exit status:
   4  the ring is refused
   5  reading or writing failed
   6  memory or a thread was refused
+""",
+    ),
+    (
+        "apply --help",
+        """Prints the channels of a ring's places, looked up in a table text
+
+Usage: nbhd apply --ring <A,B,..>
+
+Options:
+      --ring <A,B,..>  The ring's identifiers, each followed by its right neighbour's
+  -h, --help           Print help
+
+Standard input:  a table text, as `nbhd table` prints it
+Standard output: one line for each place of the ring: the place, its identifier and its channel;
+                 or one line: what is refused
+
+The ring has at least 2, 4, 6, 8 or 10 identifiers for a table of 0 to 4 rounds, below the ids of the
+text, no two the same. `nbhd audit` tells whether channels are far enough apart on every ring.
+
+Exit status:
+  0  the channels are printed
+  2  the words are refused
+  3  the table text is refused
+  4  the ring is refused
+  5  reading or writing failed
+  6  memory was refused
 """,
     ),
     (
@@ -381,7 +408,7 @@ Exit status:
 ]
 
 # The commands, each of which has three ways to ask for its help.
-COMMANDS = ["check", "print", "table", "judge", "run", "trace", "explain", "plan", "audit", "migrate", "formula", "refute"]
+COMMANDS = ["check", "print", "table", "judge", "run", "trace", "explain", "plan", "audit", "apply", "migrate", "formula", "refute"]
 
 # Other words that ask for help.
 HELP_WORDS = [
@@ -390,6 +417,7 @@ HELP_WORDS = [
     "help",
     "help run",
     "help audit",
+    "help apply",
     "help migrate",
     "help print",
     "help trace",
@@ -408,7 +436,7 @@ REFUSED = [
     (
         "",
         """error: 'nbhd' requires a subcommand but one was not provided
-  [subcommands: check, print, table, judge, run, trace, explain, plan, audit, migrate, formula, refute, help]
+  [subcommands: check, print, table, judge, run, trace, explain, plan, audit, apply, migrate, formula, refute, help]
 
 Usage: nbhd <COMMAND>
 
@@ -467,6 +495,7 @@ NO_COMMANDS = [
     "trace",
     "explain",
     "plan",
+    "apply",
     "run --ids 8",
     "trace --ids 8",
     "explain --ids 8 --ring 5,1,3,7",
@@ -474,6 +503,7 @@ NO_COMMANDS = [
     "explain --ids 8 --ring 5,1,3,7 --place",
     "trace --ids 8 --ring 5,1,3,7 --base",
     "plan --ring 5,1,3,7",
+    "apply --ring",
     "check --ids",
     "run --ids --ring 5,1,3,7",
     "run --ids 8 --ring",
@@ -507,6 +537,13 @@ NO_COMMANDS = [
     "plan --ids 8 --ring 5 --place 0",
     "audit --ids 8",
     "audit --workers 1",
+    "apply --ids 8 --ring 5,1,3,7",
+    "apply --ring 5,1,3,7 --workers 2",
+    "apply --ring 5,1,3,7 --near 2",
+    "apply --ring 5,1,3,7 --segments 1",
+    "apply --ring 5,1,3,7 --ring 5,1,3,7",
+    "apply 5,1,3,7",
+    "audit --ring 5,1,3,7",
     "migrate --ids 8",
     "migrate --near 1",
     "print --ids 8",
@@ -596,6 +633,9 @@ BAD_RINGS = [
     "trace --ids 8 --ring 5,",
     "explain --ids 8 --ring 5, --place 0",
     "plan --ids 8 --ring 5,a",
+    "apply --ring 5,,1",
+    "apply --ring=",
+    "apply --ring 5,1,3,7,",
     *(["run", "--ids", "8", f"--ring={text}"] for text in ["5,,1", "4294967296", ",", "5,", ",5", "5, 1", "+5", "0x5", "5;1"]),
 ]
 
@@ -652,6 +692,9 @@ TIPS = [
     ("refute --ids 8 --rounds 1 --channels three", NO_CHANNELS),
     ("audit cv1.table.txt", TABLE_NAME),
     ("migrate old.table", TABLE_NAME),
+    ("apply --ring 5,1,3,7 old.table", TABLE_NAME),
+    ("apply old.table --ring 5,1,3,7", TABLE_NAME),
+    ("apply --ring 5 1 3 7", RING_IN_WORDS),
     ("judge -ids 8", ONE_MINUS),
     ("run -ring 5,1,3,7 --ids 8", ONE_MINUS),
     ("judge \u2014ids 8", DASH),

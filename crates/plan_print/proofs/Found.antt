@@ -11,7 +11,7 @@ use Rattle.channel_tables.specs.Tables.{ChannelTable}
 use Rattle.channel_tables.specs.declared.separation.Separation.{Separation}
 use Rattle.numerals.specs.declared.base.Base.{Base}
 use Rattle.task_words.specs.declared.task.Task.{Task}
-use Rattle.task_words.specs.declared.task.Task.TheVariants.{Check, Print, Table, Judge, Run, Trace, Explain, Plan, Audit, Migrate, Formula, Refute}
+use Rattle.task_words.specs.declared.task.Task.TheVariants.{Check, Print, Table, Judge, Run, Trace, Explain, Plan, Audit, Apply, Migrate, Formula, Refute}
 use Rattle.reports.specs.Causes.{Reason}
 use Rattle.reports.specs.Notes.{IsFound}
 use Rattle.reports.specs.Report.{Report, yes_cause, IsJudgement, good, bad, IsAnswerOnRing, ring_fault, on_ring, IsRunAnswer, out_of_range, ran, IsExplainAnswer, no_place, explained, IsTextRefusal, text_refused, in_print, text_fault, check_fault, IsProgramReport, program_refused, answered, IsTableReport, table_refused, of_table}
@@ -102,6 +102,8 @@ found placed (Explain ids ring place base) able input r is =
 found placed (Plan ids ring workers) able input r is =
     in_program ids _ input r (λ p few small said. in_list input _ _ _ _ r few (λ says. no_cause input r says.2) said) is
 found placed Audit able input r is = in_table _ input r (λ t s few small said. in_judgement placed input t s r few small said) is
+found placed (Apply ring) able input r is =
+    in_table _ input r (λ t s few small said. in_list input _ _ _ _ r few (λ says. no_cause input r says.2) said) is
 found placed Migrate able input r is = in_table _ input r (λ t s few small said. no_cause input r said.2) is
 found placed (Formula ids rounds channels near far) able input r (no_formula refusal) = in_refusal input r (problem ids rounds channels near far) able.few_rounds refusal
 found placed (Formula ids rounds channels near far) able input r (has_text has says) = no_cause input r says.2

@@ -5,7 +5,7 @@ use Rattle.devices.specs.declared.fault.EngineFault.{EngineFault}
 use Rattle.devices.specs.declared.fault.EngineFault.TheVariants.{Read, Write}
 use Rattle.reports.specs.declared.status.Status.{Status}
 use Rattle.task_words.specs.declared.task.Task.{Task}
-use Rattle.task_words.specs.declared.task.Task.TheVariants.{Table, Judge, Run, Plan, Audit, Migrate, Formula, Refute}
+use Rattle.task_words.specs.declared.task.Task.TheVariants.{Table, Judge, Run, Plan, Audit, Apply, Migrate, Formula, Refute}
 use Rattle.node_lang.specs.declared.limits.TheConstants.{LONGEST_TEXT}
 use Rattle.table_text.specs.declared.limits.TheConstants.{LONGEST_TABLE_TEXT}
 use Rattle.refutation.specs.declared.limits.TheConstants.{LONGEST_REFUTATION}
@@ -23,6 +23,7 @@ use Rattle.plan_print.specs.declared.engine.Reported.{Reported}
 -- task is on, so that a longer one is noticed, or none if it is on no text
 abbrev pub max_read : Task → ℕ
 max_read Audit = LONGEST_TABLE_TEXT + 1
+max_read (Apply places) = LONGEST_TABLE_TEXT + 1
 max_read Migrate = LONGEST_TABLE_TEXT + 1
 max_read (Formula ids rounds channels near far) = 0
 max_read (Refute ids rounds channels near far) = LONGEST_REFUTATION + 1

@@ -3,12 +3,12 @@ use Rattle.std.specs.Prelude.{ℕ, List, Option, None, Some, MatchOption, length
 use Rattle.node_program.specs.Term.{ProgramTree}
 use Rattle.table_formula.specs.Problems.{Problem}
 use Rattle.table_entries.specs.ProgramTables.{table_of}
-use Rattle.reports.specs.Report.{Report, Says, accepted_line, place_lines, IsAnswerOnRing, IsExplainAnswer, IsJudgement, IsPrintReport, IsProgramReport, IsRunAnswer, IsTableReport, IsTableText}
+use Rattle.reports.specs.Report.{Report, Says, accepted_line, place_lines, IsAnswerOnRing, IsApplyAnswer, IsExplainAnswer, IsJudgement, IsPrintReport, IsProgramReport, IsRunAnswer, IsTableReport, IsTableText}
 use Rattle.reports.specs.FormulaReports.{IsFormulaReport, IsRefuteReport}
 use Rattle.reports.specs.declared.status.Status.TheVariants.{Done}
 use Rattle.value_trees.specs.Trace.{trace_lines}
 use Rattle.task_words.specs.declared.task.Task.{Task}
-use Rattle.task_words.specs.declared.task.Task.TheVariants.{Check, Print, Table, Judge, Run, Trace, Explain, Plan, Audit, Migrate, Formula, Refute}
+use Rattle.task_words.specs.declared.task.Task.TheVariants.{Check, Print, Table, Judge, Run, Trace, Explain, Plan, Audit, Apply, Migrate, Formula, Refute}
 
 -- whether there is a table of so many identifiers, rounds and channels that keeps this separation
 abbrev pub problem : (ids rounds channels near far : ℕ) → Problem
@@ -37,11 +37,12 @@ IsAnswerTo (Explain _ places place base) ids p = IsAnswerOnRing ids (length p.st
 IsAnswerTo (Plan _ places workers) ids p = IsAnswerOnRing ids (length p.steps) places.items (Says (place_lines p places.items) Done)
 IsAnswerTo _ ids p = λ r. ⊥
 
--- The report of another task: print is on a program text, audit and migrate on a table text, a formula on no text at all,
+-- The report of another task: print is on a program text, audit, apply and migrate on a table text, a formula on no text at all,
 -- and refute on a refutation.
 abbrev pub IsTextReport : Task → List ℕ → Report → Type 0
 IsTextReport Print input r = IsPrintReport input r
 IsTextReport Audit input r = IsTableReport IsJudgement input r
+IsTextReport (Apply places) input r = IsTableReport (IsApplyAnswer places.items) input r
 IsTextReport Migrate input r = IsTableReport IsTableText input r
 IsTextReport (Formula ids rounds channels near far) input r = IsFormulaReport (problem ids rounds channels near far) r
 IsTextReport (Refute ids rounds channels near far) input r = IsRefuteReport (problem ids rounds channels near far) input r

@@ -102,7 +102,7 @@ fn max_read(task: &Task) -> usize
     ensures { result ≡ max_read task.now }
 {
     match task {
-        Task::Audit | Task::Migrate => LONGEST_TABLE_TEXT + 1,
+        Task::Audit | Task::Apply { .. } | Task::Migrate => LONGEST_TABLE_TEXT + 1,
         Task::Formula { .. } => 0,
         Task::Refute { .. } => LONGEST_REFUTATION + 1,
         _ => LONGEST_TEXT + 1,

@@ -18,7 +18,9 @@ use reports::answer::{Answer, TableReport};
 use reports::formulas::{formula_report, refute_report};
 use reports::problem::ProblemNumbers;
 use reports::rings::{explain_answer, trace_answer};
-use reports::texts::{audit_text_report, check_answer, migrate_report, plan_in, print_report};
+use reports::texts::{
+    apply_report, audit_text_report, check_answer, migrate_report, plan_in, print_report,
+};
 use std::alloc::Global;
 use std::sync::Wait;
 use std::thread::Threads;
@@ -54,8 +56,12 @@ fn program_ids(task: &Task) -> Option<u32>
         | Task::Trace { ids, .. }
         | Task::Explain { ids, .. }
         | Task::Plan { ids, .. } => Some(*ids),
-        Task::Print | Task::Audit | Task::Migrate | Task::Formula { .. } | Task::Refute { .. } =>
-            None,
+        Task::Print
+        | Task::Audit
+        | Task::Apply { .. }
+        | Task::Migrate
+        | Task::Formula { .. }
+        | Task::Refute { .. } => None,
     }
 }
 
@@ -136,6 +142,7 @@ fn text_report<T: Threads + Sync>(
     match task {
         Task::Print => print_report(alloc, input),
         Task::Audit => audit_text_report(rt, alloc, input),
+        Task::Apply { ring } => apply_report(alloc, input, ring),
         Task::Migrate => migrate_report(alloc, input),
         Task::Formula {
             ids,

@@ -13,7 +13,7 @@ use Rattle.bad_tuples.specs.Apart.{tuples}
 use Rattle.table_entries.specs.ProgramTables.{table_of}
 use Rattle.table_text.specs.TableText.{table_text}
 use Rattle.task_words.specs.declared.task.Task.{Task}
-use Rattle.task_words.specs.declared.task.Task.TheVariants.{Check, Print, Table, Judge, Run, Trace, Explain, Plan, Audit, Migrate, Formula, Refute}
+use Rattle.task_words.specs.declared.task.Task.TheVariants.{Check, Print, Table, Judge, Run, Trace, Explain, Plan, Audit, Apply, Migrate, Formula, Refute}
 use Rattle.reports.specs.declared.status.Status.{Status}
 use Rattle.reports.specs.declared.status.Status.TheVariants.{Done, No, Words, Refused, RingRefused, FormulaRefused}
 use Rattle.reports.specs.Causes.{Reason, of_text, of_program, of_ring, of_place, of_segments, of_table_text, of_formula, of_refutation, of_no}
@@ -21,7 +21,9 @@ use Rattle.reports.specs.Lines.{line, numbers_text}
 use Rattle.numerals.specs.declared.base.Base.{Base}
 use Rattle.value_trees.specs.Explanation.{explanation}
 use Rattle.value_trees.specs.Trace.{trace_lines}
+use Rattle.reports.specs.Laws.{TablesHaveChannels}
 use Rattle.reports.specs.Report as report
+use Rattle.win_index.specs.Ring.{IsRing}
 use Rattle.reports.specs.Report.{Report, Says, IsJudgement, good, bad, IsAnswerOnRing, ring_fault, on_ring, IsRunAnswer, out_of_range, ran, IsExplainAnswer, no_place, explained, text_refused, in_print, text_fault, check_fault, IsProgramReport, program_refused, answered, IsTableText, IsTableReport, table_refused, of_table}
 use Rattle.table_formula.specs.Problems.{Problem}
 use Rattle.table_formula.specs.Texts.{formula_text}
@@ -52,7 +54,7 @@ abbrev refuse : List ℕ → Status → Reason → Report
 refuse bytes status cause = record { bytes = bytes; status = status; cause = Some cause }
 
 module _ (readable : ReadTextsAreReadable) (stops : ReadingStopsAtFirstFault) (no_fault : ReadableTextsHaveNoFault)
-    (judged : (t : ChannelTable) (s : Separation) → JudgeAnswer t s) (verdict : EachTextHasAVerdict) where
+    (judged : (t : ChannelTable) (s : Separation) → JudgeAnswer t s) (channels : TablesHaveChannels) (verdict : EachTextHasAVerdict) where
   on_print : (input : List ℕ) → TextAnswer input → Some-report (report.IsPrintReport input)
   on_print input (inl read) = let said = say (printed read.0) Done in (said.0, in_print read.0 read.1 said.1)
   on_print input (inr met) =
@@ -93,9 +95,9 @@ module _ (readable : ReadTextsAreReadable) (stops : ReadingStopsAtFirstFault) (n
         program_refused (check_fault read.0 met.0 read.1 met.1 (refl, refl, refl)),
       )
 
-  on_list : (m t : ℕ) (x : List ℕ) (said : Report → Type 0) → Some-report said → RingAnswer m t x →
+  on_list : (m t : ℕ) (x : List ℕ) (said : Report → Type 0) → (IsRing m t x → Some-report said) → RingAnswer m t x →
       Some-report (IsAnswerOnRing m t x said)
-  on_list m t x said some (inl ring) = (some.0, on_ring ring some.1)
+  on_list m t x said some (inl ring) = let told = some ring in (told.0, on_ring ring told.1)
   on_list m t x said some (inr met) = (
     refuse (report.ring_fault_line met.0) RingRefused (of_ring m t x met.0),
     ring_fault met.0 met.1 (refl, refl, refl),
@@ -137,6 +139,13 @@ module _ (readable : ReadTextsAreReadable) (stops : ReadingStopsAtFirstFault) (n
     table_refused (record { what = f; known = known; fault = is; says = (refl, refl, refl) }),
   )
 
+  by_table : (t : ChannelTable) (x : List ℕ) → (channel : ℕ → ℕ) × report.HasChannels t x channel →
+      Some-report (report.IsOnRingByTable t x)
+  by_table t x met = (
+    record { bytes = report.lines_of_places x met.0; status = Done; cause = None },
+    (record { channel = met.0; has = met.1; are = refl }, refl, refl),
+  )
+
   refusal : (p : Problem) (met : (f : ProblemFault) × IsProblemFault p f) → Some-report (formulas.IsFormulaRefusal p)
   refusal p met = (
     refuse (formulas.formula_fault_line met.0) FormulaRefused (of_formula p.ids p.rounds met.0),
@@ -176,20 +185,25 @@ module _ (readable : ReadTextsAreReadable) (stops : ReadingStopsAtFirstFault) (n
       go (Run m ring segments) =
           let x = ring.items in
           on_program m _ (λ p. on_list m (length p.steps) x _
-          (on_run p x segments (segments_answer segments (length x))) (ring_answer m (length p.steps) x)) input text
+          (λ _. on_run p x segments (segments_answer segments (length x))) (ring_answer m (length p.steps) x)) input text
       go (Trace m ring base) =
           let x = ring.items in
-          on_program m _ (λ p. on_list m (length p.steps) x _ (say (trace_lines base p x) Done)
+          on_program m _ (λ p. on_list m (length p.steps) x _ (λ _. say (trace_lines base p x) Done)
           (ring_answer m (length p.steps) x)) input text
       go (Explain m ring place base) =
           let x = ring.items in
-          on_program m _ (λ p. on_list m (length p.steps) x _ (on_place base p x place (cases_lt place (length x)))
+          on_program m _ (λ p. on_list m (length p.steps) x _ (λ _. on_place base p x place (cases_lt place (length x)))
           (ring_answer m (length p.steps) x)) input text
       go (Plan m ring workers) =
           let x = ring.items in
-          on_program m _ (λ p. on_list m (length p.steps) x _ (say (report.place_lines p x) Done)
+          on_program m _ (λ p. on_list m (length p.steps) x _ (λ _. say (report.place_lines p x) Done)
           (ring_answer m (length p.steps) x)) input text
       go Audit = on_table IsJudgement (λ t s. on_judgement t s (judged t s)) input (table_answer input)
+      go (Apply ring) =
+          let x = ring.items in
+          on_table (report.IsApplyAnswer x)
+          (λ t s. on_list t.ids t.rounds x _ (λ is. by_table t x (channels t x is)) (ring_answer t.ids t.rounds x))
+          input (table_answer input)
       go Migrate = on_table IsTableText (λ t s. say (table_text t s) Done) input (table_answer input)
       go (Formula m t channels near far) = let p = problem m t channels near far in on_formula p (formula_answer p)
       go (Refute m t channels near far) = let p = problem m t channels near far in

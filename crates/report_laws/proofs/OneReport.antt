@@ -17,11 +17,12 @@ use Rattle.channel_tables.specs.declared.separation.Separation.{Separation}
 use Rattle.bad_tuples.specs.Laws.{OneWitness, ApartTablesHaveNoWitness}
 use Rattle.numerals.specs.declared.base.Base.{Base}
 use Rattle.task_words.specs.declared.task.Task.{Task}
-use Rattle.task_words.specs.declared.task.Task.TheVariants.{Check, Print, Table, Judge, Run, Trace, Explain, Plan, Audit, Migrate, Formula, Refute}
+use Rattle.task_words.specs.declared.task.Task.TheVariants.{Check, Print, Table, Judge, Run, Trace, Explain, Plan, Audit, Apply, Migrate, Formula, Refute}
 use Rattle.reports.specs.declared.status.Status.{Status}
 use Rattle.reports.specs.Causes.{Reason, of_text, of_program, of_ring, of_table_text, of_formula, of_refutation, of_no}
+use Rattle.reports.specs.Laws.{OneListOfLines}
 use Rattle.reports.specs.Report as report
-use Rattle.reports.specs.Report.{Report, Says, Refuses, IsJudgement, good, bad, IsAnswerOnRing, ring_fault, on_ring, IsRunAnswer, out_of_range, ran, IsExplainAnswer, no_place, explained, IsTableText, IsTextRefusal, IsPrintReport, text_refused, in_print, IsProgramRefusal, text_fault, check_fault, IsProgramReport, program_refused, answered, IsTableRefusal, IsTableReport, table_refused, of_table}
+use Rattle.reports.specs.Report.{Report, Says, Refuses, IsJudgement, good, bad, IsAnswerOnRing, ring_fault, on_ring, IsRunAnswer, out_of_range, ran, IsExplainAnswer, no_place, explained, IsTableText, IsTextRefusal, IsPrintReport, text_refused, in_print, IsProgramRefusal, text_fault, check_fault, IsProgramReport, program_refused, answered, IsOnRingByTable, IsTableRefusal, IsTableReport, table_refused, of_table}
 use Rattle.table_formula.specs.Problems.{Problem}
 use Rattle.refutation.specs.Laws.{OneRefutationFault, RefutationsAreRight}
 use Rattle.reports.specs.FormulaReports as formulas
@@ -103,6 +104,12 @@ one_explanation b p x place r s (explained within says) (explained within' says'
 one_table_text : (t : ChannelTable) (d : Separation) (r s : Report) → IsTableText t d r → IsTableText t d s → r ≡ s
 one_table_text t d r s says says' = said_once _ _ _ r s refl says says'
 
+one_by_table : OneListOfLines → (t : ChannelTable) (x : List ℕ) (r s : Report) → IsOnRingByTable t x r →
+    IsOnRingByTable t x s → r ≡ s
+one_by_table one t x r s first second =
+    let same = one t x r.bytes second.0.channel first.0 second.0.has ∙ sym second.0.are in
+    λ i. record { bytes = same i; status = (first.1 ∙ sym second.1) i; cause = (first.2 ∙ sym second.2) i }
+
 one_text_refusal : OneTextFault → (input : List ℕ) (r s : Report) → IsTextRefusal input r →
     IsTextRefusal input s → r ≡ s
 one_text_refusal one_text_fault input r s first second =
@@ -171,14 +178,14 @@ one_table_refusal one_fault input r s first second =
     refused_once _ _ _ _ _ r s (ap report.table_fault_line same) (ap of_table_text same) first.says second.says
 
 -- a table text is not refused
-told_or_refused : TableTextsAreRead → (input : List ℕ) (r : Report) (t : ChannelTable) (d : Separation) →
+pub told_or_refused : TableTextsAreRead → (input : List ℕ) (r : Report) (t : ChannelTable) (d : Separation) →
     IsTextOf input t d → IsTableRefusal input r → ⊥
 told_or_refused read input r t d told refused =
     refused.known (read (written told.0 t d) refused.what told.1
     (subst (λ x. IsFault x refused.what) told.2 refused.fault))
 
 -- a text gives one table and one separation
-one_telling : TableTextsAreApart → (input : List ℕ) (t u : ChannelTable) (d e : Separation) →
+pub one_telling : TableTextsAreApart → (input : List ℕ) (t u : ChannelTable) (d e : Separation) →
     IsTextOf input t d → IsTextOf input u e → (t ≡ u) × (d ≡ e)
 one_telling apart input t u d e told told' =
     let v = written told.0 t d in
@@ -262,9 +269,10 @@ one_refute_report one right p input r s (not_refuted has f known is says) (not_r
 
 pub one_report : OneReading → OneTextFault → OneRefusal → AcceptedProgramsHaveNoRefusal → OneRingFault
     → RingsHaveNoFault → OneWitness → ApartTablesHaveNoWitness
-    → OneTableFault → TableTextsAreApart → TableTextsAreRead → OneRefutationFault → RefutationsAreRight → OneReport
+    → OneTableFault → TableTextsAreApart → TableTextsAreRead → OneListOfLines → OneRefutationFault → RefutationsAreRight
+    → OneReport
 one_report one_reading one_text_fault one_refusal no_refusal one_fault no_fault one_witness no_witness one_table_fault
-    apart read one_refutation right task =
+    apart read one_list one_refutation right task =
     go task
   where
     of_program : (m : ℕ) (answer : ProgramTree → Report → Type 0)
@@ -289,6 +297,9 @@ one_report one_reading one_text_fault one_refusal no_refusal one_fault no_fault 
     go (Plan ids ring workers) =
         of_program ids _ (λ p. one_on_ring one_fault no_fault _ _ _ _ (λ r s. said_once _ _ _ r s refl))
     go Audit = one_table_report one_table_fault apart read IsJudgement judged_once
+    go (Apply ring) =
+        one_table_report one_table_fault apart read _
+        (λ t d. one_on_ring one_fault no_fault _ _ _ _ (one_by_table one_list t ring.items))
     go Migrate = one_table_report one_table_fault apart read IsTableText one_table_text
     go (Formula m t channels near far) = λ input. one_formula_report (problem m t channels near far)
     go (Refute m t channels near far) = one_refute_report one_refutation right (problem m t channels near far)

@@ -9,6 +9,7 @@ use lang_check::one_refusal;
 use lower_bound::{nearby_places_need_four, odd_rings_need_three, tables_need_channels};
 use node_lang::{first_fault, one_reading, one_text_fault, printed_is_read_back, reading_is_exact};
 use refutation::{each_text_has_a_verdict, one_refutation_verdict, refutations_are_sound};
+use reports::places::{one_list_of_lines, tables_have_channels};
 use table_entries::{
     program_tables_are_tables, table_has_the_channels_of_rounds, table_has_the_channels_of_windows,
 };
@@ -34,6 +35,7 @@ pub fn one_report()
     one_table_fault();
     table_texts_are_apart();
     table_texts_are_read();
+    one_list_of_lines();
     one_refutation_verdict();
 }
 
@@ -47,6 +49,7 @@ pub fn each_task_has_a_report()
     tuples_suffice();
     number_of_window();
     windows_have_numbers();
+    tables_have_channels();
     each_text_has_a_verdict();
 }
 

@@ -1,5 +1,5 @@
 -- The definitions that the contracts cite: exit statuses, printed lines, the numbers of a problem, reports, their
--- causes and the notes on these, reports before they are written, and what writing one leaves.
+-- causes and the notes on these, reports before they are written, what writing one leaves, and the laws.
 pub mod StatusCodes
 pub mod Lines
 pub mod Report
@@ -10,3 +10,4 @@ pub mod FormulaNotes
 pub mod Notes
 pub mod Answers
 pub mod Written
+pub mod Laws

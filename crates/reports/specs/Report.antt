@@ -8,6 +8,7 @@ use Rattle.node_program.specs.Term.{ProgramTree}
 use Rattle.node_program.specs.Bounds.{finish_bound}
 use Rattle.node_program.specs.GlobalRounds.{channel_at, channels_of}
 use Rattle.win_index.specs.Ring.{IsRing}
+use Rattle.win_index.specs.Arcs.{window_around}
 use Rattle.node_lang.specs.Grammar.{Reads}
 use Rattle.node_lang.specs.Printed.{printed}
 use Rattle.node_lang.specs.Faults.{FaultsAt}
@@ -19,7 +20,7 @@ use Rattle.lang_check.specs.Acceptance.{IsAccepted}
 use Rattle.lang_check.specs.Refusals.{IsFirstRefusal}
 use Rattle.win_index.specs.RingFaults.{IsFirstFault}
 use Rattle.win_index.specs.Windows.{windows}
-use Rattle.channel_tables.specs.Tables.{ChannelTable}
+use Rattle.channel_tables.specs.Tables.{ChannelTable, channel_of}
 use Rattle.channel_tables.specs.declared.separation.Separation.{Separation}
 use Rattle.bad_tuples.specs.Apart.{extra, tuples, IsApartEverywhere}
 use Rattle.bad_tuples.specs.Witnesses.{IsWitness}
@@ -132,10 +133,25 @@ abbrev pub place_line : ℕ → ℕ → ℕ → List ℕ
 place_line place id channel =
     line (right_aligned place ∷ codes " " ∷ right_aligned id ∷ codes " " ∷ right_aligned channel ∷ [])
 
--- the lines of a ring's places, from place 0 on, with their channels in global rounds
+-- the lines of a ring's places, from place 0 on, with their channels
+abbrev pub lines_of_places : List ℕ → (ℕ → ℕ) → List ℕ
+lines_of_places places channel =
+    flat_map (λ place. place_line place (slice_index places place) (channel place)) (range_with_len 0 (length places))
+
+-- the lines of a ring's places with their channels in global rounds
 abbrev pub place_lines : ProgramTree → List ℕ → List ℕ
-place_lines p places =
-    flat_map (λ place. place_line place (slice_index places place) (channel_at p places place)) (range_with_len 0 (length places))
+place_lines p places = lines_of_places places (channel_at p places)
+
+-- the table has these channels on the ring: each is that of the window around its place
+abbrev pub HasChannels : ChannelTable → List ℕ → (ℕ → ℕ) → Type 0
+HasChannels t places channel =
+    (place : ℕ) → place < length places → channel_of t (window_around places t.rounds place) ≡ Some (channel place)
+
+-- the lines of a ring's places with the channels that the table has on the ring
+pub record AreTableLines (t : ChannelTable) (places lines : List ℕ) : Type 0 where
+  pub channel : ℕ → ℕ
+  pub has : HasChannels t places channel
+  pub are : lines ≡ lines_of_places places channel
 
 -- the cause of a yes over this number of tuples: without tuples no ring is judged, since a ring has at least as many nodes
 -- as a tuple has identifiers; with tuples there is none
@@ -171,6 +187,14 @@ pub data IsRunAnswer (p : ProgramTree) (places : List ℕ) (segments : ℕ) (r :
 pub data IsExplainAnswer (b : Base) (p : ProgramTree) (places : List ℕ) (place : ℕ) (r : Report) : Type 0 where
   no_place : length places ≤ place → Refuses (place_fault_line place) RingRefused (of_place place (length places)) r → IsExplainAnswer b p places place r
   explained : place < length places → Says (explanation b p places place) Done r → IsExplainAnswer b p places place r
+
+-- the report with the lines of a ring's places by a table
+abbrev pub IsOnRingByTable : ChannelTable → List ℕ → Report → Type 0
+IsOnRingByTable t places r = AreTableLines t places r.bytes × (r.status ≡ Done) × (r.cause ≡ None)
+
+-- the report on a list of identifiers by a table, whose shape the ring has to have
+abbrev pub IsApplyAnswer : List ℕ → ChannelTable → Separation → Report → Type 0
+IsApplyAnswer places t s = IsAnswerOnRing t.ids t.rounds places (IsOnRingByTable t places)
 
 -- the report with the text of a table and a separation
 abbrev pub IsTableText : ChannelTable → Separation → Report → Type 0

@@ -10,6 +10,7 @@ pub mod formulas;
 pub mod judgement;
 pub mod lines;
 pub mod note;
+pub mod places;
 pub mod problem;
 pub mod refusal;
 mod refutation_advice;

@@ -5,7 +5,7 @@ ghost use Rattle.std.specs.Prelude.{◌≡◌, ◌≤◌, length, IfOk, IfErr, O
 ghost use Rattle.reports.specs.Answers.{report_in, IsRefusedBy};
 ghost use Rattle.reports.specs.Causes.{of_place, of_ring, of_segments};
 ghost use Rattle.reports.specs.Report as report;
-ghost use Rattle.reports.specs.Report.{Says, Refuses, IsAnswerOnRing, IsExplainAnswer, IsNoRing};
+ghost use Rattle.reports.specs.Report.{Says, Refuses, IsAnswerOnRing, IsExplainAnswer, IsNoRing, IsOnRingByTable};
 ghost use Rattle.ring_segments.specs.SegmentCounts.{IsSegmentCount};
 ghost use Rattle.value_trees.specs.Trace.{trace_lines};
 ghost use Rattle.win_index.specs.Ring.{IsRing};
@@ -14,8 +14,10 @@ ghost use Rattle.win_index.specs.RingFaults.{IsFirstFault};
 use crate::answer::Answer;
 use crate::cause::Cause;
 use crate::lines::{place_fault_line, ring_fault_line, segments_fault_line};
+use crate::places::table_lines;
 use crate::refusal::Refusal;
 use crate::status::Status;
+use channel_tables::Table;
 use lang_check::Plan;
 use node_program::OutOfMemory;
 use numerals::Base;
@@ -30,9 +32,19 @@ pub fn ring_in(alloc: Global, plan: &Plan, ids: Vec<u32>) -> Result<Ring, Refusa
     ensures is { OnOk result (IsRing plan.now.ids (length plan.now.program.steps) ids.items) }
     ensures refusal { IfErr result (IsRefusedBy (IsNoRing plan.now.ids (length plan.now.program.steps) ids.items)) }
 {
-    match Ring::new(plan.shape(), ids) {
+    ring_of_shape(alloc, plan.shape(), ids)
+}
+
+// Makes the ring of a list of identifiers for this shape. The refusal is the report on a list that is
+// not a ring.
+fn ring_of_shape(alloc: Global, shape: Shape, ids: Vec<u32>) -> Result<Ring, Refusal>
+    ensures ring { IfOk result (λ ring. ring ≡ record { ids = shape.ids; rounds = shape.rounds; places = ids.items }) }
+    ensures is { OnOk result (IsRing shape.ids shape.rounds ids.items) }
+    ensures refusal { IfErr result (IsRefusedBy (IsNoRing shape.ids shape.rounds ids.items)) }
+{
+    match Ring::new(shape, ids) {
         Ok(ring) => Ok(ring),
-        Err((ids, fault)) => Err(Refusal::Report(ring_refusal(alloc, plan.shape(), ids, fault)?)),
+        Err((ids, fault)) => Err(Refusal::Report(ring_refusal(alloc, shape, ids, fault)?)),
     }
 }
 
@@ -83,6 +95,21 @@ fn place_refusal(alloc: Global, place: u32, ring: &Ring) -> Result<Answer, OutOf
         places: ring.len() as usize,
     };
     Ok(Answer::WithCause(line, Status::RingRefused, cause))
+}
+
+// Returns the report with the channels of a list of identifiers by a table.
+pub(crate) fn apply_answer(
+    alloc: Global,
+    table: &Table,
+    ids: Vec<u32>,
+) -> Result<Answer, OutOfMemory>
+    ensures { IfOk result (λ r. IsAnswerOnRing table.now.ids table.now.rounds ids.items
+        (IsOnRingByTable table.now ids.items) (report_in r)) }
+{
+    match ring_of_shape(alloc, table.shape(), ids) {
+        Ok(ring) => Ok(Answer::Text(table_lines(alloc, table, &ring)?, Status::Done)),
+        Err(refusal) => refusal.report(),
+    }
 }
 
 /// Returns the report of a trace of a list of identifiers, with its numbers in this base.

@@ -8,13 +8,14 @@ ghost use Rattle.table_text.specs.LineForms.{IsSeparation};
 ghost use Rattle.table_text.specs.Texts.{IsTextOf};
 ghost use Rattle.reports.specs.Answers.{report_in, IsRefusedBy};
 ghost use Rattle.reports.specs.Report as report;
-ghost use Rattle.reports.specs.Report.{Says, IsJudgement, IsPrintReport, IsProgramRefusal, IsTableRefusal, IsTableReport, IsTableText, IsTextRefusal};
+ghost use Rattle.reports.specs.Report.{Says, IsApplyAnswer, IsJudgement, IsPrintReport, IsProgramRefusal, IsTableRefusal, IsTableReport, IsTableText, IsTextRefusal};
 
 use crate::answer::{Answer, TableReport};
 use crate::cause::Cause;
 use crate::judgement::audit_report;
 use crate::lines::{accepted_line, check_fault_line, table_fault_line, text_fault_line};
 use crate::refusal::Refusal;
+use crate::rings::apply_answer;
 use crate::status::Status;
 use crate::told::{ensure_table_told, ensure_text_told};
 use channel_tables::Table;
@@ -64,6 +65,17 @@ pub fn audit_text_report<T: Threads + Sync>(
 {
     match table_in(alloc, input) {
         Ok((table, separation)) => audit_report(rt, alloc, &table, separation),
+        Err(refusal) => refusal.report(),
+    }
+}
+
+/// Returns the report with the channels of a list of identifiers by the table of a table text. Fails if
+/// memory was refused.
+pub fn apply_report(alloc: Global, input: &[u8], ids: Vec<u32>) -> Result<Answer, OutOfMemory>
+    ensures { IfOk result (λ r. IsTableReport (IsApplyAnswer ids.items) input.now (report_in r)) }
+{
+    match table_in(alloc, input) {
+        Ok((table, _separation)) => apply_answer(alloc, &table, ids),
         Err(refusal) => refusal.report(),
     }
 }

@@ -82,13 +82,17 @@ takes_near name = is_named (codes "table") name || (is_named (codes "judge") nam
 abbrev pub takes_base : Text → Bool
 takes_base name = is_named (codes "trace") name || is_named (codes "explain") name
 
+-- the commands on a program and a ring
+abbrev pub takes_program_and_ring : Text → Bool
+takes_program_and_ring name = is_named (codes "run") name || (takes_base name || is_named (codes "plan") name)
+
 abbrev pub takes_ring : Text → Bool
-takes_ring name = is_named (codes "run") name || (takes_base name || is_named (codes "plan") name)
+takes_ring name = takes_program_and_ring name || is_named (codes "apply") name
 
 abbrev pub takes_ids : Text → Bool
-takes_ids name = is_named (codes "check") name || (takes_near name || takes_ring name)
+takes_ids name = is_named (codes "check") name || (takes_near name || takes_program_and_ring name)
 
--- each name of a command with a ring passes a test that all four names pass
+-- each name of a command on a program and a ring passes a test that all four names pass
 pub ring_takes : (test : Text → Bool) (command : RingCommand) → test (codes "run") ≡ true → test (codes "trace") ≡ true → test (codes "explain") ≡ true
     → test (codes "plan") ≡ true → test (ring_name command) ≡ true
 ring_takes test ring.Run run trace explain plan = run
@@ -100,7 +104,10 @@ pub is_ring_name : (command : RingCommand) → IsRingName (ring_name command)
 is_ring_name ring.Run = inl refl
 is_ring_name ring.Trace = inr (inl refl)
 is_ring_name ring.Explain = inr (inr (inl refl))
-is_ring_name ring.Plan = inr (inr (inr refl))
+is_ring_name ring.Plan = inr (inr (inr (inl refl)))
+
+pub is_apply_name : IsRingName (codes "apply")
+is_apply_name = inr (inr (inr (inr refl)))
 
 -- a fault of a command with a ring is one of its name
 pub refused_ring : {T : Type 0} (r : Result T WordsFault) (name : Text) (values : List Row) → IsRingName name

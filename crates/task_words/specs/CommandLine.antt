@@ -1,4 +1,4 @@
--- The command line of the program, as `clap` reads it: one of twelve commands, then its options in any order, each with
+-- The command line of the program, as `clap` reads it: one of thirteen commands, then its options in any order, each with
 -- one value.
 use Rattle.std.specs.Prelude.{◌≡◌, ℕ, List, [], ◌∷◌, ◌++◌, Some, true, false, codes, pos}
 use Rattle.clap.specs.Words.{App, Rule, Shape, new_app, new_rule, shape_of}
@@ -111,6 +111,10 @@ plan_command = command_of (codes "plan") (ids_rule ∷ ring_rule ∷ workers_rul
 abbrev pub audit_command : Shape
 audit_command = command_of (codes "audit") []
 
+-- `apply --ring A,B,..`
+abbrev pub apply_command : Shape
+apply_command = command_of (codes "apply") (ring_rule ∷ [])
+
 -- `migrate`
 abbrev pub migrate_command : Shape
 migrate_command = command_of (codes "migrate") []
@@ -152,12 +156,12 @@ line_of commands = record { top = record program.top { is_leaf = false }; subs =
 
 -- the commands that read a table text
 abbrev pub table_commands : List Shape
-table_commands = audit_command ∷ migrate_command ∷ []
+table_commands = audit_command ∷ apply_command ∷ migrate_command ∷ []
 
 -- the commands on the formula of all tables
 abbrev pub formula_commands : List Shape
 formula_commands = formula_command ∷ refute_command ∷ []
 
--- the words after the program's name: the name of one of the twelve commands, and its options
+-- the words after the program's name: the name of one of the thirteen commands, and its options
 abbrev pub command_line : App
 command_line = line_of (program_commands ++ (ring_commands ++ (table_commands ++ formula_commands)))

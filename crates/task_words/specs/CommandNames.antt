@@ -31,4 +31,5 @@ formula_name formula.Refute = codes "refute"
 abbrev pub name_of : Command → Text
 name_of (command.OnText c) = text_name c
 name_of (command.OnRing c) = ring_name c
+name_of command.Apply = codes "apply"
 name_of (command.OnFormula c) = formula_name c

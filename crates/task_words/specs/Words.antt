@@ -10,7 +10,7 @@ use Rattle.task_words.specs.CommandLine.{command_line}
 use Rattle.task_words.specs.Decimal.{IsNumber, number_in}
 use Rattle.task_words.specs.RingText.{IsRingText, ring_in}
 use Rattle.task_words.specs.declared.task.Task.{Task}
-use Rattle.task_words.specs.declared.task.Task.TheVariants.{Check, Print, Table, Judge, Run, Trace, Explain, Plan, Audit, Migrate, Formula, Refute}
+use Rattle.task_words.specs.declared.task.Task.TheVariants.{Check, Print, Table, Judge, Run, Trace, Explain, Plan, Audit, Apply, Migrate, Formula, Refute}
 
 -- `clap` accepts the words: they have no fault of any kind
 abbrev pub IsCommand : List Text → Type 0
@@ -44,7 +44,8 @@ HasBase values base = HasNumber values (codes "base") (radix base)
 
 -- the commands that take a ring
 abbrev pub IsRingName : Text → Type 0
-IsRingName name = (name ≡ codes "run") ⊎ (name ≡ codes "trace") ⊎ (name ≡ codes "explain") ⊎ (name ≡ codes "plan")
+IsRingName name =
+    (name ≡ codes "run") ⊎ (name ≡ codes "trace") ⊎ (name ≡ codes "explain") ⊎ (name ≡ codes "plan") ⊎ (name ≡ codes "apply")
 
 -- the value of `--ring` is not a ring text
 abbrev pub IsRingBad : List Row → Type 0
@@ -81,6 +82,7 @@ IsTaskFor name values (Explain ids ring place base) = (name ≡ codes "explain")
 IsTaskFor name values (Plan ids ring workers) = (name ≡ codes "plan") × HasNumber values (codes "ids") ids
     × HasRing values ring.items × HasNumber values (codes "workers") workers
 IsTaskFor name values Audit = name ≡ codes "audit"
+IsTaskFor name values (Apply ring) = (name ≡ codes "apply") × HasRing values ring.items
 IsTaskFor name values Migrate = name ≡ codes "migrate"
 IsTaskFor name values (Formula ids rounds channels near far) = (name ≡ codes "formula") × HasFormulaNumbers values ids rounds channels near far
 IsTaskFor name values (Refute ids rounds channels near far) = (name ≡ codes "refute") × HasFormulaNumbers values ids rounds channels near far

@@ -188,6 +188,22 @@ Exit status:
   5  reading or writing failed
   6  memory or a thread was refused";
 
+/// The input, output and exit statuses of `apply`.
+pub(crate) const APPLY: &str = "Standard input:  a table text, as `nbhd table` prints it
+Standard output: one line for each place of the ring: the place, its identifier and its channel;
+                 or one line: what is refused
+
+The ring has at least 2, 4, 6, 8 or 10 identifiers for a table of 0 to 4 rounds, below the ids of the
+text, no two the same. `nbhd audit` tells whether channels are far enough apart on every ring.
+
+Exit status:
+  0  the channels are printed
+  2  the words are refused
+  3  the table text is refused
+  4  the ring is refused
+  5  reading or writing failed
+  6  memory was refused";
+
 /// The input, output and exit statuses of `migrate`.
 pub(crate) const MIGRATE: &str = "Standard input:  a table text of version 1 or 2
 Standard output: the text of the same table, near and far in version 2, or one line: what is refused

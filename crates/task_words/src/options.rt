@@ -34,6 +34,7 @@ pub(crate) fn task_in(
     match command_named(name) {
         Some(Command::OnText(command)) => Ok(text_task(command, options)),
         Some(Command::OnRing(command)) => ring_task(alloc, command, options),
+        Some(Command::Apply) => apply_task(alloc, options),
         Some(Command::OnFormula(command)) => Ok(formula_task(command, options)),
         None => unreachable!(),
     }
@@ -105,6 +106,19 @@ fn ring_task(
             workers: number_in(options, "workers"),
         }),
     }
+}
+
+// Returns the task of `apply`.
+fn apply_task(alloc: Global, options: &ArgMatches<'_>) -> Result<Task, WordsFault>
+    requires { IsOneOf command_line.subs (codes "apply") (rows_of (found_of options.now)) }
+    ensures task { IfOk result (IsTaskFor (codes "apply") (rows_of (found_of options.now))) }
+    ensures range { IfOk result IsInRange }
+    ensures good { IfOk result (λ _. ¬ IsRingBad (rows_of (found_of options.now))) }
+    ensures refused { IfErr result (λ fault. (fault ≡ OutOfMemory)
+        ⊎ ((fault ≡ BadRing) × IsRingBad (rows_of (found_of options.now)))) }
+{
+    let ring = ring_in(alloc, options)?;
+    Ok(Task::Apply { ring })
 }
 
 // Returns the task of a command on the formula of all tables.

@@ -13,6 +13,8 @@ use crate::limits::{MAX_BASE, MAX_CHANNELS, MAX_COUNT, MAX_DISTANCE, MAX_ROUNDS,
 pub(crate) enum Command {
     OnText(TextCommand),
     OnRing(RingCommand),
+    // `apply`, on a table and a ring.
+    Apply,
     OnFormula(FormulaCommand),
 }
 
@@ -59,6 +61,7 @@ impl Command {
             Command::OnRing(RingCommand::Trace) => "trace",
             Command::OnRing(RingCommand::Explain) => "explain",
             Command::OnRing(RingCommand::Plan) => "plan",
+            Command::Apply => "apply",
             Command::OnFormula(FormulaCommand::Formula) => "formula",
             Command::OnFormula(FormulaCommand::Refute) => "refute",
         }
@@ -177,7 +180,7 @@ const CHANNELS: OptionRow = OptionRow {
 };
 
 // The commands, in the order of the help of the program.
-pub(crate) const COMMANDS: [CommandRow; 12] = [
+pub(crate) const COMMANDS: [CommandRow; 13] = [
     // `check --ids M`
     CommandRow {
         command: Command::OnText(TextCommand::Check),
@@ -240,6 +243,13 @@ pub(crate) const COMMANDS: [CommandRow; 12] = [
         about: "Tells whether channels are far enough apart on every ring, by a table text",
         details: help::AUDIT,
         options: &[],
+    },
+    // `apply --ring A,B,..`
+    CommandRow {
+        command: Command::Apply,
+        about: "Prints the channels of a ring's places, looked up in a table text",
+        details: help::APPLY,
+        options: &[RING],
     },
     // `migrate`
     CommandRow {

@@ -85,6 +85,11 @@ pub enum Task {
     /// Judges whether the channels of near places are far enough apart on every ring, by the table
     /// text of the input.
     Audit,
+    /// Looks up the channels of a ring's places in the table of the table text of the input.
+    Apply {
+        /// The identifiers of the ring's places, from place 0 on.
+        ring: Vec<u32>,
+    },
     /// Writes the table and the separation of the table text of the input in the newest version.
     Migrate,
     /// Prints the formula that asks for a table of this many identifiers, rounds and channels that

@@ -145,7 +145,7 @@ fn input_of(words: &[String]) -> Input
 fn input_of_command(command: &str) -> Input
     ensures { result ≡ tips.input_of_command command.now }
 {
-    if command == "audit" || command == "migrate" {
+    if command == "audit" || command == "apply" || command == "migrate" {
         return Input::Table;
     }
     if command == "refute" {

@@ -7,4 +7,4 @@ returns c =
     each_task_has_a_report c.reading_is_exact.ensures.sound c.first_fault.ensures.first c.one_text_fault.ensures.none
     (judge_answer c.tuples_suffice.ensures.exact c.tuples_suffice.ensures.bad_ring c.number_of_window.ensures
     c.windows_have_numbers.ensures)
-    c.each_text_has_a_verdict.ensures
+    c.tables_have_channels.ensures c.each_text_has_a_verdict.ensures
