@@ -2,7 +2,7 @@
 
 from itertools import product
 
-TABLE = "for `nbhd audit` and `nbhd migrate`"
+TABLE = "for `nbhd audit`, `nbhd apply` and `nbhd migrate`"
 FORMULA = "this is a formula"
 REFUTATION = "this looks like a refutation"
 PROOF = "this looks like a proof in DRAT"
@@ -16,6 +16,7 @@ READERS = [
     ("program", "check --ids 8"),
     ("program", "judge --ids 8"),
     ("table", "audit"),
+    ("table", "apply --ring 0,1"),
     ("table", "migrate"),
     ("refutation", "refute --ids 3 --rounds 0 --channels 2"),
 ]

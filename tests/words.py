@@ -728,6 +728,8 @@ MESSAGES = "nbhd: `nbhd run` runs a program on a ring, and `nbhd trace` prints e
 JUDGES = "nbhd: `nbhd judge` judges a program on every ring, and `nbhd audit` a table\n"
 HELP = "nbhd: `nbhd --help` tells of the program, and `nbhd run --help` of a command\n"
 FIRST = "nbhd: the name of a command comes first, as in `nbhd check --ids 8`\n"
+RING_OF = "nbhd: `--ring` is an option of `run`, `trace`, `explain`, `plan` and `apply`\n"
+IN_TABLE = "nbhd: the numbers of a table are in its text\n"
 
 # Words and the end of the standard error, which names what was probably meant.
 ADVICE = [
@@ -736,6 +738,7 @@ ADVICE = [
     ("judge --ids 8 -", FILE_NAME),
     ("check mine --ids 8", FILE_NAME),
     ("audit mine", TABLE_NAME),
+    ("apply --ring 5,1,3,7 mine", TABLE_NAME),
     ("refute --ids 3 --rounds 0 --channels 2 proof", REFUTATION_NAME),
     ("formula --ids 3 --rounds 0 --channels 2 out", NO_FILE),
     # Names of other programs for options.
@@ -754,9 +757,12 @@ ADVICE = [
     # Options of another command.
     ("check --ids 8 --workers 2", "nbhd: `--workers` is an option of `table`, `judge` and `plan`\n"),
     (f"{RUN} --near 2", "nbhd: `--near` is an option of `table`, `judge`, `formula` and `refute`\n"),
-    ("judge --ids 8 --ring 5,1,3,7", "nbhd: `--ring` is an option of `run`, `trace`, `explain` and `plan`\n"),
+    ("judge --ids 8 --ring 5,1,3,7", RING_OF),
+    ("audit --ring 5,1,3,7", RING_OF),
     ("judge --ids 8 --rounds 1", "nbhd: `--rounds` is an option of `formula` and `refute`; a program says its own\n"),
-    ("audit --ids 8", "nbhd: the numbers of a table are in its text\n"),
+    ("audit --ids 8", IN_TABLE),
+    ("apply --ids 8 --ring 5,1,3,7", IN_TABLE),
+    ("apply --ring 5,1,3,7 --near 2", IN_TABLE),
     ("print --ids 8", "`nbhd check` tells whether a program is accepted for M identifiers\n"),
     # Words in place of a command.
     *((f"{name} --ids 8", MESSAGES) for name in ["simulate", "exec"]),
@@ -770,11 +776,12 @@ ADVICE = [
     ("8", FIRST),
     # Stray words.
     ("run --ids 8 5,1,3,7", "nbhd: a ring is given by `--ring`, as in `--ring 5,1,3,7`\n"),
+    ("apply 5,1,3,7", "nbhd: a ring is given by `--ring`, as in `--ring 5,1,3,7`\n"),
     ("check 8", "nbhd: each number is the value of an option, as in `--ids 8`\n"),
     ("audit migrate", "nbhd: one command is given at a time\n"),
     *((f"judge {word}", ONE_MINUS) for word in ["ids 8", "ids=8", "--ids 8 near 2", "-- ids 8"]),
     (["judge", "--ids", "8", "<", "mine"], "nbhd: `<` and `>` are read by the shell, outside of quotes\n"),
-    ("run --ids 8 -r 5,1,3,7", "nbhd: a ring is given by `--ring`, of `run`, `trace`, `explain` and `plan`\n"),
+    ("run --ids 8 -r 5,1,3,7", "nbhd: a ring is given by `--ring`, of `run`, `trace`, `explain`, `plan` and `apply`\n"),
     ("audit --table old.table", TABLE_NAME),
     ("migrate --version 2", "nbhd: `nbhd migrate` prints a table in the newest version\n"),
     # A word that is like a name, and of which nothing else is known, has what `clap` says of it alone.

@@ -220,7 +220,7 @@ impl Foreign {
             Foreign::Identifiers =>
                 "nbhd: the number of identifiers is given by `--ids`, as in `--ids 8`",
             Foreign::Ring =>
-                "nbhd: a ring is given by `--ring`, of `run`, `trace`, `explain` and `plan`",
+                "nbhd: a ring is given by `--ring`, of `run`, `trace`, `explain`, `plan` and `apply`",
             Foreign::Rounds =>
                 "nbhd: a program says its rounds; those of a formula are given by `--rounds`",
             Foreign::Colours =>
@@ -246,7 +246,7 @@ fn threads_line(command: &[u8]) -> &'static str {
 pub(crate) fn file_line(command: &[u8]) -> &'static str {
     match command {
         b"formula" => "nbhd: `nbhd formula` reads no file",
-        b"audit" | b"migrate" => {
+        b"audit" | b"apply" | b"migrate" => {
             "nbhd: a table is read from standard input, as in `nbhd audit < FILE`"
         }
         b"refute" => {

@@ -13,7 +13,7 @@ const PRINTS: &str =
 const OF_COMMANDS: [(&[u8], &str); 9] = [
     (
         b"--ring",
-        "nbhd: `--ring` is an option of `run`, `trace`, `explain` and `plan`",
+        "nbhd: `--ring` is an option of `run`, `trace`, `explain`, `plan` and `apply`",
     ),
     (
         b"--rounds",
@@ -90,6 +90,7 @@ fn is_command(word: &[u8]) -> bool {
             | b"explain"
             | b"plan"
             | b"audit"
+            | b"apply"
             | b"migrate"
             | b"formula"
             | b"refute"
@@ -123,9 +124,8 @@ fn argument_advice(command: &[u8], word: &str) -> Option<&'static str> {
         ),
         (_, b"--version" | b"-V") => Some("nbhd: the first line of `nbhd --help` has the version"),
         ([b'-', ..] | [], _) => Some(NO_COMMAND),
-        (b"audit" | b"migrate", [b'-', b'-', b'a'..=b'z', ..]) if is_option(name) => Some(
-            NO_OPTION,
-        ),
+        (b"audit" | b"apply" | b"migrate", [b'-', b'-', b'a'..=b'z', ..])
+            if is_option_of_numbers(name) => Some(NO_OPTION),
         (b"print", [b'-', b'-', b'a'..=b'z', ..]) if is_option(name) => Some(PRINTS),
         (_, [b'-', _, ..]) => {
             let foreign = foreign_in(&OPTIONS, name).map(|it| it.line(command));
@@ -138,6 +138,11 @@ fn argument_advice(command: &[u8], word: &str) -> Option<&'static str> {
 // Returns whether this is the name of an option of some command.
 fn is_option(name: &[u8]) -> bool {
     name == b"--ids".as_slice() || advice_in(&OF_COMMANDS, name).is_some()
+}
+
+// Returns whether this is the name of an option of some command, which takes numbers.
+fn is_option_of_numbers(name: &[u8]) -> bool {
+    is_option(name) && name != b"--ring".as_slice()
 }
 
 // Returns whether this is the name of an option without its minus signs.
@@ -164,7 +169,8 @@ fn stray_advice(command: &[u8], word: &[u8]) -> &'static str {
         (_, word) if is_bare_option(word) => {
             "nbhd: the name of an option has two minus signs before it, as in `--ids 8`"
         }
-        (b"run" | b"trace" | b"explain" | b"plan", [b'0'..=b'9', ..]) if word.contains(&b',') => {
+        (b"run" | b"trace" | b"explain" | b"plan" | b"apply", [b'0'..=b'9', ..])
+            if word.contains(&b',') => {
             "nbhd: a ring is given by `--ring`, as in `--ring 5,1,3,7`"
         }
         (_, [b'0'..=b'9', ..] | []) =>
