@@ -14,6 +14,7 @@ use Rattle.channel_tables.specs.Tables.{ChannelTable, channel_of}
 use Rattle.channel_tables.specs.declared.separation.Separation.{Separation}
 use Rattle.bad_tuples.specs.Apart.{AreApart, IsApartEverywhere}
 use Rattle.headline.specs.Headline.{TableAgrees, RunAgrees, ChannelsAreApart}
+use Rattle.headline.specs.Laws.{TablesAreApartOnRings}
 
 -- places of an arc can be counted from one turn further
 turned : (x : List ℕ) (start count : ℕ) → arc x (length x + start) count ≡ arc x start count
@@ -59,6 +60,19 @@ apart_of distance a b c d first second = (
   λ apart. subst (AreApart distance (Some c)) second (subst (λ o. AreApart distance o b) first apart),
   λ apart. subst (λ o. AreApart distance o b) (sym first) (subst (AreApart distance (Some c)) (sym second) apart),
 )
+
+-- the channels of a table that is apart everywhere are apart on each long ring
+pub apart_on_rings : TablesAreApartOnRings
+apart_on_rings t s x channel good ring long has i lt =
+    let r = t.rounds in
+    let enough = ring.long in
+    let one : channel_of t (window_around x r (i + 1)) ≡ Some (channel (right_of x i)) =
+    ap (channel_of t) (window_at x r (i + 1) (omega arith) (omega arith)) ∙ has (right_of x i) (mod-lt (i + 1) (omega arith)) in
+    let two : channel_of t (window_around x r (i + 2)) ≡ Some (channel (right_of x (right_of x i))) =
+    ap (channel_of t) (window_at x r (i + 2) (omega arith) (omega arith)) ∙ has ((i + 2) % length x) (mod-lt (i + 2) (omega arith))
+    ∙ ap (λ k. Some (channel k)) (sym (two_right x i lt)) in
+    let here = good x i ring long lt in
+    ((apart_of s.near _ _ _ _ (has i lt) one).0 here.0, (apart_of s.far _ _ _ _ (has i lt) two).0 here.1)
 
 -- the channels of a table that agrees with global rounds are apart everywhere if and only if those of global rounds are
 pub good_tables :

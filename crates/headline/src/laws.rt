@@ -1,4 +1,4 @@
-//! The law of this crate.
+//! The laws of this crate.
 
 ghost use Rattle.headline.specs.Laws as law;
 
@@ -11,3 +11,9 @@ pub fn program_tables_are_apart()
 {
     table_has_the_channels_of_rounds();
 }
+
+/// If a table keeps a separation on every ring, its channels on a ring with at least as many nodes as
+/// a tuple are as far apart.
+pub fn tables_are_apart_on_rings()
+    ensures { law.TablesAreApartOnRings }
+{}

@@ -11,4 +11,5 @@ mod SeenTables
 mod Refuted
 mod RoundsNeeded
 mod ReadBack
+mod Applied
 pub mod OneNote

@@ -1,24 +1,22 @@
--- Reports that are table texts, as inputs of migrate and audit.
-use Rattle.std.proofs.Common.{◌≡◌, ◌≢◌, ℕ, List, [], append-nil, sym, ap, subst, ◌∙◌, refl, arith, lit≤}
+-- Reports that are table texts, as inputs of migrate, audit and apply.
+use Rattle.std.proofs.Common.{◌≡◌, ℕ, List, [], length, append-nil, sym, subst, ◌∙◌, arith, lit≤}
 use Rattle.node_program.specs.Term.{ProgramTree}
-use Rattle.lang_check.specs.Acceptance.{IsAccepted}
 use Rattle.channel_tables.specs.Tables.{ChannelTable, IsTable}
 use Rattle.channel_tables.specs.declared.separation.Separation.{Separation}
-use Rattle.table_entries.specs.Laws.{ProgramTablesAreTables}
+use Rattle.table_entries.specs.Laws.{ProgramTablesAreTables, TableHasTheChannelsOfRounds}
 use Rattle.table_entries.specs.ProgramTables.{table_of}
 use Rattle.table_text.specs.declared.version.Version.{Version}
 use Rattle.table_text.specs.declared.version.Version.TheVariants.{One, Two}
 use Rattle.table_text.specs.Laws.{TableTextsAreApart, TableTextsAreRead}
 use Rattle.table_text.specs.LineForms.{IsSeparation, IsSeparationOf}
 use Rattle.table_text.specs.TableText.{Written, written, text_of, table_text}
-use Rattle.table_text.specs.Texts.{IsWritten, IsTextOf}
-use Rattle.task_words.specs.Counts.{IsNear, IsFar}
-use Rattle.task_words.specs.declared.task.Task.TheVariants.{Table, Judge, Audit, Migrate}
 use Rattle.reports.specs.declared.status.Status.{Status}
 use Rattle.reports.specs.declared.status.Status.TheVariants.{Done, Refused}
-use Rattle.reports.specs.Report.{Report, Says, IsJudgement, IsTableText, IsProgramReport, program_refused, answered, text_fault, check_fault, IsTableReport, table_refused, of_table}
-use Rattle.plan_print.specs.TaskReport.{IsReport}
-use Rattle.report_laws.specs.Laws.{MigrateKeepsNewTexts, MigrateTwiceIsOnce, AuditOfTableIsJudge}
+use Rattle.reports.specs.Report.{Report, Says, HasChannels, IsApplyAnswer, IsAnswerOnRing, ring_fault, on_ring, place_lines, IsJudgement, IsTableText, program_refused, answered, text_fault, check_fault, IsTableReport, table_refused, of_table}
+use Rattle.node_program.specs.GlobalRounds.{channel_at}
+use Rattle.win_index.specs.Ring.{IsRing}
+use Rattle.reports.specs.Laws.{OneListOfLines}
+use Rattle.report_laws.specs.Laws.{MigrateKeepsNewTexts, MigrateTwiceIsOnce, AuditOfTableIsJudge, ApplyOfTableIsPlan}
 
 -- a refusal is not done
 not_done : (status : Status) → status ≡ Refused → status ≡ Done → ⊥
@@ -29,6 +27,20 @@ in_range : (version : Version) (s : Separation) → IsSeparationOf version s →
 in_range One s told =
     subst IsSeparation (sym told) (record { some_near = omega arith; small_near = lit≤ tt; small_far = omega arith })
 in_range Two s told = told
+
+-- the channels of global rounds are those of a program's table
+channels_of_rounds : TableHasTheChannelsOfRounds → (p : ProgramTree) (m : ℕ) (ring : List ℕ) → IsRing m (length p.steps) ring
+    → HasChannels (table_of p m) ring (channel_at p ring)
+unfolding table_of
+channels_of_rounds has p m ring is = λ place within. has p m ring place is within
+
+-- so the report on a list of identifiers by the table of a program is that of a plan
+by_rounds : TableHasTheChannelsOfRounds → OneListOfLines → (p : ProgramTree) (m : ℕ) (ring : List ℕ) (s : Separation) (r : Report)
+    → IsApplyAnswer ring (table_of p m) s r → IsAnswerOnRing m (length p.steps) ring (Says (place_lines p ring) Done) r
+unfolding table_of
+by_rounds has one p m ring s r (ring_fault f first says) = ring_fault f first says
+by_rounds has one p m ring s r (on_ring is said) =
+    on_ring is (one (table_of p m) ring r.bytes (channel_at p ring) said.0 (channels_of_rounds has p m ring is), said.1, said.2)
 
 module _ (texts_apart : TableTextsAreApart) (read : TableTextsAreRead) where
   -- the report on a text of version 2 is that of its table and its separation
@@ -67,3 +79,17 @@ module _ (texts_apart : TableTextsAreApart) (read : TableTextsAreRead) where
       let text : IsTableReport IsJudgement (table_text (table_of p m) s) q =
       subst (λ (bytes : List ℕ). IsTableReport IsJudgement bytes q) said.0 again in
       answered p reads accepted (on_text IsJudgement (table_of p m) s q (tables p m reads.limits accepted) range text)
+
+  pub apply : ProgramTablesAreTables → TableHasTheChannelsOfRounds → OneListOfLines → ApplyOfTableIsPlan
+  apply tables has one m v w near far ring input r q is_near is_far (program_refused (text_fault refused)) done again =
+      absurd (not_done r.status refused.says.1 done)
+  apply tables has one m v w near far ring input r q is_near is_far (program_refused (check_fault p f reads first says)) done again =
+      absurd (not_done r.status says.1 done)
+  apply tables has one m v w near far ring input r q is_near is_far (answered p reads accepted said) done again =
+      let s : Separation = record { near = near; far = far } in
+      let range : IsSeparation s =
+      record { some_near = is_near.some; small_near = is_near.small; small_far = is_far } in
+      let text : IsTableReport (IsApplyAnswer ring.items) (table_text (table_of p m) s) q =
+      subst (λ (bytes : List ℕ). IsTableReport (IsApplyAnswer ring.items) bytes q) said.0 again in
+      answered p reads accepted
+      (by_rounds has one p m ring.items s q (on_text (IsApplyAnswer ring.items) (table_of p m) s q (tables p m reads.limits accepted) range text))

@@ -64,7 +64,7 @@ judge_tells one_reading no_refusal no_witness tables m workers near far input p 
     (answer_on one_reading no_refusal m _ input p r text is)
 
 -- the report on a ring
-on_this_ring : RingsHaveNoFault → (m t : ℕ) (places : List ℕ) (said : Report → Type 0) (r : Report) →
+pub on_this_ring : RingsHaveNoFault → (m t : ℕ) (places : List ℕ) (said : Report → Type 0) (r : Report) →
     IsRing m t places → IsAnswerOnRing m t places said r → said r
 on_this_ring no_fault m t places said r ring (ring_fault f first says) = absurd (no_fault m t places f ring first)
 on_this_ring no_fault m t places said r ring (on_ring is says) = says

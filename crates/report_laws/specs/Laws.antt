@@ -1,10 +1,11 @@
 -- The laws: a task has one report on an input, reports agree with global rounds, and prints and table texts are read
 -- back.
 use Rattle.std.specs.Prelude.{◌≡◌, ◌≢◌, ◌↔◌, ◌⊎◌, ℕ, ◌+◌, ◌*◌, ◌%◌, ◌<◌, ◌≤◌, List, [], ◌∷◌, ◌++◌, Vec, Some, ⊤, length, codes}
+use Rattle.std.specs.Int.{abs_diff}
 use Rattle.std.specs.declared.alloc.Global.{Global}
 use Rattle.node_program.specs.Term.{ProgramTree}
 use Rattle.node_lang.specs.Grammar.{Reads}
-use Rattle.node_program.specs.GlobalRounds.{channel_at, channels_of}
+use Rattle.node_program.specs.GlobalRounds.{right_of, channel_at, channels_of}
 use Rattle.win_index.specs.Ring.{IsRing}
 use Rattle.win_index.specs.Arcs.{window_around}
 use Rattle.lang_check.specs.Acceptance.{IsAccepted}
@@ -24,15 +25,16 @@ use Rattle.value_trees.specs.Trace.{trace_lines}
 use Rattle.ring_segments.specs.SegmentCounts.{IsSegmentCount}
 use Rattle.headline.specs.Headline.{ChannelsAreApart}
 use Rattle.table_text.specs.TableText.{table_text}
+use Rattle.table_text.specs.Texts.{IsTextOf}
 use Rattle.task_words.specs.declared.task.Task.{Task}
-use Rattle.task_words.specs.declared.task.Task.TheVariants.{Print, Table, Judge, Run, Trace, Explain, Plan, Audit, Migrate, Refute}
+use Rattle.task_words.specs.declared.task.Task.TheVariants.{Print, Table, Judge, Run, Trace, Explain, Plan, Audit, Apply, Migrate, Refute}
 use Rattle.reports.specs.declared.status.Status.TheVariants.{Done, No}
 use Rattle.reports.specs.Lines.{line, numbers_text}
 use Rattle.refutation.specs.declared.fault.RefuteError.TheVariants as refute
 use Rattle.reports.specs.FormulaNotes.{MayHaveAdvice}
 use Rattle.reports.specs.Causes.{Reason, of_ring, of_place, of_segments, of_refutation, of_no, of_no_tuples}
 use Rattle.reports.specs.Notes.{IsNote}
-use Rattle.reports.specs.Report.{Report, Says, place_lines}
+use Rattle.reports.specs.Report.{Report, Says, lines_of_places, place_lines}
 use Rattle.plan_print.specs.TaskReport.{IsReport}
 
 -- two reports of a task on an input are equal
@@ -171,6 +173,25 @@ AuditOfTableIsJudge =
     (m v w near far : ℕ) (input : List ℕ) (r s : Report) → IsNear near → IsFar far →
     IsReport (Table m v near far) input r → r.status ≡ Done
     → IsReport Audit r.bytes s → IsReport (Judge m w near far) input s
+
+-- the report of apply on the report of table is that of plan
+abbrev pub ApplyOfTableIsPlan : Type 0
+ApplyOfTableIsPlan =
+    (m v w near far : ℕ) (ring : Vec ℕ Global) (input : List ℕ) (r s : Report) → IsNear near → IsFar far →
+    IsReport (Table m v near far) input r → r.status ≡ Done
+    → IsReport (Apply ring) r.bytes s → IsReport (Plan m ring w) input s
+
+-- If the report of audit on a table text is a yes, the lines of apply on each ring with at least as many nodes as a tuple
+-- have channels that are as far apart as the text asks.
+abbrev pub AuditedChannelsAreApart : Type 0
+AuditedChannelsAreApart =
+    (input : List ℕ) (t : ChannelTable) (s : Separation) (ring : Vec ℕ Global) (judged r : Report) → IsTextOf input t s →
+    IsReport Audit input judged → judged.status ≡ Done
+    → IsRing t.ids t.rounds ring.items → 2 * t.rounds + 1 + extra s ≤ length ring.items → IsReport (Apply ring) input r
+    → (channel : ℕ → ℕ) × Says (lines_of_places ring.items channel) Done r
+    × ((place : ℕ) → place < length ring.items
+    → (s.near ≤ abs_diff (channel place) (channel (right_of ring.items place)))
+    × (s.far ≤ abs_diff (channel place) (channel (right_of ring.items (right_of ring.items place)))))
 
 -- the cause is a list that is no ring, a place that a ring has not, a number of segments, a no, a yes over no tuples, or a
 -- fault of a refutation other than a line that has not its form or an end too early: its note has no advice

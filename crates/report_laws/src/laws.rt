@@ -4,7 +4,7 @@
 ghost use Rattle.report_laws.specs.Laws as law;
 
 use bad_tuples::{less_is_apart, one_witness, tuples_suffice};
-use headline::program_tables_are_apart;
+use headline::{program_tables_are_apart, tables_are_apart_on_rings};
 use lang_check::one_refusal;
 use lower_bound::{nearby_places_need_four, odd_rings_need_three, tables_need_channels};
 use node_lang::{first_fault, one_reading, one_text_fault, printed_is_read_back, reading_is_exact};
@@ -83,15 +83,30 @@ pub fn prints_are_read_back()
 
 /// The report of `migrate` on a text of version 2 is that text, so a second `migrate` changes
 /// nothing. The report of `audit` on the report of `table` is that of `judge` with the same near
-/// and far.
+/// and far, and the report of `apply` on it that of `plan`.
 pub fn table_reports_are_read_back()
     ensures keeps { law.MigrateKeepsNewTexts }
     ensures twice { law.MigrateTwiceIsOnce }
     ensures audit { law.AuditOfTableIsJudge }
+    ensures apply { law.ApplyOfTableIsPlan }
 {
     table_texts_are_apart();
     table_texts_are_read();
     program_tables_are_tables();
+    table_has_the_channels_of_rounds();
+    one_list_of_lines();
+}
+
+/// If `audit` says yes of a table text, the channels that `apply` prints on a ring are as far apart as
+/// the text asks. The ring must have at least as many nodes as a tuple, `2t+2`, or `2t+3` if far is
+/// above 0.
+pub fn audited_channels_are_apart()
+    ensures { law.AuditedChannelsAreApart }
+{
+    table_texts_are_apart();
+    table_texts_are_read();
+    one_ring_fault();
+    tables_are_apart_on_rings();
 }
 
 /// If `refute` says that a formula is refuted, no table with at least its number of identifiers, at

@@ -5,7 +5,7 @@
 mod laws;
 
 pub use laws::{
-    each_task_has_a_report, one_note, one_report, prints_are_read_back, programs_need_channels,
-    programs_need_four, programs_need_three, refuted_is_impossible, reports_tell_rounds,
-    table_reports_are_read_back,
+    audited_channels_are_apart, each_task_has_a_report, one_note, one_report, prints_are_read_back,
+    programs_need_channels, programs_need_four, programs_need_three, refuted_is_impossible,
+    reports_tell_rounds, table_reports_are_read_back,
 };
