@@ -14,7 +14,7 @@ import { startGraph, updateGraph } from "./view-graph.js";
 const VIEWS = { run: updateRun, judge: updateJudge, table: updateTable, graph: updateGraph };
 // The views that a value of the state belongs to. The text and the number of identifiers belong to all views.
 const USERS = {
-  ring: ["run"], step: ["run"], why: ["run"], base: ["run"],
+  ring: ["run", "table"], step: ["run"], why: ["run"], base: ["run"],
   near: ["judge", "graph"], far: ["judge", "graph"], prefix: ["table"], arrange: ["graph"], large: ["run", "judge"],
 };
 const PAUSE_MS = 250;

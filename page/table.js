@@ -1,4 +1,4 @@
-// Reading the text of a table.
+// Reading the text of a table, and the lines of a ring's places.
 
 /** Reads a table text as `{ rounds, ids, windows, channels }`; a window is the text of its identifiers. */
 export function readTable(text) {
@@ -12,6 +12,12 @@ export function readTable(text) {
     channels.push(Number(lines[i].slice(cut + 3)));
   }
   return { rounds: Number(header[1]), ids: Number(header[3]), windows, channels };
+}
+
+/** Reads the lines of a ring's places as `{ ring, channels }`. */
+export function readPlaces(text) {
+  const rows = text.trimEnd().split("\n").map((line) => line.trim().split(/ +/).map(Number));
+  return { ring: rows.map((row) => row[1]), channels: rows.map((row) => row[2]) };
 }
 
 /** The least number of bytes of a table's lines: at each place of a window each identifier is equally often. */

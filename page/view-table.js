@@ -1,9 +1,10 @@
-// Table: the windows with their channels, how often each channel occurs, and the text to save.
+// Table: the windows with their channels, how often each channel occurs, and the text to save; below them a ring by another table.
 
 import { ask, drop } from "./ask.js";
 import { byId, coded, html } from "./dom.js";
 import { change, exampleOf, state } from "./state.js";
 import { badgeImage, colourOf } from "./channels.js";
+import { startPasted, updatePasted } from "./pasted.js";
 import { countChannels, leastBytes, readTable } from "./table.js";
 import { PROGRAM_REFUSED, readRefusal } from "./faults.js";
 
@@ -18,6 +19,7 @@ let table = null;
 export async function updateTable(checked) {
   if (byId("prefix").value !== state.prefix) byId("prefix").value = state.prefix;
   drop("table");
+  updatePasted();
   if (checked.refusal) return showNothing(PROGRAM_REFUSED);
   if (leastBytes(checked.accepted) > LONGEST) {
     const windows = checked.accepted.windows.toLocaleString("en");
@@ -103,4 +105,5 @@ function save() {
 export function startTable() {
   byId("prefix").addEventListener("input", (event) => change({ prefix: event.target.value }));
   byId("save").addEventListener("click", save);
+  startPasted();
 }

@@ -12,6 +12,7 @@ COMMANDS = {
     "explain": {"ids", "ring", "place"},
     "judge": {"ids", "near", "far"},
     "table": {"ids"},
+    "apply": {"ring"},
 }
 
 

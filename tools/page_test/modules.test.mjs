@@ -10,7 +10,7 @@ import { fewerChannels, knownChannels } from "../../page/least.js";
 import { clamp, whyNoNumber } from "../../page/numbers.js";
 import { numerals, widthOf } from "../../page/numerals.js";
 import { readRing, whyNoRing, withCommas } from "../../page/ring-text.js";
-import { countChannels, edgesOf, leastBytes, readTable } from "../../page/table.js";
+import { countChannels, edgesOf, leastBytes, readPlaces, readTable } from "../../page/table.js";
 import { equalPairs, nameOf, sentenceOf, stepsOf } from "../../page/trace.js";
 import { branchesOf, sourceOf, treesIn, treesOf } from "../../page/trees.js";
 import { readNo } from "../../page/verdict.js";
@@ -114,6 +114,7 @@ test("numbers: an emptied field", () => {
 test("table: windows, channels and edges", () => {
   const table = readTable(TABLE);
   assert.deepEqual(table, { rounds: 0, ids: 3, windows: ["0", "1", "2"], channels: [0, 1, 0] });
+  assert.deepEqual(readPlaces("   0    2    0\n   1    0 4095\n"), { ring: [2, 0], channels: [0, 4095] });
   assert.deepEqual(countChannels(table.channels), [[0, 2], [1, 1]]);
   assert.deepEqual(edgesOf(table), [[0, 1], [0, 2], [1, 0], [1, 2], [2, 0], [2, 1]]);
   const lines = TABLE.split("\n").slice(2, 5);

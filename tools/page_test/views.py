@@ -405,6 +405,28 @@ def table(page):
     page.wait("a table that is too long", "/longer than 8 MB/.test(document.querySelector('#table-refused').textContent)")
 
 
+def pasted_table(page):
+    """A ring has the channels of a table text that is pasted, and each refusal is shown."""
+    page.open(view="table", ids="8", ring="5,1,3,7", example="ldb.txt")
+    page.wait("a table", "document.querySelectorAll('.windows li').length")
+    page.click("#pasted summary")
+    STEPS.equal("without a text there is no ring", page.count("#pasted-stage .node"), 0)
+    found = (ROOT / "examples/least/rounds1_ids25_channels4_near1_far0.table").read_text()
+    for text, ring in ((nbhd(CV1, "table", *IDS), "5,1,3,7"), (found, "5,1,3,7"), (found, "24,3,17,8,11")):
+        lines = [line.split() for line in nbhd(text, "apply", "--ring", ring).splitlines()]
+        page.fill("#pasted-text", text)
+        page.fill("#pasted-ring", ring)
+        said = f"The channels from place 0 on: {' '.join(line[2] for line in lines)}."
+        page.wait(f"the channels of {ring}", f"document.querySelector('#pasted-say').textContent === {json.dumps(said)}")
+        STEPS.equal(f"the nodes of {ring}", page.texts("#pasted-stage .identifier"), [line[1] for line in lines])
+        STEPS.equal(f"their channels on {ring}", page.texts("#pasted-stage .badge-number"), [line[2] for line in lines])
+    refusals = (("#pasted-ring", "5,1,3", "ring fault G1"), ("#pasted-ring", "24,3,x", "x is no identifier"), ("#pasted-ring", "24,3,17,25", "ring fault G3"))
+    for place, value, said in (*refusals, ("#pasted-text", CV1, "table fault A1 at 0")):
+        page.fill(place, value)
+        page.wait(f"{said} of a pasted table", f"document.querySelector('#pasted-refused').textContent.startsWith('{said}')")
+        STEPS.equal(f"{said}: no ring is shown", page.count("#pasted-stage .node"), 0)
+
+
 def long_tables(page):
     """Of a table that is longer than an answer of the server nbhd is not asked."""
     page.open(view="run", ids="8", example="cv1.txt")
@@ -628,4 +650,4 @@ def restart(page, server):
 
 
 VIEWS = [check, faults, typing, long_programs, run, large_rings, strip_of_steps, step_keys, windows_known, equal_channels, drag, edit_ring]
-VIEWS += [typed_rings, judge, judge_distances, table, long_tables, graph, links, step_of_link, exercises, examples]
+VIEWS += [typed_rings, judge, judge_distances, table, pasted_table, long_tables, graph, links, step_of_link, exercises, examples]
