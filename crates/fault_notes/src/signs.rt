@@ -3,8 +3,9 @@
 ghost use Rattle.std.specs.Prelude.{◌≤◌, length};
 
 use crate::around::{Place, ends_in_comment};
-use crate::words::{advice_at_start, is_word_byte};
+use crate::words::is_word_byte;
 use node_lang::{Expected, Token};
+use source_places::by_beginning;
 
 const COMMENT: &str = "; a comment begins with `#`";
 
@@ -375,22 +376,22 @@ pub(crate) fn mark_advice(place: Place) -> &'static str {
         ([0..=31 | 127, ..], _) => "; this byte does not belong in a text",
         ([b'.', b'0'..=b'9', ..], _) => WHOLE,
         (_, Some(advice)) => advice,
-        _ => advice_at_start(&MARKS, place.rest).unwrap_or(""),
+        _ => by_beginning(&MARKS, place.rest).unwrap_or(""),
     }
 }
 
 // Returns the advice on a mark that it has at this place alone.
 fn placed_advice(rest: &[u8], wanted: Expected) -> Option<&'static str> {
     match wanted {
-        Expected::This(Token::Rounds) => advice_at_start(&FIRST, rest),
-        Expected::Number => advice_at_start(&BEFORE_NUMBERS, rest),
-        Expected::Expression => advice_at_start(&BEFORE_EXPRESSIONS, rest),
-        Expected::This(Token::Comma) | Expected::This(Token::Close) => advice_at_start(
+        Expected::This(Token::Rounds) => by_beginning(&FIRST, rest),
+        Expected::Number => by_beginning(&BEFORE_NUMBERS, rest),
+        Expected::Expression => by_beginning(&BEFORE_EXPRESSIONS, rest),
+        Expected::This(Token::Comma) | Expected::This(Token::Close) => by_beginning(
             &BETWEEN_OPERANDS,
             rest,
         ),
-        Expected::This(Token::Open) => advice_at_start(&BEFORE_OPERANDS, rest),
-        Expected::This(Token::Equals) => advice_at_start(&ASSIGNMENTS, rest),
+        Expected::This(Token::Open) => by_beginning(&BEFORE_OPERANDS, rest),
+        Expected::This(Token::Equals) => by_beginning(&ASSIGNMENTS, rest),
         _ => None,
     }
 }
@@ -406,11 +407,11 @@ pub(crate) fn comment_advice(rest: &[u8]) -> &'static str {
 // Returns advice on the byte above 127 with which `rest` begins, after the text `before`.
 pub(crate) fn byte_advice(before: &[u8], rest: &[u8]) -> &'static str {
     let signs = if ends_in_comment(before) {
-        advice_at_start(&QUOTATIONS, rest)
+        by_beginning(&QUOTATIONS, rest)
     } else {
-        advice_at_start(&SIGNS, rest)
+        by_beginning(&SIGNS, rest)
     };
-    match signs.or(advice_at_start(&BYTES, rest)) {
+    match signs.or(by_beginning(&BYTES, rest)) {
         Some(advice) => advice,
         None => letter_advice(rest),
     }

@@ -66,19 +66,6 @@ pub(crate) fn advice_in(table: &[(&[u8], &'static str)], word: &[u8]) -> Option<
     None
 }
 
-// Returns the advice on the first beginning of a text that is in a table of beginnings with advice.
-pub(crate) fn advice_at_start(
-    table: &[(&[u8], &'static str)],
-    text: &[u8],
-) -> Option<&'static str> {
-    for (beginning, advice) in table {
-        if text.starts_with(beginning) {
-            return Some(advice);
-        }
-    }
-    None
-}
-
 // Returns the text for a word or a mark that can follow.
 fn token_text(token: Token) -> &'static str
     ensures { result.now ≡ spelled token }

@@ -3,14 +3,18 @@ use Rattle.std.proofs.Common.{◌≡◌, ℕ, ◌+◌, ◌-◌, ◌<◌, List, [
 use Rattle.std.proofs.Math.Seq.{take-suc}
 use Rattle.std.proofs.lemmas.Grind.{flat_map-append}
 use Rattle.std.proofs.lemmas.List.{take_rest, replicate-append-replicate}
-use Rattle.std.specs.List.{prefix_len, suffix_len}
-use Rattle.source_places.specs.Places.{in_line, line_before, line_from}
+use Rattle.std.specs.List.{before_first, prefix_len, suffix_len}
+use Rattle.source_places.specs.Places.{in_line, is_feed, line_before, line_from}
 use Rattle.source_places.specs.Shown.{shown_byte, shown}
 
 -- the end of the prefix of a text
 pub before_is : (text : List ℕ) (offset n : ℕ) → n ≡ suffix_len in_line (take offset text) →
     take (length (take offset text) - (length (take offset text) - n)) (drop (length (take offset text) - n) (take offset text)) ≡ line_before text offset
 before_is text offset n e = take_rest (take offset text) (length (take offset text) - n) ∙ ap (λ k. drop (length (take offset text) - k) (take offset text)) e
+
+-- the first line of a text
+pub first_is : (text : List ℕ) (n : ℕ) → n ≡ prefix_len in_line text → take n text ≡ before_first is_feed text
+first_is text n e = ap (λ k. take k text) e
 
 -- the start of the rest of a text
 pub from_is : (text : List ℕ) (offset n : ℕ) → n ≡ prefix_len in_line (take (length text - offset) (drop offset text)) →

@@ -1,9 +1,11 @@
-//! What a text is that is given in place of another one, told from its first line.
+//! What a text is that is given in place of another one, and what takes it.
 
-ghost use Rattle.std.specs.Prelude.{◌≤◌, length};
+ghost use Rattle.std.specs.Prelude.{◌≡◌, IfSome, IfNone};
+ghost use Rattle.source_places.specs.KindAdvice.{advice_of, IsAdviceOn, IsOfKind};
+ghost use Rattle.source_places.specs.Kinds as texts;
 
-use crate::files::file_advice;
-use crate::places::{after_line, first_line_len};
+use crate::files::file_kind;
+use crate::first_lines::kind_by_line;
 
 /// A kind of text that `nbhd` or a solver reads or writes.
 #[derive(Clone, Copy, Debug, PartialEq, Eq)]
@@ -30,174 +32,50 @@ pub enum TextKind {
     Command,
     /// The name of a file.
     FileName,
-}
-
-// The most lines of comments and blanks that are skipped at the start of a text.
-const SKIPPED_LINES: usize = 1000;
-
-// The longest name of a file.
-const LONGEST_NAME: usize = 255;
-
-// How the first line of a text begins that is no comment.
-const BEGINNINGS: [(&[u8], TextKind); 24] = [
-    (b"nbhd-table", TextKind::Table),
-    (b"p cnf", TextKind::Formula),
-    (b"s SATISFIABLE", TextKind::Model),
-    (b"SAT\n", TextKind::Model),
-    (b"v ", TextKind::Model),
-    (b"s UNSATISFIABLE", TextKind::NoModel),
-    (b"UNSAT\n", TextKind::NoModel),
-    (b"accepted ids ", TextKind::Report),
-    (b"yes: ", TextKind::Report),
-    (b"no: ring ", TextKind::Report),
-    (b"text fault ", TextKind::Report),
-    (b"check fault ", TextKind::Report),
-    (b"ring fault ", TextKind::Report),
-    (b"segments fault ", TextKind::Report),
-    (b"table fault ", TextKind::Report),
-    (b"formula fault ", TextKind::Report),
-    (b"refutation fault ", TextKind::Report),
-    (b"refuted: ", TextKind::Report),
-    (b"nbhd: ", TextKind::Report),
-    (b"digraph ", TextKind::Graph),
-    (b"./nbhd ", TextKind::Command),
-    (b"$ nbhd ", TextKind::Command),
-    (b"$ ./nbhd ", TextKind::Command),
-    (b"crates/nbhd/out/nbhd ", TextKind::Command),
-];
-
-// How names of files end.
-const ENDINGS: [&[u8]; 6] = [b".txt", b".table", b".cnf", b".lrat", b".drat", b".nbhd"];
-
-// Returns the first line of a text.
-fn first_line(text: &[u8]) -> &[u8] {
-    &text[..first_line_len(text)]
-}
-
-// Returns the number of blanks and line feeds at the start of a text.
-fn blanks_len(text: &[u8]) -> usize
-    ensures { result ≤ length text.now }
-{
-    text.iter()
-        .take_while(|byte| matches!(**byte, b' ' | b'\t' | b'\r' | b'\n'))
-        .count()
-}
-
-// Returns the text after the blanks at its start.
-fn after_blanks(text: &[u8]) -> &[u8] {
-    &text[blanks_len(text)..]
-}
-
-// Returns whether a line is a comment of a program or of a solver's file.
-fn is_comment(line: &[u8]) -> bool {
-    match line {
-        [b'#', ..] | [b'c'] => true,
-        _ => line.starts_with(b"c "),
-    }
-}
-
-// Returns the text after the comments and blanks at its start.
-fn after_comments(text: &[u8]) -> &[u8] {
-    let mut rest = after_blanks(text);
-    for _ in 0..SKIPPED_LINES {
-        if !is_comment(first_line(rest)) {
-            return rest;
-        }
-        rest = after_blanks(after_line(rest));
-    }
-    rest
-}
-
-// Returns the kind of a text by the beginning of its first line that is no comment.
-fn kind_by_beginning(text: &[u8]) -> Option<TextKind> {
-    for (beginning, kind) in &BEGINNINGS {
-        if text.starts_with(beginning) {
-            return Some(*kind);
-        }
-    }
-    None
-}
-
-// Returns whether a line is the first one of a program: the number of rounds, and not the second one
-// of a table, which goes on with the number of identifiers.
-fn begins_program(line: &[u8]) -> bool {
-    match line.strip_prefix(b"rounds ") {
-        Some([b'0'..=b'9', rest @ ..]) => !rest.starts_with(b" ids "),
-        _ => line == b"rounds".as_slice(),
-    }
-}
-
-// Returns whether a line is a call of the program with an option.
-fn is_call(line: &[u8]) -> bool {
-    let has_option = (1..line.len()).any(|index| line[index - 1] == b'-' && line[index] == b'-');
-    has_option && line.starts_with(b"nbhd ")
-}
-
-// Returns the number of words `0` in a line.
-fn zeros_in(line: &[u8]) -> usize {
-    let mut count = 0usize;
-    let mut last = b' ';
-    for index in 0..line.len() {
-        let is_last = index + 1 == line.len() || line[index + 1] == b' ';
-        if line[index] == b'0' && last == b' ' && is_last {
-            count = count.saturating_add(1);
-        }
-        last = line[index];
-    }
-    count
-}
-
-// Returns whether a line has only numbers, minus signs, and the words of a step or a deletion.
-fn is_of_numbers(line: &[u8]) -> bool {
-    line.iter().all(|byte| matches!(*byte, b'0'..=b'9' | b' ' | b'-' | b'd' | b'c' | b'i' | b'm'))
-}
-
-/// Returns what a line of numbers looks like that ends a list with 0: a step or a deletion of a
-/// refutation, which begin with a number, or a clause or a deletion of a proof without hints.
-pub fn line_kind(line: &[u8]) -> Option<TextKind> {
-    let line = line.strip_suffix(b"\r").unwrap_or(line);
-    if !is_of_numbers(line) || !(line.ends_with(b" 0") || line == b"0".as_slice()) {
-        return None;
-    }
-    let is_signed = line.contains(&b'-') || line.contains(&b'd');
-    match (line, zeros_in(line)) {
-        ([b'd', b' ', ..], 1) => Some(TextKind::Proof),
-        ([b'1'..=b'9', ..], 1) if line.contains(&b'd') => Some(TextKind::Refutation),
-        (_, 1) if is_signed => Some(TextKind::Proof),
-        ([b'1'..=b'9', ..], 2..) => Some(TextKind::Refutation),
-        _ => None,
-    }
-}
-
-// Returns whether a whole text is one word that looks like the name of a file.
-fn is_file_name(text: &[u8]) -> bool {
-    let line = first_line(text);
-    let word = line.strip_suffix(b"\r").unwrap_or(line);
-    let is_word = word.iter().all(|byte| matches!(*byte, b'!'..=b'~'));
-    is_word
-        && word.len() <= LONGEST_NAME
-        && text.len() <= line.len().saturating_add(1)
-        && ENDINGS.iter().any(|ending| word.ends_with(ending))
+    /// A file packed by gzip.
+    Gzip,
+    /// A file packed by xz.
+    Xz,
+    /// A file packed by zip, as documents of office programs are.
+    Zip,
+    /// A file packed by zstd.
+    Zstandard,
+    /// A file packed by bzip2.
+    Bzip2,
+    /// A document in PDF.
+    Pdf,
+    /// A text of a word processor.
+    RichText,
+    /// A picture in PNG, JPEG or GIF.
+    Picture,
+    /// A program for the machine.
+    Executable,
+    /// A text in UTF-16.
+    Utf16,
+    /// A text behind a byte order mark.
+    ByteOrderMark,
+    /// A file of a database.
+    Database,
+    /// A picture in SVG.
+    Svg,
+    /// A text in XML.
+    Xml,
+    /// A page in HTML.
+    Page,
 }
 
 // Returns what a text looks like.
-fn kind_of(text: &[u8]) -> Option<TextKind> {
-    let rest = after_comments(text);
-    let line = first_line(rest);
-    if begins_program(line) {
-        return Some(TextKind::Program);
-    }
-    if is_file_name(text) {
-        return Some(TextKind::FileName);
-    }
-    if is_call(line) {
-        return Some(TextKind::Command);
-    }
-    kind_by_beginning(rest).or(line_kind(line))
+#[tactic(auto, unfolding(crate::specs::Kinds::text_kind))]
+fn text_kind(text: &[u8]) -> Option<TextKind>
+    ensures { result ≡ texts.text_kind text.now }
+{
+    file_kind(text).or(kind_by_line(text))
 }
 
 // Returns the advice on a text of a kind that none of the readers takes.
-fn advice_on(kind: TextKind) -> &'static str {
+fn advice_on(kind: TextKind) -> &'static str
+    ensures { result.now ≡ advice_of kind }
+{
     match kind {
         TextKind::Program => "; this looks like a program: `nbhd judge` takes one",
         TextKind::Table => "; the text of a table is for `nbhd audit`, `nbhd apply` and `nbhd migrate`",
@@ -216,17 +94,32 @@ fn advice_on(kind: TextKind) -> &'static str {
         TextKind::Graph => "; this is a graph for Graphviz",
         TextKind::Command => "; this is a command of the shell, not a text",
         TextKind::FileName => "; this looks like the name of a file: `< FILE` gives its text",
+        TextKind::Gzip => "; the file is packed: `gunzip` unpacks it",
+        TextKind::Xz => "; the file is packed: `unxz` unpacks it",
+        TextKind::Zip =>
+            "; the file is packed, as a document of an office program is: `unzip` unpacks it",
+        TextKind::Zstandard => "; the file is packed: `unzstd` unpacks it",
+        TextKind::Bzip2 => "; the file is packed: `bunzip2` unpacks it",
+        TextKind::Pdf => "; this is a PDF: save its text alone",
+        TextKind::RichText => "; this is a text of a word processor: save it as plain text",
+        TextKind::Picture => "; this is a picture, not a text",
+        TextKind::Executable => "; this is a program for the machine, not a text",
+        TextKind::Utf16 => "; the file is UTF-16: save it as ASCII",
+        TextKind::ByteOrderMark => "; this is a byte order mark: save the file without one",
+        TextKind::Database => "; this is a file of a database, not a text",
+        TextKind::Svg => "; this is a picture in SVG, not a text",
+        TextKind::Xml => "; this is XML, as of a picture in SVG, not a text",
+        TextKind::Page => "; this is a page in HTML: save the text alone",
     }
 }
 
 /// Returns advice on a text that was refused where a text of the kind `reads` is read: what it is
 /// instead, and what takes it. Returns `None` if nothing is known, or if it is of this kind.
-pub fn kind_advice(text: &[u8], reads: TextKind) -> Option<&'static str> {
-    let advice = file_advice(text, after_blanks(text));
-    if advice.is_some() {
-        return advice;
-    }
-    let kind = kind_of(text)?;
+pub fn kind_advice(text: &[u8], reads: TextKind) -> Option<&'static str>
+    ensures some { IfSome result (λ advice. IsAdviceOn text.now reads advice.now) }
+    ensures none { IfNone result (IsOfKind text.now reads) }
+{
+    let kind = text_kind(text)?;
     if kind == reads {
         return None;
     }

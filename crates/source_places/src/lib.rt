@@ -2,15 +2,20 @@
 //! a mark below it), lists of numbers, and advice on a text that is given in place of another one.
 #![tactic(auto)]
 
+mod beginnings;
 mod files;
+mod first_lines;
 mod heads;
 mod kinds;
 mod lists;
+mod parts;
 mod places;
 mod shown;
 
+pub use beginnings::by_beginning;
+pub use first_lines::line_kind;
 pub use heads::write_place_head;
-pub use kinds::{TextKind, kind_advice, line_kind};
+pub use kinds::{TextKind, kind_advice};
 pub use lists::write_joined;
 pub use places::{after_line, column_of, first_line_len, from_line, line_of};
 pub use shown::{SHOWN_BYTES, first_of, write_escaped, write_marked_line, write_shown};

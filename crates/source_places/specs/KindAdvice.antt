@@ -1,0 +1,45 @@
+-- The advice on a text that is given in place of another one.
+use Rattle.std.specs.Prelude.{◌≡◌, ℕ, List, Some, codes, IfSome}
+use Rattle.source_places.specs.declared.kinds.TextKind.{TextKind}
+use Rattle.source_places.specs.declared.kinds.TextKind.TheVariants as kind
+use Rattle.source_places.specs.Kinds.{text_kind}
+
+-- what a text of a kind is, and what takes it
+abbrev pub advice_of : TextKind → List ℕ
+advice_of kind.Program = codes "; this looks like a program: `nbhd judge` takes one"
+advice_of kind.Table = codes "; the text of a table is for `nbhd audit` and `nbhd migrate`"
+advice_of kind.Formula = codes "; this is a formula for a solver, as in `cadical --no-binary FORMULA PROOF`"
+advice_of kind.Refutation = codes "; this looks like a refutation: `nbhd refute` takes one"
+advice_of kind.Proof = codes "; this looks like a proof in DRAT: `tools/lrat` adds the hints that it lacks, for `nbhd refute`"
+advice_of kind.Model = codes "; this is a solver's answer: `tools/model` makes the table of its model"
+advice_of kind.NoModel = codes "; this is a solver's answer: its proof is a file of its own, as in `cadical --no-binary FORMULA PROOF`"
+advice_of kind.Report = codes "; this is output of `nbhd`, not a text that it reads"
+advice_of kind.Graph = codes "; this is a graph for Graphviz"
+advice_of kind.Command = codes "; this is a command of the shell, not a text"
+advice_of kind.FileName = codes "; this looks like the name of a file: `< FILE` gives its text"
+advice_of kind.Gzip = codes "; the file is packed: `gunzip` unpacks it"
+advice_of kind.Xz = codes "; the file is packed: `unxz` unpacks it"
+advice_of kind.Zip = codes "; the file is packed, as a document of an office program is: `unzip` unpacks it"
+advice_of kind.Zstandard = codes "; the file is packed: `unzstd` unpacks it"
+advice_of kind.Bzip2 = codes "; the file is packed: `bunzip2` unpacks it"
+advice_of kind.Pdf = codes "; this is a PDF: save its text alone"
+advice_of kind.RichText = codes "; this is a text of a word processor: save it as plain text"
+advice_of kind.Picture = codes "; this is a picture, not a text"
+advice_of kind.Executable = codes "; this is a program for the machine, not a text"
+advice_of kind.Utf16 = codes "; the file is UTF-16: save it as ASCII"
+advice_of kind.ByteOrderMark = codes "; this is a byte order mark: save the file without one"
+advice_of kind.Database = codes "; this is a file of a database, not a text"
+advice_of kind.Svg = codes "; this is a picture in SVG, not a text"
+advice_of kind.Xml = codes "; this is XML, as of a picture in SVG, not a text"
+advice_of kind.Page = codes "; this is a page in HTML: save the text alone"
+
+-- The text looks like one of another kind, and this is the advice on that kind.
+pub record IsAdviceOn (text : List ℕ) (reads : TextKind) (advice : List ℕ) : Type 0 where
+  pub kind : TextKind
+  pub looks : text_kind text ≡ Some kind
+  pub other : kind ≡ reads → ⊥
+  pub says : advice ≡ advice_of kind
+
+-- The text looks like one of the kind that is read, or like none that is known.
+abbrev pub IsOfKind : List ℕ → TextKind → Type 0
+IsOfKind text reads = IfSome (text_kind text) (λ kind. kind ≡ reads)
