@@ -29,7 +29,7 @@ const RECEIVED: &str =
 
 // Words of other languages for operations, and those between operands, each with what stands for
 // it.
-const OPERATIONS: [(&[u8], &str); 38] = [
+const OPERATIONS: [(&[u8], &str); 37] = [
     (
         b"mul times mult multiply product",
         "; there is no product: twice x is `shl(x, 1)`",
@@ -83,10 +83,6 @@ const OPERATIONS: [(&[u8], &str); 38] = [
         "; the least index of a bit that is 1 in x is `ldb(x, 0)`",
     ),
     (
-        b"len popcount log log2 msb clz",
-        "; write it by `shr(x, 1)` and `and(x, 1)`, a round or a register at a time",
-    ),
-    (
         b"while for do repeat until",
         "; there are no loops: `rounds` says how often nodes exchange messages",
     ),
@@ -99,6 +95,12 @@ const OPERATIONS: [(&[u8], &str); 38] = [
     (b"receive received receives recv", RECEIVED),
     (b"REM dnl", "; a comment begins with `#`"),
 ];
+
+// Words of other languages that are operations with a bracket, and otherwise names.
+const FUNCTIONS: [(&[u8], &str); 1] = [(
+    b"len popcount log log2 msb clz",
+    "; write it by `shr(x, 1)` and `and(x, 1)`, a round or a register at a time",
+)];
 
 // Words where an expression is expected.
 const EXPRESSIONS: [(&[u8], &str); 5] = [
@@ -177,6 +179,9 @@ fn letters_advice(place: Place) -> &'static str {
     if is_joined(place) {
         return "; a blank is missing in it";
     }
+    if let Some(advice) = side_in_expression(place) {
+        return advice;
+    }
     if let Some(advice) = capital_advice(place.word) {
         return advice;
     }
@@ -192,6 +197,20 @@ fn letters_advice(place: Place) -> &'static str {
         Expected::Expression => expression_advice(place),
         _ => line_advice(place),
     }
+}
+
+// Returns advice on `left` or `right` in capitals where an expression can follow.
+fn side_in_expression(place: Place) -> Option<&'static str> {
+    if place.wanted != Expected::Expression {
+        return None;
+    }
+    if place.word.eq_ignore_ascii_case(b"left") {
+        return Some("; the message from the left is `L`");
+    }
+    if place.word.eq_ignore_ascii_case(b"right") {
+        return Some("; the message from the right is `R`");
+    }
+    None
 }
 
 // Returns advice on a word of the language that is written with a capital.
@@ -226,9 +245,9 @@ fn expression_advice(place: Place) -> &'static str {
     let known = advice_in(&EXPRESSIONS, place.word).or(advice_in(&OPERATIONS, place.word));
     match (known, place.next) {
         (Some(advice), _) => advice,
-        (None, b"(") => {
-            "; there is no operation of this name: they are `not`, `and`, `or`, `xor`, `shl`, `shr`, `add`, `sub`, `min`, `max`, `ldb`, `bit`, `eq`, `ne`, `lt`, `le` and `if`"
-        }
+        (None, b"(") => advice_in(&FUNCTIONS, place.word).unwrap_or(
+            "; there is no operation of this name: they are `not`, `and`, `or`, `xor`, `shl`, `shr`, `add`, `sub`, `min`, `max`, `ldb`, `bit`, `eq`, `ne`, `lt`, `le` and `if`",
+        ),
         _ => bracket_advice(place.word).unwrap_or(spelling_advice(place.word)),
     }
 }
@@ -256,6 +275,16 @@ fn between_advice(place: Place) -> &'static str {
         Expected::This(Token::Comma) => "; operands are separated by commas",
         Expected::This(Token::Close) => OPEN,
         _ => missing_word(place.wanted),
+    }
+}
+
+// Returns advice on a number that is too large, by the word before it.
+pub(crate) fn large_advice(place: Place) -> &'static str {
+    match place.last {
+        b"rounds" => "; `rounds` is 0 to 4",
+        b"channels" => "; `channels` is 1 to 4096",
+        b"registers" => "; `registers` is 1 to 8",
+        _ => "",
     }
 }
 

@@ -154,6 +154,23 @@ fn last_line(text: &[u8]) -> &[u8] {
     &text[text.len() - last_line_len(text)..]
 }
 
+// Returns whether only blanks stand between a place and the start of its line.
+pub(crate) fn begins_line(place: Place) -> bool {
+    last_line(place.before)
+        .iter()
+        .all(|byte| matches!(*byte, b' ' | b'\t' | b'\r'))
+}
+
+// Returns whether an expression can end with this token.
+pub(crate) fn is_end(word: &[u8]) -> bool {
+    is_operand(word) || matches!(word, b")")
+}
+
+// Returns whether an expression ends before a place on the same line.
+pub(crate) fn follows_expression(place: Place) -> bool {
+    is_end(place.last) && !begins_line(place)
+}
+
 // Returns whether a text ends in a comment.
 pub(crate) fn ends_in_comment(text: &[u8]) -> bool {
     last_line(text).contains(&b'#')

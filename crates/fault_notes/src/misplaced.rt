@@ -4,7 +4,8 @@
 
 use crate::advice::{BRACKETED, OPEN, missing_word};
 use crate::around::{
-    Place, has_comma, has_operands, is_operand, is_repeated, open_operation, registers_in,
+    Place, follows_expression, has_comma, has_operands, is_end, is_operand, is_repeated,
+    open_operation, registers_in,
 };
 use crate::operands::{is_operation, operands_advice};
 use crate::signs::comment_advice;
@@ -56,17 +57,29 @@ fn is_doubled(place: Place) -> bool {
     place.last == place.word && is_followed
 }
 
-// Returns advice on a `=`. After an operand it is meant to compare.
+// Returns advice on a `=` after an operand, where it is meant to compare.
+fn compared_advice(rest: &[u8]) -> &'static str {
+    if rest.starts_with(b"=<") {
+        return "; write `le(a, b)` for a <= b";
+    }
+    if rest.starts_with(b"=>") {
+        return "; write `le(b, a)` for a >= b";
+    }
+    "; write `eq(a, b)` to compare"
+}
+
+// Returns advice on a `=`.
 fn equals_advice(place: Place) -> &'static str {
+    let is_doubled = place.rest.starts_with(b"==");
     match place.wanted {
-        Expected::This(Token::Comma) | Expected::This(Token::Close) =>
-            "; write `eq(a, b)` to compare",
-        Expected::End => "; write `eq(a, b)` to compare",
+        Expected::This(Token::Comma) | Expected::This(Token::Close) | Expected::End => {
+            compared_advice(place.rest)
+        }
         Expected::Expression if matches!(place.last, b"=") =>
             "; an assignment is written with one `=`",
+        _ if is_doubled && is_end(place.last) => compared_advice(place.rest),
         Expected::This(Token::Round) | Expected::This(Token::Finish)
             if matches!(place.last, [b'r', _]) => "; each assignment has one register",
-        _ if place.rest.starts_with(b"==") && is_end(place.last) => "; write `eq(a, b)` to compare",
         _ => "; `=` is only written after the register of an assignment",
     }
 }
@@ -104,11 +117,6 @@ fn comma_advice(before: &[u8]) -> &'static str {
     operands_advice(before)
 }
 
-// Returns whether an expression can end with this token.
-fn is_end(word: &[u8]) -> bool {
-    is_operand(word) || matches!(word, b")")
-}
-
 // Returns whether the operation of a place stands between its operands: an expression ends before
 // it, and another one, not in brackets with a comma, follows it.
 fn is_infix(place: Place) -> bool {
@@ -118,6 +126,18 @@ fn is_infix(place: Place) -> bool {
         && has_operand
         && !has_operands(place)
         && !matches!(place.word, b"not" | b"if")
+}
+
+// Returns whether a place follows the expression of an assignment or of a message on its line.
+fn ends_line_of(place: Place) -> bool {
+    let is_ended = matches!(
+        place.wanted,
+        Expected::This(Token::Register(_))
+            | Expected::This(Token::Round)
+            | Expected::This(Token::Send)
+            | Expected::This(Token::Finish)
+    );
+    is_ended && follows_expression(place)
 }
 
 // Returns advice on the name of an operation. With a bracket it begins an expression, and after an
@@ -130,6 +150,9 @@ fn operation_advice(place: Place) -> &'static str {
         | Expected::This(Token::Registers)
         | Expected::This(Token::Start) => wanted_advice(place.wanted),
         _ if is_infix(place) => INFIX,
+        _ if matches!(place.word, b"if") && ends_line_of(place) => {
+            "; an operation is written before its operands, as in `if(c, a, b)`"
+        }
         Expected::This(Token::Comma) if has_bracket => COMMA,
         Expected::This(Token::Register(_)) if has_bracket =>
             "; an expression is assigned to a register, as in `r0 = if(c, a, b)`",
@@ -162,6 +185,11 @@ fn operand_advice(place: Place) -> &'static str {
     }
 }
 
+// Returns whether a place has a second expression on the line of an assignment or of a message.
+fn is_second_operand(place: Place) -> bool {
+    is_operand(place.word) && !matches!(place.next, b"=") && ends_line_of(place)
+}
+
 // Returns whether the first lines of a program have numbers.
 fn has_numbers(place: Place) -> bool {
     let is_number = matches!(place.word, [b'0'..=b'9', ..]);
@@ -180,6 +208,9 @@ fn known_advice(place: Place) -> &'static str {
             operands_advice(place.before)
         }
         Expected::This(Token::Close) => OPEN,
+        _ if is_second_operand(place) => {
+            "; one expression is written here: an operation is written before its operands, as in `add(a, b)`"
+        }
         Expected::This(Token::Rounds) if has_numbers(place) =>
             "; leave out the numbers of the lines",
         Expected::This(Token::Round) => round_advice(place),
@@ -196,8 +227,9 @@ fn known_advice(place: Place) -> &'static str {
 // Returns advice on a word inside an expression.
 fn in_expression_advice(place: Place) -> &'static str {
     match (place.word, place.next) {
-        (b"left", b")" | b"," | b"send" | b"finish") => "; the message from the left is `L`",
-        (b"right", b")" | b"," | b"send" | b"finish") => "; the message from the right is `R`",
+        (b"left", b")" | b"," | b"." | b"send" | b"finish") => "; the message from the left is `L`",
+        (b"right", b")" | b"," | b"." | b"send" | b"finish") =>
+            "; the message from the right is `R`",
         _ => wanted_advice(place.wanted),
     }
 }

@@ -2,7 +2,7 @@
 
 ghost use Rattle.std.specs.Prelude.{◌≤◌, length};
 
-use crate::around::{Place, ends_in_comment};
+use crate::around::{Place, ends_in_comment, follows_expression};
 use crate::words::is_word_byte;
 use node_lang::{Expected, Token};
 use source_places::by_beginning;
@@ -40,6 +40,32 @@ const QUOTED: &str = "; leave out the quotation marks around the program";
 const LINK: &str =
     "; this is a part of a link, in which `%0A` stands for a line feed and `%20` for a blank";
 
+const SHELL: &str = "; this is a command of the shell: leave it out";
+
+const TEX: &str = "; leave out the commands of TeX";
+
+const NO_MARK_BEFORE: &str = "; an expression has no mark before it";
+
+const NO_REGISTER_MARK: &str = "; registers are `r0` to `r7`, without a mark before them";
+
+const DECREMENT: &str = "; write `sub(a, 1)`, which stops at 0";
+
+const HALF: &str = "; a comment begins with `#`, and half of x is `shr(x, 1)`";
+
+const ONE_NUMBER: &str = "; write one number in digits";
+
+const EXAMPLE: &str = "; where dots stand in an example, an expression is written";
+
+const UNEQUAL: &str = "; write `ne(a, b)`, or `eq(x, 0)` where x is to be 0";
+
+const LESS: &str = "; write `lt(a, b)` for a < b";
+
+const GREATER: &str = "; write `lt(b, a)` for a > b";
+
+const AT_MOST: &str = "; write `le(a, b)` for a <= b";
+
+const AT_LEAST: &str = "; write `le(b, a)` for a >= b";
+
 const ENTITY: &str =
     "; this is a character in HTML, as `&gt;` or `&nbsp;`: write the character itself";
 
@@ -66,7 +92,10 @@ const OTHER_ALPHABET: &str =
     "; this is a letter of another alphabet, which may look like a plain one";
 
 // Marks at the start of a text.
-const FIRST: [(&[u8], &str); 21] = [
+const FIRST: [(&[u8], &str); 24] = [
+    (b"\\begin", TEX),
+    (b"\\document", TEX),
+    (b"* rounds", MARKDOWN),
     (b"- ", MARKDOWN),
     (b"| ", MARKDOWN),
     (b"|", MARKDOWN),
@@ -74,7 +103,7 @@ const FIRST: [(&[u8], &str); 21] = [
     (b"---", PATCH),
     (b"+", PATCH),
     (b"@@", PATCH),
-    (b"$", PROMPT),
+    (b"$", SHELL),
     (b">", PROMPT),
     (b"`", MARKDOWN),
     (b"~~~", MARKDOWN),
@@ -100,19 +129,57 @@ const BEFORE_NUMBERS: [(&[u8], &str); 5] = [
 ];
 
 // Marks where an expression is wanted.
-const BEFORE_EXPRESSIONS: [(&[u8], &str); 9] = [
+const BEFORE_EXPRESSIONS: [(&[u8], &str); 22] = [
+    (b"..", EXAMPLE),
     (
-        b"..",
-        "; where `..` stands in an example, an expression is written",
+        b"?",
+        "; where `?` stands in an example, an expression is written",
     ),
+    (b"-- ", COMMENT),
+    (b"--", DECREMENT),
+    (b"->", NO_MARK_BEFORE),
+    (b"<-", NO_MARK_BEFORE),
+    (b"<=", NO_MARK_BEFORE),
+    (b"%r", NO_REGISTER_MARK),
+    (b"$r", NO_REGISTER_MARK),
+    (b"@r", NO_REGISTER_MARK),
+    (b"%", NO_MARK_BEFORE),
+    (b"/*", COMMENT),
+    (b"**", NO_MARK_BEFORE),
+    (b"*", NO_MARK_BEFORE),
     (b"|", "; |a - b| is `sub(max(a, b), min(a, b))`"),
     (b"&", ""),
     (b"^", ""),
     (b"+", SIGN),
     (b".", WHOLE),
-    (b":", "; an expression has no mark before it"),
+    (b":", NO_MARK_BEFORE),
     (b"[", UNBRACKETED),
     (b"{", UNBRACKETED),
+];
+
+// Marks after a number of the header.
+const AFTER_NUMBERS: [(&[u8], &str); 10] = [
+    (b"//", COMMENT),
+    (b"/*", COMMENT),
+    (b"--", COMMENT),
+    (b"**", ONE_NUMBER),
+    (b"<<", ONE_NUMBER),
+    (b"^", ONE_NUMBER),
+    (b"+", ONE_NUMBER),
+    (b"*", ONE_NUMBER),
+    (b"/", ONE_NUMBER),
+    (b"-", ONE_NUMBER),
+];
+
+// Characters in HTML for the marks of operations.
+const ENTITIES: [(&[u8], &str); 7] = [
+    (b"&lt;=", AT_MOST),
+    (b"&gt;=", AT_LEAST),
+    (b"&lt;", LESS),
+    (b"&gt;", GREATER),
+    (b"&le;", AT_MOST),
+    (b"&ge;", AT_LEAST),
+    (b"&amp;", "; write `and(a, b)`"),
 ];
 
 // Marks where a comma or a closing bracket is wanted.
@@ -137,7 +204,7 @@ const ASSIGNMENTS: [(&[u8], &str); 7] = [
 ];
 
 // Marks at the other places.
-const MARKS: [(&[u8], &str); 39] = [
+const MARKS: [(&[u8], &str); 40] = [
     (b"//", COMMENT),
     (b"/*", COMMENT),
     (b"--", COMMENT),
@@ -149,20 +216,18 @@ const MARKS: [(&[u8], &str); 39] = [
     (b"**", "; there is no power: that of 2 is `shl(1, k)`"),
     (b"<<", "; write `shl(a, k)`"),
     (b">>", "; write `shr(a, k)`"),
-    (b"<=", "; write `le(a, b)` for a <= b"),
-    (b">=", "; write `le(b, a)` for a >= b"),
-    (b"<", "; write `lt(a, b)` for a < b"),
-    (b">", "; write `lt(b, a)` for a > b"),
+    (b"<=", AT_MOST),
+    (b">=", AT_LEAST),
+    (b"<>", UNEQUAL),
+    (b"<", LESS),
+    (b">", GREATER),
     (b"*", PRODUCT),
     (
         b"%",
         "; a comment begins with `#`, and there is no remainder: that of 2 is `and(x, 1)`",
     ),
-    (
-        b"/",
-        "; a comment begins with `#`, and half of x is `shr(x, 1)`",
-    ),
-    (b"!", "; write `ne(a, b)`, or `eq(x, 0)` where x is to be 0"),
+    (b"/", HALF),
+    (b"!", UNEQUAL),
     (b"+", "; write `add(a, b)`"),
     (
         b"-",
@@ -252,7 +317,8 @@ const BYTES: [(&[u8], &str); 38] = [
 ];
 
 // Bytes above 127 at the start of a text outside of comments.
-const SIGNS: [(&[u8], &str); 18] = [
+const SIGNS: [(&[u8], &str); 19] = [
+    (&[0xe2, 0x80, 0xa6], EXAMPLE),
     (&[0xe2, 0x80, 0x98], NO_QUOTATION),
     (&[0xe2, 0x80, 0x99], NO_QUOTATION),
     (&[0xe2, 0x80, 0x9c], NO_QUOTATION),
@@ -342,6 +408,55 @@ fn is_quoted(text: &[u8]) -> bool {
     }
 }
 
+// Returns advice on a character in HTML.
+fn entity_advice(place: Place) -> &'static str {
+    match place.wanted {
+        Expected::This(Token::Rounds) => ENTITY,
+        _ => by_beginning(&ENTITIES, place.rest).unwrap_or(ENTITY),
+    }
+}
+
+// Returns the number of blanks at the start.
+fn blanks_len(text: &[u8]) -> usize
+    ensures { result ≤ length text.now }
+{
+    text.iter().take_while(|byte| **byte == b' ').count()
+}
+
+// Returns the text after the blanks at its start.
+fn after_blanks(text: &[u8]) -> &[u8] {
+    &text[blanks_len(text)..]
+}
+
+// Returns advice on two marks after an expression, where they are no comment.
+fn doubled_advice(place: Place) -> Option<&'static str> {
+    if !follows_expression(place) {
+        return None;
+    }
+    match place.rest {
+        [b'-', b'-'] | [b'-', b'-', b'\n' | b'\r' | b')' | b',', ..] => Some(DECREMENT),
+        [b'/', b'/', rest @ ..] => match after_blanks(rest) {
+            [b'0'..=b'9' | b'L' | b'R' | b'(', ..] | [b'r', b'0'..=b'9', ..] => Some(HALF),
+            _ => None,
+        },
+        _ => None,
+    }
+}
+
+// Returns advice on a prompt at the start of a text, if a program follows it.
+fn prompt_advice(place: Place) -> Option<&'static str> {
+    let [b'$' | b'>', rest @ ..] = place.rest else {
+        return None;
+    };
+    let rest = after_blanks(rest);
+    if place.wanted == Expected::This(Token::Rounds)
+        && (rest.starts_with(b"rounds") || rest.starts_with(b"#"))
+    {
+        return Some(PROMPT);
+    }
+    None
+}
+
 // Returns the advice on a mark that is of a link, of HTML, or a quotation mark around the program.
 fn copied_advice(place: Place) -> Option<&'static str> {
     if is_linked(place) {
@@ -353,7 +468,7 @@ fn copied_advice(place: Place) -> Option<&'static str> {
         );
     }
     if is_entity(place.rest) {
-        return Some(ENTITY);
+        return Some(entity_advice(place));
     }
     if TAGS.iter().any(|tag| place.rest.starts_with(tag)) {
         return Some(TAG);
@@ -365,8 +480,16 @@ fn copied_advice(place: Place) -> Option<&'static str> {
         ),
         (_, [b'\\', b'n' | b'r' | b't', ..]) => Some(NO_FEED),
         (_, [b'.'] | [b'.', b'\n' | b'\r' | b' ', ..]) => Some(NO_MARK),
-        _ => None,
+        (_, [b'\'', b'b' | b'd' | b'h' | b'o', ..]) if is_number(place.last) => Some(
+            "; numbers are decimal",
+        ),
+        _ => doubled_advice(place).or(prompt_advice(place)),
     }
+}
+
+// Returns whether a token is a number.
+fn is_number(token: &[u8]) -> bool {
+    matches!(token, [b'0'..=b'9', ..])
 }
 
 // Returns advice on the mark of a place that is not of the language.
@@ -392,6 +515,9 @@ fn placed_advice(rest: &[u8], wanted: Expected) -> Option<&'static str> {
         ),
         Expected::This(Token::Open) => by_beginning(&BEFORE_OPERANDS, rest),
         Expected::This(Token::Equals) => by_beginning(&ASSIGNMENTS, rest),
+        Expected::This(Token::Channels)
+        | Expected::This(Token::Registers)
+        | Expected::This(Token::Start) => by_beginning(&AFTER_NUMBERS, rest),
         _ => None,
     }
 }
