@@ -97,13 +97,24 @@ const OPERATIONS: [(&[u8], &str); 37] = [
 ];
 
 // Words of other languages that are operations with a bracket, and otherwise names.
-const FUNCTIONS: [(&[u8], &str); 1] = [(
-    b"len popcount log log2 msb clz",
-    "; write it by `shr(x, 1)` and `and(x, 1)`, a round or a register at a time",
-)];
+const FUNCTIONS: [(&[u8], &str); 2] = [
+    (
+        b"popcount",
+        "; there is no such operation: add `bit(x, 0)`, `bit(x, 1)` and so on",
+    ),
+    (
+        b"len log log2 msb clz",
+        "; there is no such operation: compare with powers of 2, as in `le(4, x)`",
+    ),
+];
 
 // Words where an expression is expected.
-const EXPRESSIONS: [(&[u8], &str); 5] = [
+const EXPRESSIONS: [(&[u8], &str); 7] = [
+    (b"null nil none None NULL nothing", "; write 0"),
+    (
+        b"message messages msg neighbor neighbour neighbors neighbours",
+        "; `L` and `R` are what the neighbours sent in this round",
+    ),
     (b"true True TRUE", "; write 1"),
     (b"false False FALSE", "; write 0"),
     (b"l", "; the message from the left is `L`"),
@@ -228,6 +239,11 @@ fn header_advice(place: Place) -> &'static str {
     match (place.wanted, place.word) {
         (Expected::This(Token::Rounds), b"REM" | b"dnl") => "; a comment begins with `#`",
         (Expected::Number, [b'0', b'x' | b'X' | b'b' | b'B' | b'o', ..]) => "; numbers are decimal",
+        (Expected::This(Token::Open) | Expected::This(Token::Equals), _) => missing_word(
+            place.wanted,
+        ),
+        (_, b"ids") => "; the number of identifiers is an option of the commands, as in `--ids 8`",
+        (_, b"near" | b"far") => "; `--near` and `--far` are options of the commands",
         _ => missing_word(place.wanted),
     }
 }

@@ -96,6 +96,9 @@ fn open_advice(place: Place) -> &'static str {
         Expected::Number => "; write a number in digits, without brackets",
         Expected::This(Token::Left) => "; write `send left ..`, without brackets",
         Expected::This(Token::Right) => "; write `send right ..`, without brackets",
+        Expected::End => {
+            "; the expression of `finish` ends the program, and a comment begins with `#`"
+        }
         _ => "; no brackets are allowed here",
     }
 }
@@ -154,7 +157,7 @@ fn operation_advice(place: Place) -> &'static str {
             "; an operation is written before its operands, as in `if(c, a, b)`"
         }
         Expected::This(Token::Comma) if has_bracket => COMMA,
-        Expected::This(Token::Register(_)) if has_bracket =>
+        Expected::This(Token::Register(_)) if has_bracket || matches!(place.word, b"if") =>
             "; an expression is assigned to a register, as in `r0 = if(c, a, b)`",
         Expected::This(Token::Comma) => "",
         _ => known_advice(place),
@@ -214,6 +217,9 @@ fn known_advice(place: Place) -> &'static str {
         Expected::This(Token::Rounds) if has_numbers(place) =>
             "; leave out the numbers of the lines",
         Expected::This(Token::Round) => round_advice(place),
+        Expected::This(Token::Left) | Expected::This(Token::Right) if is_operand(place.word) => {
+            "; the side comes before the expression, as in `send left 0`"
+        }
         Expected::This(Token::Finish) if matches!(place.word, b"round") => ROUNDS,
         Expected::This(Token::Finish) | Expected::This(Token::Register(_))
             if is_no_register(place) => REGISTERS,

@@ -2,7 +2,7 @@
 
 ghost use Rattle.std.specs.Prelude.{◌≤◌, length};
 
-use crate::around::{Place, ends_in_comment, follows_expression};
+use crate::around::{Place, ends_in_comment, follows_expression, is_operand};
 use crate::words::is_word_byte;
 use node_lang::{Expected, Token};
 use source_places::by_beginning;
@@ -30,6 +30,8 @@ const OPERANDS: &str = "; operands are written in `(` and `)`";
 const UNBRACKETED: &str = "; leave this bracket out";
 
 const NO_TEXTS: &str = "; there are no texts in programs";
+
+const UNQUOTED: &str = "; there are no texts in programs: leave out the quotation marks";
 
 const NO_NAMES: &str = "; registers are `r0` to `r7`, and have no other names";
 
@@ -92,7 +94,8 @@ const OTHER_ALPHABET: &str =
     "; this is a letter of another alphabet, which may look like a plain one";
 
 // Marks at the start of a text.
-const FIRST: [(&[u8], &str); 24] = [
+const FIRST: [(&[u8], &str); 25] = [
+    (b"{-", COMMENT),
     (b"\\begin", TEX),
     (b"\\document", TEX),
     (b"* rounds", MARKDOWN),
@@ -120,7 +123,9 @@ const FIRST: [(&[u8], &str); 24] = [
 ];
 
 // Marks where a number is wanted.
-const BEFORE_NUMBERS: [(&[u8], &str); 5] = [
+const BEFORE_NUMBERS: [(&[u8], &str); 7] = [
+    (b"'", UNQUOTED),
+    (b"\"", UNQUOTED),
     (b"-", SIGN),
     (b"+", SIGN),
     (b":", "; a number has no mark before it"),
@@ -129,7 +134,10 @@ const BEFORE_NUMBERS: [(&[u8], &str); 5] = [
 ];
 
 // Marks where an expression is wanted.
-const BEFORE_EXPRESSIONS: [(&[u8], &str); 22] = [
+const BEFORE_EXPRESSIONS: [(&[u8], &str); 24] = [
+    (b"'", UNQUOTED),
+    (b"\"", UNQUOTED),
+    (b"@", NO_MARK_BEFORE),
     (b"..", EXAMPLE),
     (
         b"?",
@@ -142,7 +150,6 @@ const BEFORE_EXPRESSIONS: [(&[u8], &str); 22] = [
     (b"<=", NO_MARK_BEFORE),
     (b"%r", NO_REGISTER_MARK),
     (b"$r", NO_REGISTER_MARK),
-    (b"@r", NO_REGISTER_MARK),
     (b"%", NO_MARK_BEFORE),
     (b"/*", COMMENT),
     (b"**", NO_MARK_BEFORE),
@@ -317,7 +324,15 @@ const BYTES: [(&[u8], &str); 38] = [
 ];
 
 // Bytes above 127 at the start of a text outside of comments.
-const SIGNS: [(&[u8], &str); 19] = [
+const SIGNS: [(&[u8], &str); 21] = [
+    (
+        &[0xe2, 0x88, 0x92],
+        "; this is a minus sign that is not ASCII: a difference is `sub(a, b)`",
+    ),
+    (
+        &[0xef, 0xbc, 0x8c],
+        "; this is a comma of full width: a plain one stands between operands alone",
+    ),
     (&[0xe2, 0x80, 0xa6], EXAMPLE),
     (&[0xe2, 0x80, 0x98], NO_QUOTATION),
     (&[0xe2, 0x80, 0x99], NO_QUOTATION),
@@ -434,6 +449,7 @@ fn doubled_advice(place: Place) -> Option<&'static str> {
         return None;
     }
     match place.rest {
+        [b'[', ..] if is_operand(place.last) => Some("; bit i of a is `bit(a, i)`"),
         [b'-', b'-'] | [b'-', b'-', b'\n' | b'\r' | b')' | b',', ..] => Some(DECREMENT),
         [b'/', b'/', rest @ ..] => match after_blanks(rest) {
             [b'0'..=b'9' | b'L' | b'R' | b'(', ..] | [b'r', b'0'..=b'9', ..] => Some(HALF),
@@ -480,6 +496,15 @@ fn copied_advice(place: Place) -> Option<&'static str> {
         ),
         (_, [b'\\', b'n' | b'r' | b't', ..]) => Some(NO_FEED),
         (_, [b'.'] | [b'.', b'\n' | b'\r' | b' ', ..]) => Some(NO_MARK),
+        (_, [b'.', ..]) if matches!(place.last, b"L" | b"R") => Some(
+            "; a message is one number, without parts",
+        ),
+        (Expected::This(Token::Left) | Expected::This(Token::Right), [b'_', ..]) => Some(
+            "; write a blank, as in `send left 0`",
+        ),
+        (Expected::End, [b';', b' ', ..]) => Some(
+            "; lines end without a mark, and a comment begins with `#`",
+        ),
         (_, [b'\'', b'b' | b'd' | b'h' | b'o', ..]) if is_number(place.last) => Some(
             "; numbers are decimal",
         ),

@@ -7,7 +7,7 @@ use Rattle.source_places.specs.Kinds.{text_kind}
 -- what a text of a kind is, and what takes it
 abbrev pub advice_of : TextKind → List ℕ
 advice_of kind.Program = codes "; this looks like a program: `nbhd judge` takes one"
-advice_of kind.Table = codes "; the text of a table is for `nbhd audit` and `nbhd migrate`"
+advice_of kind.Table = codes "; the text of a table is for `nbhd audit`, `nbhd apply` and `nbhd migrate`"
 advice_of kind.Formula = codes "; this is a formula for a solver, as in `cadical --no-binary FORMULA PROOF`"
 advice_of kind.Refutation = codes "; this looks like a refutation: `nbhd refute` takes one"
 advice_of kind.Proof = codes "; this looks like a proof in DRAT: `tools/lrat` adds the hints that it lacks, for `nbhd refute`"

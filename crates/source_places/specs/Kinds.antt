@@ -94,11 +94,11 @@ has_zero_within line = begins line (codes "0 ") || contains_part line (codes " 0
 
 -- The kind of a list of numbers. A step of a refutation has two lists, each with 0 at its end, behind its number; a
 -- deletion has `d` behind its number. A line of a proof has one list, and `d` before it or not: without a negative number
--- it may be another list.
+-- it may be another list. 0 is never negative.
 abbrev pub list_kind : List ℕ → Option TextKind
 list_kind line = if has_zero_within line then (if begins_with_number line then Some kind.Refutation else None)
     else if list_any (λ b. b == 100) line then (if begins_with_number line then Some kind.Refutation else Some kind.Proof)
-    else if list_any (λ b. b == 45) line then Some kind.Proof
+    else if list_any (λ b. b == 45) line && not (contains_part line (codes " -0")) then Some kind.Proof
     else None
 
 -- the kind of a text with this line, if the line is of numbers

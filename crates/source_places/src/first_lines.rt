@@ -143,7 +143,7 @@ fn list_kind(line: &[u8]) -> Option<TextKind>
             TextKind::Proof
         });
     }
-    if line.contains(&b'-') {
+    if line.contains(&b'-') && !contains_part(line, b" -0") {
         return Some(TextKind::Proof);
     }
     None

@@ -6,7 +6,11 @@ use win_index::MAX_ROUNDS;
 
 const CHANNELS: &str = "; `channels` is 1 to 4096";
 
-const THIRD: &str = "; `channels` and a number come third";
+const SECOND: &str = "; `ids` and a number come second in this line";
+
+const THIRD: &str = "; `channels` and a number come third in this line";
+
+const LAST: &str = "; `far` and a number come last in this line";
 
 const MISFIT: &str =
     "; the numbers of this line do not fit one another: 0 rounds take 2 to 1024 `ids`, \
@@ -16,10 +20,16 @@ const MISFIT: &str =
 // have its form. The text is given from that line on.
 pub(crate) fn header_advice(is_first_version: bool, rest: &[u8]) -> &'static str {
     let Some((rounds, rest)) = field(rest, b"rounds ", b' ') else {
-        return "; it begins with `rounds` and a number";
+        return match field(rest, b"rounds ", b'\n') {
+            Some(_) => SECOND,
+            None => "; it begins with `rounds` and a number",
+        };
     };
     let Some((_, rest)) = field(rest, b"ids ", b' ') else {
-        return "; `ids` and a number come second";
+        return match field(rest, b"ids ", b'\n') {
+            Some(_) => THIRD,
+            None => SECOND,
+        };
     };
     if rounds > MAX_ROUNDS {
         return "; `rounds` is 0 to 4";
@@ -50,10 +60,13 @@ fn second_advice(rest: &[u8]) -> &'static str {
         return THIRD;
     };
     let Some((near, rest)) = field(rest, b"near ", b' ') else {
-        return "; `near` and a number come fourth";
+        return match field(rest, b"near ", b'\n') {
+            Some(_) => LAST,
+            None => "; `near` and a number come fourth in this line",
+        };
     };
     let Some((far, _)) = field(rest, b"far ", b'\n') else {
-        return "; `far` and a number come last";
+        return LAST;
     };
     if near == 0 || near > MAX_CHANNELS {
         return "; `near` is 1 to 4096";

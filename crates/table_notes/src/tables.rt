@@ -16,6 +16,8 @@ use std::alloc::{AllocError, Global};
 use std::fmt::Write;
 use win_index::Shape;
 
+const WINDOW: &str = "; a line is the identifiers of a window, ` : ` and a channel";
+
 const STOPPED: &str = "; the text stops in this line: lines are missing";
 
 /// Returns the note on a text that is too long. Fails if memory was refused.
@@ -48,7 +50,7 @@ fn form_advice(text: &[u8], offset: usize) -> &'static str
         return "; the text is empty, so no file was given";
     }
     if text.contains(&b'\r') && is_table_of_lines(text) {
-        return "; lines end with a carriage return, which `tr -d '\\r'` takes out";
+        return return_advice(text);
     }
     if offset == 0 {
         return first_advice(text);
@@ -60,7 +62,15 @@ fn form_advice(text: &[u8], offset: usize) -> &'static str
     if before.ends_with(b"\nend\n") && !rest.starts_with(b"\n") {
         return "; nothing follows the line `end`";
     }
-    line_advice(rest)
+    line_advice(shape_of(text), rest)
+}
+
+// Returns advice on a text with carriage returns.
+fn return_advice(text: &[u8]) -> &'static str {
+    if text.contains(&b'\n') {
+        return "; lines end with a carriage return, which `tr -d '\\r'` takes out";
+    }
+    "; lines end with a carriage return alone, which `tr '\\r' '\\n'` makes a line feed"
 }
 
 // Returns whether a text is not known to be another one than a table.
@@ -94,6 +104,12 @@ fn other_advice(text: &[u8]) -> &'static str {
     if is_of_window(&text[..first_line_len(text)]) {
         return "; its first two lines are missing";
     }
+    if text.starts_with(b" ") {
+        return "; it begins with a blank";
+    }
+    if text[..first_line_len(text)].contains(&b'\\') {
+        return "; `\\n` stands for a line feed only in other texts: begin a new line";
+    }
     if text.starts_with(b"nbhd-table ") {
         return "; its first line is `nbhd-table 2`, or `nbhd-table 1`";
     }
@@ -110,11 +126,33 @@ fn second_advice(text: &[u8], rest: &[u8]) -> &'static str {
     if line.contains(&b',') {
         return "; this line has no commas";
     }
+    if line.contains(&b'-') || line.contains(&b'+') {
+        return "; numbers have no sign";
+    }
+    if let Some(advice) = blanks_advice(line) {
+        return advice;
+    }
     header_advice(text.starts_with(b"nbhd-table 1\n"), rest)
 }
 
-// Returns advice on a line that does not have its form, from the text from the line on.
-fn line_advice(rest: &[u8]) -> &'static str {
+// Returns advice on the blanks and the zeros of a line.
+fn blanks_advice(line: &[u8]) -> Option<&'static str> {
+    let is_doubled = (1..line.len()).any(|index| line[index - 1] == b' ' && line[index] == b' ');
+    let is_padded = (2..line.len()).any(|index| {
+        line[index - 2] == b' ' && line[index - 1] == b'0' && line[index].is_ascii_digit()
+    });
+    match line {
+        [.., b' '] => Some("; it ends with a blank"),
+        _ if is_doubled || line.contains(&b'\t') => Some("; words are parted by single blanks"),
+        [b'0', b'0'..=b'9', ..] => Some("; numbers have no zeros before them"),
+        _ if is_padded => Some("; numbers have no zeros before them"),
+        _ => None,
+    }
+}
+
+// Returns advice on a line that does not have its form, from the text from the line on; `shape` is that
+// of the table.
+fn line_advice(shape: Option<Shape>, rest: &[u8]) -> &'static str {
     if rest.is_empty() {
         return "; the text stops before its end, which is a line `end`: lines are missing";
     }
@@ -125,7 +163,31 @@ fn line_advice(rest: &[u8]) -> &'static str {
     if line.len() == rest.len() {
         return STOPPED;
     }
+    if shape.is_some_and(|shape| has_window(line, 2 * u64::from(shape.rounds()) + 1)) {
+        return "; after the line of the last window comes the line `end`";
+    }
     bytes_advice(line)
+}
+
+// Returns the number of words of a text that are not empty.
+fn words_in(text: &[u8]) -> u64 {
+    let mut words = 0u64;
+    let mut last = b' ';
+    for byte in text {
+        if last == b' ' && *byte != b' ' {
+            words = words.saturating_add(1);
+        }
+        last = *byte;
+    }
+    words
+}
+
+// Returns whether a line is that of a window of this number of identifiers.
+fn has_window(line: &[u8], count: u64) -> bool {
+    is_of_window(line)
+        && blanks_advice(line).is_none()
+        && words_in(line) == count.saturating_add(2)
+        && matches!(line, [b'0'..=b'9', .., b'0'..=b'9'])
 }
 
 // Returns advice on the bytes of a line that does not have its form.
@@ -133,16 +195,14 @@ fn bytes_advice(line: &[u8]) -> &'static str {
     match line {
         [] => "; the line is blank",
         b"end" => "; lines are missing before it",
-        [b'#', ..] => "; there are no comments in tables",
-        b"END" | b"End" => "; the last line is `end`",
+        _ if line.contains(&b'#') => "; there are no comments in tables",
+        [b' ', ..] => "; it begins with a blank",
         [.., b':'] | [.., b':', b' '] => "; its channel is missing",
-        [.., b' '] => "; it ends with a blank",
-        [b'0', b'0'..=b'9', ..] => "; numbers have no zeros before them",
-        _ if line.contains(&b',') || line.contains(&b'\t') => {
-            "; numbers are parted by single blanks"
-        }
-        _ if line.contains(&b'-') || line.contains(&b'.') => "; a number has only digits",
-        _ => "; a line is the identifiers of a window, ` : ` and a channel",
+        [b'e' | b'E', b'n' | b'N', b'd' | b'D', ..] => "; the last line is `end`",
+        _ if !line.contains(&b':') => WINDOW,
+        _ if line.contains(&b',') => "; numbers are parted by single blanks",
+        _ if !is_of_window(line) => "; a number has only digits",
+        _ => blanks_advice(line).unwrap_or(WINDOW),
     }
 }
 

@@ -32,6 +32,9 @@ pub(crate) enum Foreign {
     Forms,
 }
 
+pub(crate) const LABELLING: &str =
+    "nbhd: L(2,1) is `--near 2 --far 1`, of `table`, `judge`, `formula` and `refute`";
+
 // Names of commands of other programs.
 pub(crate) const COMMANDS: [(&[u8], Foreign); 57] = [
     (b"man", Foreign::Help),
@@ -206,8 +209,7 @@ impl Foreign {
             Foreign::Least => "nbhd: `tools/least` finds the fewest channels, by a solver",
             Foreign::Page => "nbhd: `nbhd-page` serves the page",
             Foreign::Threads => threads_line(command),
-            Foreign::Labelling =>
-                "nbhd: L(2,1) is `--near 2 --far 1`, of `table`, `judge`, `formula` and `refute`",
+            Foreign::Labelling => LABELLING,
             Foreign::Bases =>
                 "nbhd: `trace` and `explain` print numbers in another base by `--base`, as in `--base 2`",
             Foreign::Node =>

@@ -1,6 +1,6 @@
 //! Advice on a word that `clap` refuses, which its text names. It promises nothing.
 
-use crate::foreign_names::{COMMANDS, Foreign, OPTIONS, file_line};
+use crate::foreign_names::{COMMANDS, Foreign, LABELLING, OPTIONS, file_line};
 
 const NO_COMMAND: &str = "nbhd: the name of a command comes first, as in `nbhd check --ids 8`";
 
@@ -8,6 +8,9 @@ const NO_OPTION: &str = "nbhd: the numbers of a table are in its text";
 
 const PRINTS: &str =
     "nbhd: `nbhd print` has no options; `nbhd check` tells whether a program is accepted for M identifiers";
+
+const TWO_MINUSES: &str =
+    "nbhd: the name of an option has two minus signs before it, as in `--ids 8`";
 
 // The options, and the commands that have each.
 const OF_COMMANDS: [(&[u8], &str); 9] = [
@@ -162,13 +165,17 @@ fn is_bare_option(word: &[u8]) -> bool {
     )
 }
 
+// Returns the bytes of a word before the first colon.
+fn before_colon(word: &[u8]) -> &[u8] {
+    let len = word.iter().take_while(|byte| **byte != b':').count();
+    &word[..len.min(word.len())]
+}
+
 // Returns advice on a word that is no option and not the value of one.
 fn stray_advice(command: &[u8], word: &[u8]) -> &'static str {
     match (command, word) {
         (_, word) if is_command(word) => "nbhd: one command is given at a time",
-        (_, word) if is_bare_option(word) => {
-            "nbhd: the name of an option has two minus signs before it, as in `--ids 8`"
-        }
+        (_, word) if is_bare_option(word) => TWO_MINUSES,
         (b"run" | b"trace" | b"explain" | b"plan" | b"apply", [b'0'..=b'9', ..])
             if word.contains(&b',') => {
             "nbhd: a ring is given by `--ring`, as in `--ring 5,1,3,7`"
@@ -176,6 +183,9 @@ fn stray_advice(command: &[u8], word: &[u8]) -> &'static str {
         (_, [b'0'..=b'9', ..] | []) =>
             "nbhd: each number is the value of an option, as in `--ids 8`",
         (_, [b'<' | b'>', ..]) => "nbhd: `<` and `>` are read by the shell, outside of quotes",
+        (_, [b'L', b'(', ..]) => LABELLING,
+        (b"explain", [b'A'..=b'Z', b'0'..=b'9']) => "nbhd: docs/FAULTS.md explains faults",
+        (_, [b'/', rest @ ..]) if is_bare_option(before_colon(rest)) => TWO_MINUSES,
         _ => file_line(command),
     }
 }

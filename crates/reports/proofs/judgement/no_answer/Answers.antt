@@ -1,6 +1,5 @@
-use Rattle.std.proofs.Common.{ap, ◌∙◌, refl, Some}
-use Rattle.reports.specs.Causes.{of_no}
-use Rattle.reports.specs.Report.{bad, no_line}
+use Rattle.std.proofs.Common.{refl}
+use Rattle.reports.specs.Report.{bad}
 use Rattle.reports.proofs.judgement.no_answer.Goals as goal
 
 pub returns : goal.returns
