@@ -1,0 +1,240 @@
+"""What the advice of a note says of a program text, done: advice that names a text to write or to leave out has a row
+with the texts that come of it. It helps if one of these is a program, or has its first fault behind the word of the old
+one, or at this word where something else is expected now.
+"""
+
+import re
+
+from advice import OPERAND, WORD, Place, is_joined
+from grammar import OPERANDS, TOKENS
+
+# The place of a fault in the report, and what its note says: what was expected there, and the advice.
+PLACE = re.compile(r"text fault N\d at (\d+)\n")
+NOTE = re.compile(r"nbhd: line \d+, column \d+: (?:unexpected|unknown word) .+?; expected ([^;\n]+)(?:; (.+))?\n")
+
+
+def spans(place):
+    """The tokens from a place on, each with its start and its end."""
+    return [(found[1], *found.span()) for found in TOKENS.finditer(place.text, place.at) if found[1]]
+
+
+def put(place, words):
+    """The text with words written at the place."""
+    return f"{place.text[: place.at]} {words} {place.text[place.at :]}"
+
+
+def without(place, start, end):
+    """The text without a part."""
+    return f"{place.text[:start]} {place.text[end:]}"
+
+
+def leave_out(place):
+    """The text without the token at the place."""
+    return without(place, place.at, spans(place)[0][2])
+
+
+def replaced(place, word):
+    """The text with another word at the place."""
+    return place.text[: place.at] + word + place.text[WORD.match(place.text, place.at).end() :]
+
+
+def instead(place, word):
+    """The word that is named is written in the place of the other."""
+    return [replaced(place, word)]
+
+
+def end_of_expression(place, number):
+    """Where the expression ends that begins with this token, counted from the place on."""
+    depth, tokens = 0, spans(place)[number:]
+    for token, _, end in tokens:
+        depth += {"(": 1, ")": -1}.get(token, 0)
+        if depth == 0 and token not in OPERANDS:
+            return end
+    return len(place.text)
+
+
+def end_of_bracket(place):
+    """Where the bracket is closed in which the place is, None if it is not."""
+    depth = 0
+    for token, start, _ in spans(place):
+        depth += {"(": 1, ")": -1}.get(token, 0)
+        if depth < 0:
+            return start
+    return None
+
+
+def operands(place, name, count):
+    """An operand that is missing is written, or what is too much is left out."""
+    if place.is_in("`)`"):
+        end = end_of_bracket(place)
+        return [put(place, ")"), *([] if end is None else [without(place, place.at, end)])]
+    comma = ", " if place.is_in("`,`") else ""
+    filled = [put(place, comma + ", ".join(["0"] * number)) for number in range(1, int(count) + 1)]
+    return filled + [leave_out(place)] * (place.token() == ",")
+
+
+def named(place):
+    """A name is written before a bracket, of an operation that takes so many operands."""
+    depth, commas = 0, 0
+    for token, *_ in spans(place):
+        depth += {"(": 1, ")": -1}.get(token, 0)
+        if depth < 1:
+            break
+        commas += token == "," and depth == 1
+    return [put(place, {0: "not", 1: "add"}.get(commas, "if"))]
+
+
+def without_brackets(place):
+    """A bracket is left out, and the one that closes it."""
+    end = end_of_expression(place, 0)
+    return [place.text[: place.at] + " " + place.text[place.at + 1 : end - 1] + " " + place.text[end:]]
+
+
+def split(place):
+    """A blank is written in the word."""
+    word = WORD.match(place.text, place.at)[0]
+    return [replaced(place, f"{word[:at]} {word[at:]}") for at in range(1, len(word))] if is_joined(place) else []
+
+
+def without_line(place):
+    """The line of the place is left out."""
+    start = place.text.rfind("\n", 0, place.at) + 1
+    return [without(place, start, start + len(place.line(0)))]
+
+
+def in_header(place):
+    """The word that is expected is written, with a number if none follows."""
+    word = place.wanted.strip("`")
+    return [put(place, word if place.token().isdecimal() else f"{word} 1")]
+
+
+def number(place):
+    """A number is written, before the word of the place or instead of it."""
+    return [put(place, "1")] + [replaced(place, "1")] * bool(WORD.match(place.token()))
+
+
+def assigned(place):
+    """The register that is expected is assigned: what follows `=`, what is at the place, or 0."""
+    register = place.wanted.split(" ")[-1]
+    if place.token() == "=":
+        return [put(place, register)]
+    if place.token(1) == "=":
+        return [put(place, f"{register} = 0"), replaced(place, register)]
+    is_expression = place.token() in OPERANDS or OPERAND.fullmatch(place.token())
+    return [put(place, f"{register} =" if is_expression else f"{register} = 0")]
+
+
+def assigned_once(place, then):
+    """An assignment is left out, or the word after the assignments is written."""
+    if place.token(1) == "=" and OPERAND.fullmatch(place.token()):
+        return [without(place, place.at, end_of_expression(place, 2))]
+    return [put(place, then)]
+
+
+def sent(place):
+    """The word `send` is written, and what is sent where it is missing too."""
+    if place.token() in ("left", "right"):
+        return [put(place, "send")]
+    in_round = place.before[len(place.before) - place.before[::-1].index("round") :]
+    return [put(place, "send right 0" if "send" in in_round else "send left 0 send right 0")]
+
+
+def left_first(place):
+    """The message to the left is written, or the word `left`."""
+    return [put(place, "left 0 send" if place.token() == "right" else "left")]
+
+
+def right_next(place):
+    """`right` is written, in the place of `left` if that is there."""
+    return [replaced(place, "right") if place.token() == "left" else put(place, "right")]
+
+
+def start_of_operand(place):
+    """Where the operand begins that ends before a place, None if none ends there."""
+    depth, before = 0, [(found[1], found.start()) for found in TOKENS.finditer(place.text[: place.at]) if found[1]]
+    for index in range(len(before) - 1, -1, -1):
+        depth += {")": 1, "(": -1}.get(before[index][0], 0)
+        if depth == 0:
+            return before[index - (before[index][0] == "(")][1]
+    return None
+
+
+def opened(place):
+    """A bracket is opened."""
+    return [put(place, "(")]
+
+
+def closed(place):
+    """As many brackets are closed as are open, or fewer."""
+    return [put(place, ")" * (count + 1)) for count in range(len(place.open_operations()))]
+
+
+def compared(place):
+    """The operands before and after `=` or `==` are compared."""
+    number = 2 if place.token(1) == "=" else 1
+    start, end = start_of_operand(place), end_of_expression(place, number)
+    first, second = place.text[start : place.at], place.text[spans(place)[number][1] : end]
+    return [f"{place.text[:start]}eq({first}, {second}){place.text[end:]}"]
+
+
+# Advice as a pattern, and the texts that come of it.
+ROWS = [
+    (r"`(\w+)` takes (\d) operands?", operands),
+    (r"a bracket is open", closed),
+    (r"this bracket closes nothing", lambda place: [leave_out(place)]),
+    (r"commas only separate operands", lambda place: [leave_out(place)]),
+    (r"a comma is missing before it", lambda place: [put(place, ",")]),
+    (r"the same word stands right before it", lambda place: [leave_out(place)]),
+    (r"the same line stands right before it", without_line),
+    (r"the name of an operation is missing before it", named),
+    (r"brackets are only written after the name of an operation", without_brackets),
+    (r"the operands of an operation are written in brackets, as in `if\(c, a, b\)`", opened),
+    (r"a blank is missing in it", split),
+    (r"`=` is only written after the register of an assignment", lambda place: [leave_out(place)]),
+    (r"write `eq\(a, b\)` to compare", compared),
+    (r"an assignment is written with one `=`", lambda place: [leave_out(place)]),
+    (r"an assignment is written `r0 = ..`", lambda place: [put(place, "=")]),
+    (r"an expression is assigned to a register, as in `r0 = if\(c, a, b\)`", assigned),
+    (r"an expression is missing here", lambda place: [put(place, "0")]),
+    (r"write a number in digits", number),
+    (r"the message from the left is `(L)`", instead),
+    (r"the message from the right is `(R)`(?:, and registers are `r0` to `r7`)?", instead),
+    (r"`(\w+)` is written with (?:small letters|a small letter)", instead),
+    (r"a program begins with `rounds`, `channels` and `registers`", in_header),
+    (r"a round begins with the word `round`", lambda place: [put(place, "round")]),
+    (r"a round begins with `send left` and `send right`", sent),
+    (r"`send left` comes first, then `send right`", left_first),
+    (r"`send left` is followed by `send right`", right_next),
+    (r"each register is assigned, in order", assigned),
+    (r"each register is assigned once, then comes `(round|finish)`", assigned_once),
+]
+
+
+def fault(out, note):
+    """The place of a fault, what is expected there, and the advice; None of an answer without them."""
+    place, said = PLACE.fullmatch(out), NOTE.match(note)
+    return (int(place[1]), said[1], said[2]) if place and said else None
+
+
+def done(text, answer):
+    """The texts that come of the advice on a text; None where it names nothing to write or to leave out."""
+    if found := fault(*answer[1:]):
+        at, wanted, told = found
+        for pattern, ways in ROWS:
+            if said := re.fullmatch(pattern, told or ""):
+                return ways(Place(text, at, wanted), *said.groups())
+    return None
+
+
+def helps(text, answer, edited, new_answer):
+    """Whether an edited text is a program, or has its fault behind the word of the old one, or at this word where
+    something else is expected."""
+    if new_answer[0] == 0:
+        return True
+    (old, wanted, _), new = fault(*answer[1:]), fault(*new_answer[1:])
+    if not new:
+        return False
+    word = WORD.match(text, old)
+    behind = len(text) - (word.end() if word else old + 1)
+    left = len(edited) - new[0]
+    return left <= behind or left == len(text) - old and new[1] != wanted
