@@ -4,6 +4,7 @@ one, or at this word where something else is expected now.
 """
 
 import re
+from os.path import commonprefix
 
 from advice import OPERAND, WORD, Place, is_joined
 from grammar import OPERANDS, TOKENS
@@ -11,6 +12,11 @@ from grammar import OPERANDS, TOKENS
 # The place of a fault in the report, and what its note says: what was expected there, and the advice.
 PLACE = re.compile(r"text fault N\d at (\d+)\n")
 NOTE = re.compile(r"nbhd: line \d+, column \d+: (?:unexpected|unknown word) .+?; expected ([^;\n]+)(?:; (.+))?\n")
+FOREIGN = re.compile(
+    r"nbhd: line \d+, column \d+: a byte over 127; a program text is ASCII, in its comments too()(?:; (.+))?\n"
+)
+# The word of a fault: letters and digits, or one other character, which can have several bytes.
+AT_FAULT = re.compile(r"[A-Za-z0-9]+|[\x80-\xff]+|.|$", re.DOTALL)
 
 
 def spans(place):
@@ -70,7 +76,7 @@ def operands(place, name, count):
         return [put(place, ")"), *([] if end is None else [without(place, place.at, end)])]
     comma = ", " if place.is_in("`,`") else ""
     filled = [put(place, comma + ", ".join(["0"] * number)) for number in range(1, int(count) + 1)]
-    return filled + [leave_out(place)] * (place.token() == ",")
+    return [*filled, leave_out(place)] if place.token() == "," else filled
 
 
 def named(place):
@@ -122,6 +128,14 @@ def assigned(place):
         return [put(place, f"{register} = 0"), replaced(place, register)]
     is_expression = place.token() in OPERANDS or OPERAND.fullmatch(place.token())
     return [put(place, f"{register} =" if is_expression else f"{register} = 0")]
+
+
+def with_sign(place):
+    """`=` is written, before the word or instead of it, or the word before the register is left out."""
+    if place.wanted.startswith("the assignment"):
+        return [leave_out(place)]
+    end = AT_FAULT.match(place.text, place.at).end()
+    return [put(place, "="), f"{place.text[: place.at]}={place.text[end:]}"]
 
 
 def assigned_once(place, then):
@@ -193,7 +207,7 @@ ROWS = [
     (r"`=` is only written after the register of an assignment", lambda place: [leave_out(place)]),
     (r"write `eq\(a, b\)` to compare", compared),
     (r"an assignment is written with one `=`", lambda place: [leave_out(place)]),
-    (r"an assignment is written `r0 = ..`", lambda place: [put(place, "=")]),
+    (r"an assignment is written `r0 = ..`", with_sign),
     (r"an expression is assigned to a register, as in `r0 = if\(c, a, b\)`", assigned),
     (r"an expression is missing here", lambda place: [put(place, "0")]),
     (r"write a number in digits", number),
@@ -211,16 +225,16 @@ ROWS = [
 
 
 def fault(out, note):
-    """The place of a fault, what is expected there, and the advice; None of an answer without them."""
-    place, said = PLACE.fullmatch(out), NOTE.match(note)
-    return (int(place[1]), said[1], said[2]) if place and said else None
+    """The place of a fault, what is expected there, if it is said, and the advice; None of an answer without them."""
+    place, said = PLACE.fullmatch(out), NOTE.match(note) or FOREIGN.match(note)
+    return (int(place[1]), *said.groups()) if place and said else None
 
 
-def done(text, answer):
+def done(text, answer, rows=ROWS):
     """The texts that come of the advice on a text; None where it names nothing to write or to leave out."""
     if found := fault(*answer[1:]):
         at, wanted, told = found
-        for pattern, ways in ROWS:
+        for pattern, ways in rows:
             if said := re.fullmatch(pattern, told or ""):
                 return ways(Place(text, at, wanted), *said.groups())
     return None
@@ -234,7 +248,9 @@ def helps(text, answer, edited, new_answer):
     (old, wanted, _), new = fault(*answer[1:]), fault(*new_answer[1:])
     if not new:
         return False
-    word = WORD.match(text, old)
-    behind = len(text) - (word.end() if word else old + 1)
-    left = len(edited) - new[0]
+    word = AT_FAULT.match(text, old)
+    behind, left = len(text) - word.end(), len(edited) - new[0]
+    if len(edited) < len(text) - len(word[0]):
+        # More than the word was left out.
+        behind = min(behind, len(commonprefix([text[::-1], edited[::-1]])))
     return left <= behind or left == len(text) - old and new[1] != wanted

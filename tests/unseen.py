@@ -97,7 +97,6 @@ EXPRESSIONS = [
     ("random()", "random"),
     ("c", "expression"),
     ("right", "`R`"),
-    ("\u2295", "xor"),
     ("L \u2265 1", "le(b, a)"),
     ("L \u2260 1", "ne("),
     ("L \xd7 2", "shl"),
