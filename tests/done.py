@@ -1,6 +1,7 @@
 """What the advice of a note says of a program text, done: advice that names a text to write or to leave out has a row
 with the texts that come of it. It helps if one of these is a program, or has its first fault behind the word of the old
-one, or at this word where something else is expected now.
+one, or at this word where something else is expected now. Where a token was left out, written twice or changed, other
+tokens have to stand before the new fault than before the old one, else nothing was gained.
 """
 
 import re
@@ -138,6 +139,11 @@ def with_sign(place):
     return [put(place, "="), f"{place.text[: place.at]}={place.text[end:]}"]
 
 
+def after_register(place):
+    """The register that is expected is written before `=`, or `=` is left out."""
+    return assigned(place) if place.wanted.startswith("the assignment") else [leave_out(place)]
+
+
 def assigned_once(place, then):
     """An assignment is left out, or the word after the assignments is written."""
     if place.token(1) == "=" and OPERAND.fullmatch(place.token()):
@@ -204,7 +210,7 @@ ROWS = [
     (r"brackets are only written after the name of an operation", without_brackets),
     (r"the operands of an operation are written in brackets, as in `if\(c, a, b\)`", opened),
     (r"a blank is missing in it", split),
-    (r"`=` is only written after the register of an assignment", lambda place: [leave_out(place)]),
+    (r"`=` is only written after the register of an assignment", after_register),
     (r"write `eq\(a, b\)` to compare", compared),
     (r"an assignment is written with one `=`", lambda place: [leave_out(place)]),
     (r"an assignment is written `r0 = ..`", with_sign),
@@ -240,6 +246,11 @@ def done(text, answer, rows=ROWS):
     return None
 
 
+def tokens_before(text, at):
+    """The tokens before a place."""
+    return [found[1] for found in TOKENS.finditer(text[:at]) if found[1]]
+
+
 def helps(text, answer, edited, new_answer):
     """Whether an edited text is a program, or has its fault behind the word of the old one, or at this word where
     something else is expected."""
@@ -254,3 +265,10 @@ def helps(text, answer, edited, new_answer):
         # More than the word was left out.
         behind = min(behind, len(commonprefix([text[::-1], edited[::-1]])))
     return left <= behind or left == len(text) - old and new[1] != wanted
+
+
+def gains(text, answer, edited, new_answer):
+    """Whether an edited text is a program, or has other tokens before its fault."""
+    new = fault(*new_answer[1:])
+    is_other = new and tokens_before(text, fault(*answer[1:])[0]) != tokens_before(edited, new[0])
+    return new_answer[0] == 0 or is_other
