@@ -57,6 +57,13 @@ class Place:
                 return True
         return False
 
+    def is_operand(self):
+        return bool(OPERAND.fullmatch(self.token()))
+
+    def begins_line(self):
+        """Whether only blanks stand between the start of the line and the place."""
+        return not self.text[: self.at].split("\n")[-1].strip()
+
     def ends_expression(self):
         return self.last() == ")" or bool(OPERAND.fullmatch(self.last()))
 
@@ -124,6 +131,19 @@ ROWS = [
     (r"an assignment is written with one `=`", lambda place: place.token() == place.last() == "="),
     (r"each assignment has one register", lambda place: place.token() == "=" and re.fullmatch("r[0-7]", place.last())),
     (r"an assignment is written `r0 = ..`", lambda place: place.is_in("`=`")),
+    (
+        r"one expression is written here: an operation is written before its operands, as in `add\(a, b\)`",
+        lambda place: place.ends_expression() and place.is_operand() and not place.begins_line(),
+    ),
+    (
+        r"one expression is written here: twice x is `shl\(x, 1\)`",
+        lambda place: is_number(place.last()) and place.is_operand() and not place.begins_line(),
+    ),
+    (
+        r"an operation is written before its operands, as in `if\(c, a, b\)`",
+        lambda place: place.token() == "if" and place.ends_expression() and not place.begins_line(),
+    ),
+    (r"the side comes before the expression, as in `send left 0`", lambda place: place.is_in("`left`", "`right`") and place.is_operand()),
     (r"an expression is assigned to a register, as in `r0 = if\(c, a, b\)`", lambda place: place.token() in OPERANDS),
     (r"an expression is missing here", lambda place: place.is_in("an expression")),
     (r"write a number in digits", lambda place: place.is_in("a number")),

@@ -116,6 +116,7 @@ def round_brackets(place):
     """Brackets of another form become round ones."""
     end = place.text.find("\n", place.at)
     line = place.text[place.at : end].replace("[", "(").replace("]", ")").replace("{", "(").replace("}", ")")
+    line = line.replace("<", "(").replace(">", ")")
     return [place.text[: place.at] + line + place.text[end:]]
 
 

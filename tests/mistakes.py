@@ -447,7 +447,7 @@ FILES = [
     (
         b"rounds 1\xef\xbc\x8cchannels 6\n",
         "line 1, column 9: a byte over 127; a program text is ASCII, in its comments too"
-        "; this is a character of full width: write the plain one",
+        "; this is a comma of full width: a plain one stands between operands alone",
     ),
     (
         b"p cnf 360 1200\n1 2 3 0\n",

@@ -27,6 +27,7 @@ SAME = "the same word stands right before it"
 SAME_LINE = "the same line stands right before it"
 SMALL = r"`\w+` is written with (?:small letters|a small letter)"
 MESSAGE = r"the message from the (?:left is `L`|right is `R`, and registers are `r0` to `r7`)"
+SIDE = "the side comes before the expression, as in `send left 0`"
 JOINED = "a blank is missing in it"
 WORD = re.compile("[A-Za-z0-9]+")
 
@@ -44,8 +45,8 @@ LEFT_OUT = {
     "start": [],
     "round": ["a round begins with the word `round`"],
     "send": ["a round begins with `send left` and `send right`"],
-    "left": ["`send left` comes first, then `send right`"],
-    "right": ["`send left` is followed by `send right`"],
+    "left": ["`send left` comes first, then `send right`", SIDE],
+    "right": ["`send left` is followed by `send right`", SIDE],
     "finish": ["each register is assigned once, then comes `finish`"],
 }
 # And where it was written twice, for all others `SAME`.

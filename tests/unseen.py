@@ -114,6 +114,30 @@ EXPRESSIONS = [
     ("", "expression"),
     ("[L, R]", "bracket"),
     ("{L}", "bracket"),
+    ("r0 == 5 ? 0 : r0", "eq("),
+    ("r0 == 1", "eq("),
+    ("0 if eq(r0, 5) else r0", "if("),
+    ("2 r0", "shl"),
+    ("r0 L", "before its operands"),
+    ("if(r0 =< L, 0, 1)", "le(a, b)"),
+    ("if(r0 => L, 0, 1)", "le(b, a)"),
+    ("if(r0 <> L, 0, 1)", "ne("),
+    ("if(L ~= R, 0, 1)", "ne("),
+    ("if(L /= R, 0, 1)", "ne("),
+    ("left.r0", "`L`"),
+    ("left(r0)", "`L`"),
+    ("%r0", "`r0`"),
+    ("*L", "no mark before it"),
+    ("r0--", "sub("),
+    ("--r0", "sub("),
+    ("r0 // 2", "shr"),
+    ("Left", "`L`"),
+    ("LEFT", "`L`"),
+    ("Right", "`R`"),
+    ("?", "an expression is written"),
+    ("if(r0 &lt; L, 0, 1)", "lt(a, b)"),
+    ("max(r0: L)", "commas"),
+    ("max<r0, L>", "operands are written in"),
 ]
 
 # Parts of `CV1`, their replacements, and the words.
@@ -238,6 +262,14 @@ PARTS = [
     ("rounds 1", "<html><body>rounds 1", "HTML"),
     ("rounds 1", "PK\x03\x04rounds 1", "packed"),
     ("rounds 1", "{\\rtf1 rounds 1", "text"),
+    ("send left 0", "send left -> 0", "no mark before it"),
+    ("send left 0", "send left <- 0", "no mark before it"),
+    ("channels 6", "channels 2^3", "number in digits"),
+    ("channels 6", "channels 3+3", "number in digits"),
+    ("channels 6", "channels 6-1", "number in digits"),
+    ("rounds 1", "rounds 1000000000000", "`rounds` is 0 to 4"),
+    ("r0 = id", "r0 => id", "r0 = .."),
+    ("r0 = id", "r0 != id", "r0 = .."),
 ]
 
 # What stands before `CV1`, and the words.
@@ -264,6 +296,8 @@ HEADS = [
     ("channels: 6\nrounds: 1\n", "`rounds`"),
     ("rounds=1 channels=6\n", "`=`"),
     ("%PDF-1.5\n", "PDF"),
+    ("* ", "leave out"),
+    ("$ cat programs/cv1.txt\n", "command"),
 ]
 
 # A table of three windows.
@@ -367,6 +401,15 @@ TABLE_PARTS = [
         "output",
     ),
     ("nbhd-table 2\nrounds 0 ids 3 channels 3 near 1 far 0\n0 : 0\n1 : 1\n2 : 2\nend", "table fault A1 at 0", "output"),
+    (" far 0", "", "`far` and a number come last"),
+    ("ids 3", "ids 2", "`end`"),
+    ("end\n", "3 : 0\nend\n", "`end`"),
+    ("1 : 1", "1 -> 1", "` : `"),
+    ("1 : 1", "1,1", "` : `"),
+    ("end\n", "end.\n", "`end`"),
+    ("far 0\n", "far 0 \n", "blank"),
+    ("near 1", "near 01", "zeros"),
+    ("ids 3", "ids  3", "single blanks"),
 ]
 
 # Parts of `ONE_CHANNEL`, their replacements, and the words.
@@ -423,6 +466,9 @@ REFUTATIONS = [
     (b"PK\x03\x04\x00", "packed"),
     ("BZh91AY", "packed"),
     ("5 0 1\n2 3 0\n", "ends with 0"),
+    ("5 0 1 2 3 0 done\n", "follows"),
+    ("5 0 1 2 3 0 c done\n", "line of its own"),
+    ("5 0 1 2 3 0\\n", "new line"),
 ]
 
 # Words of the command line, and the words of the note.
@@ -512,6 +558,11 @@ LINES = [
     ("judge --ids 8 --near two", "digits"),
     ("plan --ids 8", "--ring"),
     ("plan --ids 8 --ring 5,1,3,7 --segments 2", "run"),
+    ("judge --ids 8 'L(2,1)'", "--near"),
+    ("check /ids:8", "two minus signs"),
+    ("explain C4", "docs/FAULTS.md"),
+    ("check --ids 8 '<' cv1.txt", "shell"),
+    ("./nbhd judge --ids 8", "twice"),
 ]
 
 # A refutation of a table with three identifiers and two channels.

@@ -193,7 +193,7 @@ fn letters_advice(place: Place) -> &'static str {
     if let Some(advice) = side_in_expression(place) {
         return advice;
     }
-    if let Some(advice) = capital_advice(place.word) {
+    if let Some(advice) = capital_advice(place) {
         return advice;
     }
     match place.wanted {
@@ -224,11 +224,31 @@ fn side_in_expression(place: Place) -> Option<&'static str> {
     None
 }
 
+// Returns whether a keyword is the one that can follow, or no keyword.
+fn can_follow(name: &[u8], wanted: Expected) -> bool {
+    match name {
+        b"rounds" => wanted == Expected::This(Token::Rounds),
+        b"channels" => wanted == Expected::This(Token::Channels),
+        b"registers" => wanted == Expected::This(Token::Registers),
+        b"start" => wanted == Expected::This(Token::Start),
+        b"round" => wanted == Expected::This(Token::Round),
+        b"send" => wanted == Expected::This(Token::Send),
+        b"left" => wanted == Expected::This(Token::Left),
+        b"right" => wanted == Expected::This(Token::Right),
+        b"finish" => wanted == Expected::This(Token::Finish),
+        _ => true,
+    }
+}
+
 // Returns advice on a word of the language that is written with a capital.
-fn capital_advice(word: &[u8]) -> Option<&'static str> {
+fn capital_advice(place: Place) -> Option<&'static str> {
     for (name, advice) in &SMALL {
-        if name.eq_ignore_ascii_case(word) {
-            return Some(advice);
+        if name.eq_ignore_ascii_case(place.word) {
+            return Some(if can_follow(name, place.wanted) {
+                advice
+            } else {
+                ""
+            });
         }
     }
     None

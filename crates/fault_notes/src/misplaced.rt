@@ -193,6 +193,16 @@ fn is_second_operand(place: Place) -> bool {
     is_operand(place.word) && !matches!(place.next, b"=") && ends_line_of(place)
 }
 
+// Returns advice on an expression that follows another one, which ends with this token.
+fn second_advice(last: &[u8]) -> &'static str {
+    match last {
+        [b'0'..=b'9', ..] => "; one expression is written here: twice x is `shl(x, 1)`",
+        _ => {
+            "; one expression is written here: an operation is written before its operands, as in `add(a, b)`"
+        }
+    }
+}
+
 // Returns whether the first lines of a program have numbers.
 fn has_numbers(place: Place) -> bool {
     let is_number = matches!(place.word, [b'0'..=b'9', ..]);
@@ -200,6 +210,11 @@ fn has_numbers(place: Place) -> bool {
         && matches!(place.second, b"rounds");
     let is_bare = matches!(place.next, b"rounds") && matches!(place.second, [b'0'..=b'9', ..]);
     is_number && (is_marked || is_bare)
+}
+
+// Returns whether a word is an expression that is sent, and not meant as a side.
+fn is_sent(word: &[u8]) -> bool {
+    is_operand(word) && !matches!(word, b"L" | b"R")
 }
 
 // Returns advice on another word.
@@ -211,13 +226,11 @@ fn known_advice(place: Place) -> &'static str {
             operands_advice(place.before)
         }
         Expected::This(Token::Close) => OPEN,
-        _ if is_second_operand(place) => {
-            "; one expression is written here: an operation is written before its operands, as in `add(a, b)`"
-        }
+        _ if is_second_operand(place) => second_advice(place.last),
         Expected::This(Token::Rounds) if has_numbers(place) =>
             "; leave out the numbers of the lines",
         Expected::This(Token::Round) => round_advice(place),
-        Expected::This(Token::Left) | Expected::This(Token::Right) if is_operand(place.word) => {
+        Expected::This(Token::Left) | Expected::This(Token::Right) if is_sent(place.word) => {
             "; the side comes before the expression, as in `send left 0`"
         }
         Expected::This(Token::Finish) if matches!(place.word, b"round") => ROUNDS,
@@ -233,8 +246,9 @@ fn known_advice(place: Place) -> &'static str {
 // Returns advice on a word inside an expression.
 fn in_expression_advice(place: Place) -> &'static str {
     match (place.word, place.next) {
-        (b"left", b")" | b"," | b"." | b"send" | b"finish") => "; the message from the left is `L`",
-        (b"right", b")" | b"," | b"." | b"send" | b"finish") =>
+        (b"left", b"(" | b")" | b"," | b"." | b"send" | b"finish") =>
+            "; the message from the left is `L`",
+        (b"right", b"(" | b")" | b"," | b"." | b"send" | b"finish") =>
             "; the message from the right is `R`",
         _ => wanted_advice(place.wanted),
     }

@@ -21,6 +21,8 @@ const MARKDOWN: &str = "; leave out the marks around the program";
 
 const NO_BRACKETS: &str = "; a program begins with `rounds`, without brackets";
 
+const DIGITS: &str = "; write a number in digits";
+
 const WHOLE: &str = "; numbers are whole";
 
 const SIGN: &str = "; numbers have no sign";
@@ -123,22 +125,27 @@ const FIRST: [(&[u8], &str); 25] = [
 ];
 
 // Marks where a number is wanted.
-const BEFORE_NUMBERS: [(&[u8], &str); 7] = [
+const BEFORE_NUMBERS: [(&[u8], &str); 9] = [
     (b"'", UNQUOTED),
     (b"\"", UNQUOTED),
     (b"-", SIGN),
     (b"+", SIGN),
     (b":", "; a number has no mark before it"),
+    (b"//", COMMENT),
+    (b"/*", COMMENT),
     (b"[", UNBRACKETED),
     (b"{", UNBRACKETED),
 ];
 
 // Marks where an expression is wanted.
-const BEFORE_EXPRESSIONS: [(&[u8], &str); 24] = [
+const BEFORE_EXPRESSIONS: [(&[u8], &str); 28] = [
     (b"'", UNQUOTED),
     (b"\"", UNQUOTED),
     (b"@", NO_MARK_BEFORE),
-    (b"..", EXAMPLE),
+    (
+        b"..",
+        "; where `..` stands in an example, an expression is written",
+    ),
     (
         b"?",
         "; where `?` stands in an example, an expression is written",
@@ -147,11 +154,15 @@ const BEFORE_EXPRESSIONS: [(&[u8], &str); 24] = [
     (b"--", DECREMENT),
     (b"->", NO_MARK_BEFORE),
     (b"<-", NO_MARK_BEFORE),
-    (b"<=", NO_MARK_BEFORE),
+    (b"<!", COMMENT),
+    (b"<", NO_MARK_BEFORE),
+    (b">", NO_MARK_BEFORE),
     (b"%r", NO_REGISTER_MARK),
     (b"$r", NO_REGISTER_MARK),
     (b"%", NO_MARK_BEFORE),
     (b"/*", COMMENT),
+    (b"//", COMMENT),
+    (b"/", NO_MARK_BEFORE),
     (b"**", NO_MARK_BEFORE),
     (b"*", NO_MARK_BEFORE),
     (b"|", "; |a - b| is `sub(max(a, b), min(a, b))`"),
@@ -165,7 +176,7 @@ const BEFORE_EXPRESSIONS: [(&[u8], &str); 24] = [
 ];
 
 // Marks after a number of the header.
-const AFTER_NUMBERS: [(&[u8], &str); 10] = [
+const AFTER_NUMBERS: [(&[u8], &str); 23] = [
     (b"//", COMMENT),
     (b"/*", COMMENT),
     (b"--", COMMENT),
@@ -176,6 +187,19 @@ const AFTER_NUMBERS: [(&[u8], &str); 10] = [
     (b"*", ONE_NUMBER),
     (b"/", ONE_NUMBER),
     (b"-", ONE_NUMBER),
+    (b"<!--", COMMENT),
+    (b";;", COMMENT),
+    (b"%", COMMENT),
+    (b"\"\"\"", COMMENT),
+    (b"'''", COMMENT),
+    (b"```", MARKDOWN),
+    (b":", NO_MARK),
+    (b";", NO_MARK),
+    (b"\"", NO_TEXTS),
+    (b"'", NO_TEXTS),
+    (b"_", "; numbers and registers have no `_`"),
+    (b".", WHOLE),
+    (b"\\", "; lines go on without a mark"),
 ];
 
 // Characters in HTML for the marks of operations.
@@ -190,14 +214,18 @@ const ENTITIES: [(&[u8], &str); 7] = [
 ];
 
 // Marks where a comma or a closing bracket is wanted.
-const BETWEEN_OPERANDS: [(&[u8], &str); 3] = [
+const BETWEEN_OPERANDS: [(&[u8], &str); 7] = [
+    (b":=", ""),
+    (b"->", ""),
+    (b"<-", ""),
+    (b":", "; operands are separated by commas"),
     (b";", "; operands are separated by commas"),
     (b"]", OPERANDS),
     (b"}", OPERANDS),
 ];
 
 // Marks where an opening bracket is wanted.
-const BEFORE_OPERANDS: [(&[u8], &str); 2] = [(b"[", OPERANDS), (b"{", OPERANDS)];
+const BEFORE_OPERANDS: [(&[u8], &str); 3] = [(b"[", OPERANDS), (b"{", OPERANDS), (b"<", OPERANDS)];
 
 // Marks where the `=` of an assignment is wanted.
 const ASSIGNMENTS: [(&[u8], &str); 7] = [
@@ -211,7 +239,9 @@ const ASSIGNMENTS: [(&[u8], &str); 7] = [
 ];
 
 // Marks at the other places.
-const MARKS: [(&[u8], &str); 40] = [
+const MARKS: [(&[u8], &str); 42] = [
+    (b"~=", UNEQUAL),
+    (b"/=", UNEQUAL),
     (b"//", COMMENT),
     (b"/*", COMMENT),
     (b"--", COMMENT),
@@ -496,6 +526,7 @@ fn copied_advice(place: Place) -> Option<&'static str> {
         ),
         (_, [b'\\', b'n' | b'r' | b't', ..]) => Some(NO_FEED),
         (_, [b'.'] | [b'.', b'\n' | b'\r' | b' ', ..]) => Some(NO_MARK),
+        (Expected::Expression, [b'>', ..]) if place.before.ends_with(b"=") => Some(ASSIGNED),
         (_, [b'.', ..]) if matches!(place.last, b"L" | b"R") => Some(
             "; a message is one number, without parts",
         ),
@@ -532,17 +563,17 @@ pub(crate) fn mark_advice(place: Place) -> &'static str {
 fn placed_advice(rest: &[u8], wanted: Expected) -> Option<&'static str> {
     match wanted {
         Expected::This(Token::Rounds) => by_beginning(&FIRST, rest),
-        Expected::Number => by_beginning(&BEFORE_NUMBERS, rest),
+        Expected::Number => by_beginning(&BEFORE_NUMBERS, rest).or(Some(DIGITS)),
         Expected::Expression => by_beginning(&BEFORE_EXPRESSIONS, rest),
         Expected::This(Token::Comma) | Expected::This(Token::Close) => by_beginning(
             &BETWEEN_OPERANDS,
             rest,
         ),
         Expected::This(Token::Open) => by_beginning(&BEFORE_OPERANDS, rest),
-        Expected::This(Token::Equals) => by_beginning(&ASSIGNMENTS, rest),
+        Expected::This(Token::Equals) => by_beginning(&ASSIGNMENTS, rest).or(Some(ASSIGNED)),
         Expected::This(Token::Channels)
         | Expected::This(Token::Registers)
-        | Expected::This(Token::Start) => by_beginning(&AFTER_NUMBERS, rest),
+        | Expected::This(Token::Start) => by_beginning(&AFTER_NUMBERS, rest).or(Some("")),
         _ => None,
     }
 }

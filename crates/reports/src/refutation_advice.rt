@@ -82,7 +82,7 @@ fn step_advice(line: &[u8]) -> &'static str {
         return "; a comment is a line of its own, which begins with `c`";
     }
     if !is_of_steps(line) {
-        return "; a line has only numbers, and `d`, `i`, `c` or `m` behind the first one";
+        return "; nothing but numbers follows there, and behind the first one `d`, `i`, `c` or `m`";
     }
     if !line.ends_with(b" 0") {
         return "; each list ends with 0";

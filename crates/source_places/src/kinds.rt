@@ -78,7 +78,8 @@ fn advice_on(kind: TextKind) -> &'static str
 {
     match kind {
         TextKind::Program => "; this looks like a program: `nbhd judge` takes one",
-        TextKind::Table => "; the text of a table is for `nbhd audit`, `nbhd apply` and `nbhd migrate`",
+        TextKind::Table =>
+            "; the text of a table is for `nbhd audit`, `nbhd apply` and `nbhd migrate`",
         TextKind::Formula =>
             "; this is a formula for a solver, as in `cadical --no-binary FORMULA PROOF`",
         TextKind::Refutation => "; this looks like a refutation: `nbhd refute` takes one",

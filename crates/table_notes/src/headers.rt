@@ -6,11 +6,11 @@ use win_index::MAX_ROUNDS;
 
 const CHANNELS: &str = "; `channels` is 1 to 4096";
 
-const SECOND: &str = "; `ids` and a number come second in this line";
+const SECOND: &str = "; `ids` and a number come second";
 
-const THIRD: &str = "; `channels` and a number come third in this line";
+const THIRD: &str = "; `channels` and a number come third";
 
-const LAST: &str = "; `far` and a number come last in this line";
+const LAST: &str = "; `far` and a number come last";
 
 const MISFIT: &str =
     "; the numbers of this line do not fit one another: 0 rounds take 2 to 1024 `ids`, \
@@ -21,13 +21,13 @@ const MISFIT: &str =
 pub(crate) fn header_advice(is_first_version: bool, rest: &[u8]) -> &'static str {
     let Some((rounds, rest)) = field(rest, b"rounds ", b' ') else {
         return match field(rest, b"rounds ", b'\n') {
-            Some(_) => SECOND,
+            Some(_) => "; `ids` and a number come second, in this line",
             None => "; it begins with `rounds` and a number",
         };
     };
     let Some((_, rest)) = field(rest, b"ids ", b' ') else {
         return match field(rest, b"ids ", b'\n') {
-            Some(_) => THIRD,
+            Some(_) => "; `channels` and a number come third, in this line",
             None => SECOND,
         };
     };
@@ -61,8 +61,8 @@ fn second_advice(rest: &[u8]) -> &'static str {
     };
     let Some((near, rest)) = field(rest, b"near ", b' ') else {
         return match field(rest, b"near ", b'\n') {
-            Some(_) => LAST,
-            None => "; `near` and a number come fourth in this line",
+            Some(_) => "; `far` and a number come last, in this line",
+            None => "; `near` and a number come fourth",
         };
     };
     let Some((far, _)) = field(rest, b"far ", b'\n') else {

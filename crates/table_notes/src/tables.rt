@@ -196,14 +196,24 @@ fn bytes_advice(line: &[u8]) -> &'static str {
         [] => "; the line is blank",
         b"end" => "; lines are missing before it",
         _ if line.contains(&b'#') => "; there are no comments in tables",
-        [b' ', ..] => "; it begins with a blank",
         [.., b':'] | [.., b':', b' '] => "; its channel is missing",
+        [b' ', ..] => "; it begins with a blank",
+        [.., b' '] => "; it ends with a blank",
         [b'e' | b'E', b'n' | b'N', b'd' | b'D', ..] => "; the last line is `end`",
-        _ if !line.contains(&b':') => WINDOW,
-        _ if line.contains(&b',') => "; numbers are parted by single blanks",
-        _ if !is_of_window(line) => "; a number has only digits",
-        _ => blanks_advice(line).unwrap_or(WINDOW),
+        _ if line.contains(&b':') => numbers_advice(line),
+        _ => WINDOW,
     }
+}
+
+// Returns advice on the numbers of a line with a colon.
+fn numbers_advice(line: &[u8]) -> &'static str {
+    if line.contains(&b',') {
+        return "; numbers are parted by single blanks";
+    }
+    if line.iter().any(|byte| matches!(*byte, b'+' | b'-' | b'.')) {
+        return "; a number has only digits";
+    }
+    blanks_advice(line).unwrap_or(WINDOW)
 }
 
 // Returns the window of this shape with this number.

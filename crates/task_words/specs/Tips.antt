@@ -88,10 +88,12 @@ abbrev pub is_near_and_far : List ℕ → List ℕ → Bool
 is_near_and_far last word = (bytes_eq last (codes "--near") || bytes_eq (name_part word) (codes "--near"))
     && list_any (λ byte. byte == 44) word
 
--- whether a word is the name of a file: it has a dot, and is no option and not the value of one
+-- whether a word is the name of a file: it has a dot, is no option and not the value of one, does not follow `<`, and is
+-- not the program's
 abbrev pub is_file_name : List ℕ → List ℕ → Bool
 is_file_name last word =
-    not (begins_with_minus last) && (not (begins_with_minus word) && list_any (λ byte. byte == 46) word)
+    not (begins_with_minus last) && (not (bytes_eq last (codes "<")) && (not (bytes_eq word (codes "./nbhd"))
+    && (not (begins_with_minus word) && list_any (λ byte. byte == 46) word)))
 
 -- whether a word is an option that other programs have for the name of a file
 abbrev pub is_file_option : List ℕ → Bool

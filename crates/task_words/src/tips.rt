@@ -379,12 +379,16 @@ fn is_negative(word: &str) -> bool
     }
 }
 
-// Returns whether a word is the name of a file: it has a dot, and is no option and not the value of
-// one.
+// Returns whether a word is the name of a file: it has a dot, is no option and not the value of one,
+// does not follow the sign of the shell, and is not the program's.
 fn is_file_name(last: &str, word: &str) -> bool
     ensures { result ≡ tips.is_file_name last.now word.now }
 {
-    !begins_with_minus(last) && !begins_with_minus(word) && contains(word, b'.')
+    !begins_with_minus(last)
+        && last != "<"
+        && word != "./nbhd"
+        && !begins_with_minus(word)
+        && contains(word, b'.')
 }
 
 // Returns whether a word is the name of an option in capitals, or with a capital.

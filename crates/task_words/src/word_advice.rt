@@ -112,7 +112,7 @@ fn command_advice(word: &str, lower: &str) -> Option<&'static str> {
         return Some("nbhd: the names of commands have small letters");
     }
     match word.as_bytes() {
-        b"nbhd" => Some("nbhd: the name of the program stands twice"),
+        b"nbhd" | b"./nbhd" => Some("nbhd: the name of the program stands twice"),
         [b'0'..=b'9' | b'-', ..] | [] => Some(NO_COMMAND),
         name => Some(foreign_in(&COMMANDS, name)?.line(b"")),
     }
