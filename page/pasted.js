@@ -31,7 +31,8 @@ function show(places, why) {
   refused.replaceChildren(...coded(why));
   refused.hidden = why === "";
   byId("pasted-say").textContent = places ? `The channels from place 0 on: ${places.channels.join(" ")}.` : "";
-  const drawing = places && drawRing({ ...places, digits: 0, label: `Ring of ${places.ring.length} nodes by the table` });
+  const label = `Ring of ${places?.ring.length} nodes by the table`;
+  const drawing = places && drawRing({ ...places, digits: 0, label });
   byId("pasted-stage").replaceChildren(...(drawing ? [drawing.image] : []));
 }
 

@@ -1,4 +1,5 @@
-// Table: the windows with their channels, how often each channel occurs, and the text to save; below them a ring by another table.
+// Table: the windows with their channels, how often each channel occurs, and the text to save; below them a ring by
+// another table.
 
 import { ask, drop } from "./ask.js";
 import { byId, coded, html } from "./dom.js";

@@ -28,7 +28,8 @@ NUMBERED = b"nbhd-table 2\nrounds 1 ids 4 channels 24 near 1 far 0\n" + b"".join
 ) + b"end\n"
 PLACES_OF_3 = "   0    2    0\n   1    0    9\n   2    1 4095\n"
 
-# Rings, table texts, and the report. On the last ring the windows are 2 0 3, 0 3 1, 3 1 2 and 1 2 0, of the numbers 13, 4, 21 and 8.
+# Rings, table texts, and the report. On the ring of NUMBERED the windows are 2 0 3, 0 3 1, 3 1 2 and 1 2 0, which have
+# the numbers 13, 4, 21 and 8.
 APPLIED = [
     ("2,0,1", OLD_OF_3, PLACES_OF_3, 0),
     ("2,0,1", NEW_OF_3, PLACES_OF_3, 0),

@@ -408,7 +408,7 @@ Exit status:
 ]
 
 # The commands, each of which has three ways to ask for its help.
-COMMANDS = ["check", "print", "table", "judge", "run", "trace", "explain", "plan", "audit", "apply", "migrate", "formula", "refute"]
+COMMANDS = "check print table judge run trace explain plan audit apply migrate formula refute".split()
 
 # Other words that ask for help.
 HELP_WORDS = [

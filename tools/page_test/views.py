@@ -417,13 +417,19 @@ def pasted_table(page):
         page.fill("#pasted-text", text)
         page.fill("#pasted-ring", ring)
         said = f"The channels from place 0 on: {' '.join(line[2] for line in lines)}."
-        page.wait(f"the channels of {ring}", f"document.querySelector('#pasted-say').textContent === {json.dumps(said)}")
+        shown = f"document.querySelector('#pasted-say').textContent === {json.dumps(said)}"
+        page.wait(f"the channels of {ring}", shown)
         STEPS.equal(f"the nodes of {ring}", page.texts("#pasted-stage .identifier"), [line[1] for line in lines])
         STEPS.equal(f"their channels on {ring}", page.texts("#pasted-stage .badge-number"), [line[2] for line in lines])
-    refusals = (("#pasted-ring", "5,1,3", "ring fault G1"), ("#pasted-ring", "24,3,x", "x is no identifier"), ("#pasted-ring", "24,3,17,25", "ring fault G3"))
-    for place, value, said in (*refusals, ("#pasted-text", CV1, "table fault A1 at 0")):
+    for place, value, said in (
+        ("#pasted-ring", "5,1,3", "ring fault G1"),
+        ("#pasted-ring", "24,3,x", "x is no identifier"),
+        ("#pasted-ring", "24,3,17,25", "ring fault G3"),
+        ("#pasted-text", CV1, "table fault A1 at 0"),
+    ):
         page.fill(place, value)
-        page.wait(f"{said} of a pasted table", f"document.querySelector('#pasted-refused').textContent.startsWith('{said}')")
+        shown = f"document.querySelector('#pasted-refused').textContent.startsWith('{said}')"
+        page.wait(f"{said} of a pasted table", shown)
         STEPS.equal(f"{said}: no ring is shown", page.count("#pasted-stage .node"), 0)
 
 
@@ -650,4 +656,5 @@ def restart(page, server):
 
 
 VIEWS = [check, faults, typing, long_programs, run, large_rings, strip_of_steps, step_keys, windows_known, equal_channels, drag, edit_ring]
-VIEWS += [typed_rings, judge, judge_distances, table, pasted_table, long_tables, graph, links, step_of_link, exercises, examples]
+VIEWS += [typed_rings, judge, judge_distances, table, pasted_table, long_tables, graph, links, step_of_link, exercises]
+VIEWS += [examples]

@@ -67,9 +67,11 @@ apart_on_rings t s x channel good ring long has i lt =
     let r = t.rounds in
     let enough = ring.long in
     let one : channel_of t (window_around x r (i + 1)) ≡ Some (channel (right_of x i)) =
-    ap (channel_of t) (window_at x r (i + 1) (omega arith) (omega arith)) ∙ has (right_of x i) (mod-lt (i + 1) (omega arith)) in
+    ap (channel_of t) (window_at x r (i + 1) (omega arith) (omega arith))
+    ∙ has (right_of x i) (mod-lt (i + 1) (omega arith)) in
     let two : channel_of t (window_around x r (i + 2)) ≡ Some (channel (right_of x (right_of x i))) =
-    ap (channel_of t) (window_at x r (i + 2) (omega arith) (omega arith)) ∙ has ((i + 2) % length x) (mod-lt (i + 2) (omega arith))
+    ap (channel_of t) (window_at x r (i + 2) (omega arith) (omega arith))
+    ∙ has ((i + 2) % length x) (mod-lt (i + 2) (omega arith))
     ∙ ap (λ k. Some (channel k)) (sym (two_right x i lt)) in
     let here = good x i ring long lt in
     ((apart_of s.near _ _ _ _ (has i lt) one).0 here.0, (apart_of s.far _ _ _ _ (has i lt) two).0 here.1)

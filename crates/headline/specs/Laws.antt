@@ -19,8 +19,8 @@ ProgramTablesAreApart = (p : ProgramTree) (m : ℕ) (s : Separation) → IsApart
 -- apart
 abbrev pub TablesAreApartOnRings : Type 0
 TablesAreApartOnRings =
-    (t : ChannelTable) (s : Separation) (ring : List ℕ) (channel : ℕ → ℕ) → IsApartEverywhere t s → IsRing t.ids t.rounds ring
-    → 2 * t.rounds + 1 + extra s ≤ length ring
+    (t : ChannelTable) (s : Separation) (ring : List ℕ) (channel : ℕ → ℕ) → IsApartEverywhere t s
+    → IsRing t.ids t.rounds ring → 2 * t.rounds + 1 + extra s ≤ length ring
     → ((place : ℕ) → place < length ring → channel_of t (window_around ring t.rounds place) ≡ Some (channel place))
     → (place : ℕ) → place < length ring
     → (s.near ≤ abs_diff (channel place) (channel (right_of ring place)))

@@ -37,8 +37,8 @@ IsAnswerTo (Explain _ places place base) ids p = IsAnswerOnRing ids (length p.st
 IsAnswerTo (Plan _ places workers) ids p = IsAnswerOnRing ids (length p.steps) places.items (Says (place_lines p places.items) Done)
 IsAnswerTo _ ids p = λ r. ⊥
 
--- The report of another task: print is on a program text, audit, apply and migrate on a table text, a formula on no text at all,
--- and refute on a refutation.
+-- The report of another task: print is on a program text, audit, apply and migrate on a table text, a formula on no text
+-- at all, and refute on a refutation.
 abbrev pub IsTextReport : Task → List ℕ → Report → Type 0
 IsTextReport Print input r = IsPrintReport input r
 IsTextReport Audit input r = IsTableReport IsJudgement input r

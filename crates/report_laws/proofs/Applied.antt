@@ -18,14 +18,15 @@ no_yes : (status : Status) → status ≡ No → status ≡ Done → ⊥
 no_yes status is done = let both : No ≡ Done = sym is ∙ done in cc
 
 -- a judgement that is done is a yes
-yes_is_apart : (t : ChannelTable) (s : Separation) (r : Report) → r.status ≡ Done → IsJudgement t s r → IsApartEverywhere t s
+yes_is_apart : (t : ChannelTable) (s : Separation) (r : Report) → r.status ≡ Done → IsJudgement t s r
+    → IsApartEverywhere t s
 yes_is_apart t s r done (good apart says) = apart
 yes_is_apart t s r done (bad ring places channels witness says) = absurd (no_yes r.status says.1 done)
 
 module _ (texts_apart : TableTextsAreApart) (read : TableTextsAreRead) where
   -- the report on the text of a table is one on this table
-  on_table : (answer : ChannelTable → Separation → Report → Type 0) (input : List ℕ) (t : ChannelTable) (s : Separation) (r : Report)
-      → IsTextOf input t s → IsTableReport answer input r → answer t s r
+  on_table : (answer : ChannelTable → Separation → Report → Type 0) (input : List ℕ) (t : ChannelTable)
+      (s : Separation) (r : Report) → IsTextOf input t s → IsTableReport answer input r → answer t s r
   on_table answer input t s r text (table_refused refused) = absurd (told_or_refused read input r t s text refused)
   on_table answer input t s r text (of_table u d told said) =
       let same = one_telling texts_apart input u t d s told text in

@@ -54,7 +54,8 @@ abbrev refuse : List ℕ → Status → Reason → Report
 refuse bytes status cause = record { bytes = bytes; status = status; cause = Some cause }
 
 module _ (readable : ReadTextsAreReadable) (stops : ReadingStopsAtFirstFault) (no_fault : ReadableTextsHaveNoFault)
-    (judged : (t : ChannelTable) (s : Separation) → JudgeAnswer t s) (channels : TablesHaveChannels) (verdict : EachTextHasAVerdict) where
+    (judged : (t : ChannelTable) (s : Separation) → JudgeAnswer t s) (channels : TablesHaveChannels)
+    (verdict : EachTextHasAVerdict) where
   on_print : (input : List ℕ) → TextAnswer input → Some-report (report.IsPrintReport input)
   on_print input (inl read) = let said = say (printed read.0) Done in (said.0, in_print read.0 read.1 said.1)
   on_print input (inr met) =
@@ -185,7 +186,8 @@ module _ (readable : ReadTextsAreReadable) (stops : ReadingStopsAtFirstFault) (n
       go (Run m ring segments) =
           let x = ring.items in
           on_program m _ (λ p. on_list m (length p.steps) x _
-          (λ _. on_run p x segments (segments_answer segments (length x))) (ring_answer m (length p.steps) x)) input text
+          (λ _. on_run p x segments (segments_answer segments (length x))) (ring_answer m (length p.steps) x))
+          input text
       go (Trace m ring base) =
           let x = ring.items in
           on_program m _ (λ p. on_list m (length p.steps) x _ (λ _. say (trace_lines base p x) Done)

@@ -29,18 +29,20 @@ in_range One s told =
 in_range Two s told = told
 
 -- the channels of global rounds are those of a program's table
-channels_of_rounds : TableHasTheChannelsOfRounds → (p : ProgramTree) (m : ℕ) (ring : List ℕ) → IsRing m (length p.steps) ring
-    → HasChannels (table_of p m) ring (channel_at p ring)
+channels_of_rounds : TableHasTheChannelsOfRounds → (p : ProgramTree) (m : ℕ) (ring : List ℕ)
+    → IsRing m (length p.steps) ring → HasChannels (table_of p m) ring (channel_at p ring)
 unfolding table_of
 channels_of_rounds has p m ring is = λ place within. has p m ring place is within
 
 -- so the report on a list of identifiers by the table of a program is that of a plan
-by_rounds : TableHasTheChannelsOfRounds → OneListOfLines → (p : ProgramTree) (m : ℕ) (ring : List ℕ) (s : Separation) (r : Report)
-    → IsApplyAnswer ring (table_of p m) s r → IsAnswerOnRing m (length p.steps) ring (Says (place_lines p ring) Done) r
+by_rounds : TableHasTheChannelsOfRounds → OneListOfLines → (p : ProgramTree) (m : ℕ) (ring : List ℕ) (s : Separation)
+    (r : Report) → IsApplyAnswer ring (table_of p m) s r
+    → IsAnswerOnRing m (length p.steps) ring (Says (place_lines p ring) Done) r
 unfolding table_of
 by_rounds has one p m ring s r (ring_fault f first says) = ring_fault f first says
 by_rounds has one p m ring s r (on_ring is said) =
-    on_ring is (one (table_of p m) ring r.bytes (channel_at p ring) said.0 (channels_of_rounds has p m ring is), said.1, said.2)
+    let lines = one (table_of p m) ring r.bytes (channel_at p ring) said.0 (channels_of_rounds has p m ring is) in
+    on_ring is (lines, said.1, said.2)
 
 module _ (texts_apart : TableTextsAreApart) (read : TableTextsAreRead) where
   -- the report on a text of version 2 is that of its table and its separation
@@ -83,7 +85,8 @@ module _ (texts_apart : TableTextsAreApart) (read : TableTextsAreRead) where
   pub apply : ProgramTablesAreTables → TableHasTheChannelsOfRounds → OneListOfLines → ApplyOfTableIsPlan
   apply tables has one m v w near far ring input r q is_near is_far (program_refused (text_fault refused)) done again =
       absurd (not_done r.status refused.says.1 done)
-  apply tables has one m v w near far ring input r q is_near is_far (program_refused (check_fault p f reads first says)) done again =
+  apply tables has one m v w near far ring input r q is_near is_far
+      (program_refused (check_fault p f reads first says)) done again =
       absurd (not_done r.status says.1 done)
   apply tables has one m v w near far ring input r q is_near is_far (answered p reads accepted said) done again =
       let s : Separation = record { near = near; far = far } in
@@ -91,5 +94,6 @@ module _ (texts_apart : TableTextsAreApart) (read : TableTextsAreRead) where
       record { some_near = is_near.some; small_near = is_near.small; small_far = is_far } in
       let text : IsTableReport (IsApplyAnswer ring.items) (table_text (table_of p m) s) q =
       subst (λ (bytes : List ℕ). IsTableReport (IsApplyAnswer ring.items) bytes q) said.0 again in
-      answered p reads accepted
-      (by_rounds has one p m ring.items s q (on_text (IsApplyAnswer ring.items) (table_of p m) s q (tables p m reads.limits accepted) range text))
+      let table = tables p m reads.limits accepted in
+      let applied = on_text (IsApplyAnswer ring.items) (table_of p m) s q table range text in
+      answered p reads accepted (by_rounds has one p m ring.items s q applied)

@@ -181,12 +181,12 @@ ApplyOfTableIsPlan =
     IsReport (Table m v near far) input r → r.status ≡ Done
     → IsReport (Apply ring) r.bytes s → IsReport (Plan m ring w) input s
 
--- If the report of audit on a table text is a yes, the lines of apply on each ring with at least as many nodes as a tuple
--- have channels that are as far apart as the text asks.
+-- If the report of audit on a table text is a yes, the lines of apply on each ring with at least as many nodes as a
+-- tuple have channels that are as far apart as the text asks.
 abbrev pub AuditedChannelsAreApart : Type 0
 AuditedChannelsAreApart =
-    (input : List ℕ) (t : ChannelTable) (s : Separation) (ring : Vec ℕ Global) (judged r : Report) → IsTextOf input t s →
-    IsReport Audit input judged → judged.status ≡ Done
+    (input : List ℕ) (t : ChannelTable) (s : Separation) (ring : Vec ℕ Global) (judged r : Report)
+    → IsTextOf input t s → IsReport Audit input judged → judged.status ≡ Done
     → IsRing t.ids t.rounds ring.items → 2 * t.rounds + 1 + extra s ≤ length ring.items → IsReport (Apply ring) input r
     → (channel : ℕ → ℕ) × Says (lines_of_places ring.items channel) Done r
     × ((place : ℕ) → place < length ring.items

@@ -1,5 +1,5 @@
--- The command line of the program, as `clap` reads it: one of thirteen commands, then its options in any order, each with
--- one value.
+-- The command line of the program, as `clap` reads it: one of thirteen commands, then its options in any order, each
+-- with one value.
 use Rattle.std.specs.Prelude.{◌≡◌, ℕ, List, [], ◌∷◌, ◌++◌, Some, true, false, codes, pos}
 use Rattle.clap.specs.Words.{App, Rule, Shape, new_app, new_rule, shape_of}
 use Rattle.clap.specs.declared.builder.command.Command.{Command}

@@ -213,7 +213,8 @@ tip_after reads before last (word ∷ words) = option_or (tip_on reads before la
 -- what the command with this name reads
 abbrev pub input_of_command : List ℕ → Input
 input_of_command command =
-    if bytes_eq command (codes "audit") || (bytes_eq command (codes "apply") || bytes_eq command (codes "migrate")) then input.Table
+    if bytes_eq command (codes "audit") || (bytes_eq command (codes "apply") || bytes_eq command (codes "migrate"))
+    then input.Table
     else if bytes_eq command (codes "refute") then input.Refutation
     else if bytes_eq command (codes "formula") then input.Nothing
     else input.Program

@@ -45,7 +45,8 @@ HasBase values base = HasNumber values (codes "base") (radix base)
 -- the commands that take a ring
 abbrev pub IsRingName : Text → Type 0
 IsRingName name =
-    (name ≡ codes "run") ⊎ (name ≡ codes "trace") ⊎ (name ≡ codes "explain") ⊎ (name ≡ codes "plan") ⊎ (name ≡ codes "apply")
+    (name ≡ codes "run") ⊎ (name ≡ codes "trace") ⊎ (name ≡ codes "explain") ⊎ (name ≡ codes "plan")
+    ⊎ (name ≡ codes "apply")
 
 -- the value of `--ring` is not a ring text
 abbrev pub IsRingBad : List Row → Type 0

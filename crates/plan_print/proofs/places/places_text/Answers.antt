@@ -19,13 +19,14 @@ unfolding table_of
 rounds_of p m t is = λ i. (is i).rounds
 
 -- on a ring it has the channels of global rounds
-channels_of_rounds : TableHasTheChannelsOfRounds → (p : ProgramTree) (m : ℕ) (ring : List ℕ) → IsRing m (length p.steps) ring
-    → HasChannels (table_of p m) ring (channel_at p ring)
+channels_of_rounds : TableHasTheChannelsOfRounds → (p : ProgramTree) (m : ℕ) (ring : List ℕ)
+    → IsRing m (length p.steps) ring → HasChannels (table_of p m) ring (channel_at p ring)
 unfolding table_of
 channels_of_rounds has p m ring is = λ place within. has p m ring place is within
 
 pub table_lines-requires-clause-ids : goal.table_lines-requires-clause-ids
-table_lines-requires-clause-ids c = c.requires.ids ∙ sym (ids_of c.args.plan.now.program c.args.plan.now.ids c.args.table.now c.requires.table)
+table_lines-requires-clause-ids c =
+    c.requires.ids ∙ sym (ids_of c.args.plan.now.program c.args.plan.now.ids c.args.table.now c.requires.table)
 
 pub table_lines-requires-clause-rounds : goal.table_lines-requires-clause-rounds
 table_lines-requires-clause-rounds c =
@@ -36,6 +37,11 @@ returns c =
     let p = c.args.plan.now.program in
     let m = c.args.plan.now.ids in
     let ring = c.args.ring.now.places in
-    let valid : IsRing m (length p.steps) ring = rw (c.requires.ids, c.requires.rounds) at c.table_lines.ensures.valid in
-    let channels = subst (λ t. HasChannels t ring (channel_at p ring)) (sym c.requires.table) (channels_of_rounds c.table_has_the_channels_of_rounds.ensures p m ring valid) in
-    IfOk-weaker c.table_lines.result _ _ (λ text lines. c.one_list_of_lines.ensures c.args.table.now ring _ (channel_at p ring) lines channels) c.table_lines.ensures.lines
+    let valid : IsRing m (length p.steps) ring =
+    rw (c.requires.ids, c.requires.rounds) at c.table_lines.ensures.valid in
+    let channels =
+    subst (λ t. HasChannels t ring (channel_at p ring)) (sym c.requires.table)
+    (channels_of_rounds c.table_has_the_channels_of_rounds.ensures p m ring valid) in
+    IfOk-weaker c.table_lines.result _ _
+    (λ text lines. c.one_list_of_lines.ensures c.args.table.now ring _ (channel_at p ring) lines channels)
+    c.table_lines.ensures.lines

@@ -12,9 +12,11 @@ pub loop-place-preserved : goal.loop-place-preserved
 loop-place-preserved c =
     let ids = c.args.ring.now.places in
     let n = c.loop-place.place in
-    let line : ℕ → List ℕ = λ place. place_line place (slice_index ids place) (channel_there c.args.table.now ids place) in
+    let line : ℕ → List ℕ =
+    λ place. place_line place (slice_index ids place) (channel_there c.args.table.now ids place) in
     let id = get_or_from_slice_get ids n c.id.result 0 c.id.ensures in
-    let range : range_with_len 0 (n + 1) ≡ range_with_len 0 n ++ n ∷ [] = simp map-id at (map-range_with_len_more (λ k. k) 0 n n (omega arith)) in
+    let range : range_with_len 0 (n + 1) ≡ range_with_len 0 n ++ n ∷ [] =
+    simp map-id at (map-range_with_len_more (λ k. k) 0 n n (omega arith)) in
     c.in_ok-write_place.ensures
     ∙ (λ i. c.loop-place.invariant i ++ place_line n (sym id i) (or_zero (sym c.channel_of_place-channel.ensures i)))
     ∙ flat_map_more line [] (range_with_len 0 n) n
@@ -26,9 +28,11 @@ returns-clause-lines c =
     let t = c.args.table.now in
     let ring = c.args.ring.now.places in
     let is = same_shape _ _ t ring c.requires.ids c.requires.rounds c.len-place-end.ensures.valid in
-    let whole : c.loop-place.place ≡ length ring = omega (arith, c.len-place-end.ensures.value, c.loop-place-test.false, c.loop-place.auto) in
+    let whole : c.loop-place.place ≡ length ring =
+    omega (arith, c.len-place-end.ensures.value, c.loop-place-test.false, c.loop-place.auto) in
+    let line : ℕ → List ℕ = λ place. place_line place (slice_index ring place) (channel_there t ring place) in
     record {
       channel = channel_there t ring;
       has = has_there c.tables_have_channels.ensures t ring is;
-      are = c.loop-place.invariant ∙ ap (λ n. flat_map (λ place. place_line place (slice_index ring place) (channel_there t ring place)) (range_with_len 0 n)) whole;
+      are = c.loop-place.invariant ∙ ap (λ n. flat_map line (range_with_len 0 n)) whole;
     }

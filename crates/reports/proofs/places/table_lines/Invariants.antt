@@ -8,4 +8,6 @@ use Rattle.reports.proofs.places.table_lines.Given as goal
 abbrev pub invariant-loop-place : goal.invariant-loop-place
 invariant-loop-place l =
     string_bytes l.text
-    ≡ flat_map (λ place. place_line place (slice_index l.ring.places place) (channel_there l.table l.ring.places place)) (range_with_len 0 l.place)
+    ≡ flat_map
+    (λ place. place_line place (slice_index l.ring.places place) (channel_there l.table l.ring.places place))
+    (range_with_len 0 l.place)

@@ -7,4 +7,5 @@ pub returns-in-Err : goal.returns-in-Err
 returns-in-Err c =
     no_ring_reported c.args.table.now.ids c.args.table.now.rounds c.args.ids.items
     (IsOnRingByTable c.args.table.now c.args.ids.items)
-    c.in-Err.refusal c.report.result (rw (c.shape.ensures.ids, c.shape.ensures.rounds) at c.in-Err.ensures.refusal) c.report.ensures
+    c.in-Err.refusal c.report.result (rw (c.shape.ensures.ids, c.shape.ensures.rounds) at c.in-Err.ensures.refusal)
+    c.report.ensures

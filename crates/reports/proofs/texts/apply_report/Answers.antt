@@ -7,4 +7,5 @@ use Rattle.reports.proofs.texts.apply_report.Goals as goal
 pub returns-in-Ok : goal.returns-in-Ok
 returns-in-Ok c =
     let told : IsTextOf c.args.input.now c.in-Ok.table c.in-Ok._separation = search rules in
-    IfOk-weaker c.apply_answer.result _ _ (λ r said. of_table c.in-Ok.table c.in-Ok._separation told said) c.apply_answer.ensures
+    IfOk-weaker c.apply_answer.result _ _ (λ r said. of_table c.in-Ok.table c.in-Ok._separation told said)
+    c.apply_answer.ensures

@@ -19,7 +19,8 @@ ring_task-requires c =
 
 pub apply_task-requires : goal.apply_task-requires
 apply_task-requires c =
-    let named : c.args.name.now ≡ codes "apply" = c.in-Some-Apply.ensures.some ∙ ap name_of c.in-Some-Apply.field-0-is in
+    let named : c.args.name.now ≡ codes "apply" =
+    c.in-Some-Apply.ensures.some ∙ ap name_of c.in-Some-Apply.field-0-is in
     subst (λ (name : Text). IsOneOf command_line.subs name (rows_of (found_of c.args.options.now))) named c.requires
 
 pub formula_task-requires : goal.formula_task-requires
@@ -37,5 +38,7 @@ returns-in-Some-OnRing-clause-refused c =
 
 pub returns-in-Some-Apply-clause-refused : goal.returns-in-Some-Apply-clause-refused
 returns-in-Some-Apply-clause-refused c =
-    let named : c.args.name.now ≡ codes "apply" = c.in-Some-Apply.ensures.some ∙ ap name_of c.in-Some-Apply.field-0-is in
-    refused_ring c.apply_task.result c.args.name.now (rows_of (found_of c.args.options.now)) (subst IsRingName (sym named) is_apply_name) c.apply_task.ensures.refused
+    let named : c.args.name.now ≡ codes "apply" =
+    c.in-Some-Apply.ensures.some ∙ ap name_of c.in-Some-Apply.field-0-is in
+    refused_ring c.apply_task.result c.args.name.now (rows_of (found_of c.args.options.now))
+    (subst IsRingName (sym named) is_apply_name) c.apply_task.ensures.refused
