@@ -1,69 +1,117 @@
--- A tree shows each part of an expression.
-use Rattle.std.proofs.Common.{◌≡◌, ◌⊎◌, inl, inr, ⊎_elim, ℕ, zero, suc, ◌+◌, List, [], ◌∷◌, ◌++◌, length, map, slice_get, refl, sym, ap, subst, ◌∙◌, append-nil, length-append, zero-add, arith}
+-- A tree shows each part of an expression that counts, and each branch that is not taken.
+use Rattle.std.proofs.Common.{◌≡◌, ◌==◌, if◌then◌else◌, Bool, false, true, ◌⊎◌, inl, inr, ⊎_elim, ℕ, zero, suc, ◌+◌, List, [], ◌∷◌, ◌++◌, length, map, slice_get, refl, sym, ap, subst, ◌∙◌, append-nil, length-append, zero-add, arith}
 use Rattle.std.specs.List.{Contains, flat_map}
 use Rattle.std.proofs.lemmas.Grind.{flat_map-append}
 use Rattle.std.proofs.lemmas.List.{map-append}
 use Rattle.std.proofs.lemmas.List.Elements.{Contains-append_left, Contains-append_right, Contains-append_cases}
-use Rattle.node_program.specs.Term.{Term, One, Two, Choose, size}
+use Rattle.std.specs.Prelude.{Some}
+use Rattle.node_program.specs.Term.{Term, One, Two, Choose}
 use Rattle.node_program.specs.Value.{Env, value}
 use Rattle.numerals.specs.Numerals.{form_of}
 use Rattle.numerals.specs.declared.rows.Form.{Form}
 use Rattle.value_trees.specs.Trees.{part_values, part_line, part_lines}
-use Rattle.value_trees.specs.Parts.{Part, operands, IsPart, told_part}
+use Rattle.value_trees.specs.Parts.{Part, counting, untaken, Counts, IsUntaken, line_count, told_part}
 use Rattle.value_trees.specs.Laws.{TreesShowParts}
 
-abbrev at_depth : ℕ → Term → Part
-at_depth depth term = record { depth = depth; term = term }
+-- a part that counts, and a branch that is not taken
+abbrev counted : ℕ → Term → Part
+counted depth term = record { depth = depth; term = term; counts = true }
 
--- the parts of an expression in reading order
-abbrev nodes : ℕ → Term → List Part
-nodes d (One o x) = at_depth d (One o x) ∷ nodes (d + 1) x
-nodes d (Two o x y) = at_depth d (Two o x y) ∷ (nodes (d + 1) x ++ nodes (d + 1) y)
-nodes d (Choose c x y) = at_depth d (Choose c x y) ∷ (nodes (d + 1) c ++ (nodes (d + 1) x ++ nodes (d + 1) y))
-nodes d e = at_depth d e ∷ []
+abbrev folded : ℕ → Term → Part
+folded depth term = record { depth = depth; term = term; counts = false }
 
-nodes_are : (d : ℕ) (e : Term) → nodes d e ≡ at_depth d e ∷ flat_map (nodes (d + 1)) (operands e)
-nodes_are d (One o x) = simp append-nil refl
-nodes_are d (Two o x y) = simp append-nil refl
-nodes_are d (Choose c x y) = simp append-nil refl
-nodes_are d e = refl
+-- what the second branch x and the last one y of an `if` give, where the last one is taken if t
+abbrev branches : {X : Type 0} → Bool → X → X → List X → List X → List X
+branches t x y xs ys = if t then x ∷ ys else xs ++ y ∷ []
 
-count_is : (d : ℕ) (e : Term) → length (nodes d e) ≡ size e
-count_is d (One o x) = omega (arith, count_is (d + 1) x)
-count_is d (Two o x y) =
-    omega (arith, length-append (nodes (d + 1) x) (nodes (d + 1) y), count_is (d + 1) x, count_is (d + 1) y)
-count_is d (Choose c x y) =
+-- the parts of an expression that have a line, in reading order
+abbrev nodes : Env → ℕ → Term → List Part
+nodes env d (One o x) = counted d (One o x) ∷ nodes env (d + 1) x
+nodes env d (Two o x y) = counted d (Two o x y) ∷ (nodes env (d + 1) x ++ nodes env (d + 1) y)
+nodes env d (Choose c x y) =
+    counted d (Choose c x y)
+    ∷ (nodes env (d + 1) c
+    ++ branches (value c env == 0) (folded (d + 1) x) (folded (d + 1) y) (nodes env (d + 1) x) (nodes env (d + 1) y))
+nodes env d e = counted d e ∷ []
+
+branches_count : (t : Bool) (p q : Part) (ps qs : List Part) (m n : ℕ) → length ps ≡ m → length qs ≡ n →
+    length (branches t p q ps qs) ≡ 1 + (if t then n else m)
+branches_count true p q ps qs m n first last = omega (arith, last)
+branches_count false p q ps qs m n first last = omega (arith, length-append ps (q ∷ []), first)
+
+count_is : (env : Env) (d : ℕ) (e : Term) → length (nodes env d e) ≡ line_count env e
+count_is env d (One o x) = omega (arith, count_is env (d + 1) x)
+count_is env d (Two o x y) =
     omega (
       arith,
-      length-append (nodes (d + 1) c) (nodes (d + 1) x ++ nodes (d + 1) y),
-      length-append (nodes (d + 1) x) (nodes (d + 1) y),
-      count_is (d + 1) c,
-      count_is (d + 1) x,
-      count_is (d + 1) y,
+      length-append (nodes env (d + 1) x) (nodes env (d + 1) y),
+      count_is env (d + 1) x,
+      count_is env (d + 1) y,
     )
-count_is d e = refl
+count_is env d (Choose c x y) =
+    let t = value c env == 0 in
+    let xs = nodes env (d + 1) x in
+    let ys = nodes env (d + 1) y in
+    let p = folded (d + 1) x in
+    let q = folded (d + 1) y in
+    omega (
+      arith,
+      length-append (nodes env (d + 1) c) (branches t p q xs ys),
+      count_is env (d + 1) c,
+      branches_count t p q xs ys _ _ (count_is env (d + 1) x) (count_is env (d + 1) y),
+    )
+count_is env d e = refl
 
 -- their values and their lines are those of the tree
-values_are : (env : Env) (d : ℕ) (e : Term) → part_values env e ≡ map (λ p. value p.term env) (nodes d e)
+branches_mapped : {X Y : Type 0} (f : X → Y) (t : Bool) (p q : X) (ps qs : List X) →
+    branches t (f p) (f q) (map f ps) (map f qs) ≡ map f (branches t p q ps qs)
+branches_mapped f true p q ps qs = refl
+branches_mapped f false p q ps qs = sym (map-append f ps (q ∷ []))
+
+values_are : (env : Env) (d : ℕ) (e : Term) → part_values env e ≡ map (λ p. value p.term env) (nodes env d e)
 values_are env d (One o x) = λ i. value (One o x) env ∷ values_are env (d + 1) x i
 values_are env d (Two o x y) =
     (λ i. value (Two o x y) env ∷ (values_are env (d + 1) x i ++ values_are env (d + 1) y i)) ∙ simp map-append refl
 values_are env d (Choose c x y) =
+    let f : Part → ℕ = λ p. value p.term env in
+    let t = value c env == 0 in
+    let xs = nodes env (d + 1) x in
+    let ys = nodes env (d + 1) y in
+    let p = folded (d + 1) x in
+    let q = folded (d + 1) y in
     (λ i. value (Choose c x y) env
-    ∷ (values_are env (d + 1) c i ++ (values_are env (d + 1) x i ++ values_are env (d + 1) y i)))
-    ∙ simp map-append refl
+    ∷ (values_are env (d + 1) c i
+    ++ branches t (f p) (f q) (values_are env (d + 1) x i) (values_are env (d + 1) y i)))
+    ∙ (λ i. value (Choose c x y) env ∷ (map f (nodes env (d + 1) c) ++ branches_mapped f t p q xs ys i))
+    ∙ (λ i. value (Choose c x y) env ∷ sym (map-append f (nodes env (d + 1) c) (branches t p q xs ys)) i)
 values_are env d e = refl
 
+branches_told : (f : Part → List ℕ) (t : Bool) (p q : Part) (ps qs : List Part) →
+    (if t then f p ++ flat_map f qs else flat_map f ps ++ f q) ≡ flat_map f (branches t p q ps qs)
+branches_told f true p q ps qs = refl
+branches_told f false p q ps qs =
+    (λ i. flat_map f ps ++ sym (append-nil (f q)) i) ∙ sym (flat_map-append f ps (q ∷ []))
+
 lines_are : (form : Form) (env : Env) (d : ℕ) (e : Term) →
-    part_lines form env (d + 1) e ≡ flat_map (told_part form env) (nodes d e)
-lines_are form env d (One o x) = λ i. part_line form env (d + 1) (One o x) ++ lines_are form env (d + 1) x i
+    part_lines form env (d + 1) e ≡ flat_map (told_part form env) (nodes env d e)
+lines_are form env d (One o x) = λ i. part_line form env (d + 1) true (One o x) ++ lines_are form env (d + 1) x i
 lines_are form env d (Two o x y) =
-    (λ i. part_line form env (d + 1) (Two o x y) ++ (lines_are form env (d + 1) x i ++ lines_are form env (d + 1) y i))
+    (λ i. part_line form env (d + 1) true (Two o x y)
+    ++ (lines_are form env (d + 1) x i ++ lines_are form env (d + 1) y i))
     ∙ simp flat_map-append refl
 lines_are form env d (Choose c x y) =
-    (λ i. part_line form env (d + 1) (Choose c x y)
-    ++ (lines_are form env (d + 1) c i ++ (lines_are form env (d + 1) x i ++ lines_are form env (d + 1) y i)))
-    ∙ simp flat_map-append refl
+    let f = told_part form env in
+    let own = part_line form env (d + 1) true (Choose c x y) in
+    let t = value c env == 0 in
+    let xs = nodes env (d + 1) x in
+    let ys = nodes env (d + 1) y in
+    let p = folded (d + 1) x in
+    let q = folded (d + 1) y in
+    (λ i. own
+    ++ (lines_are form env (d + 1) c i
+    ++ (if t then f p ++ lines_are form env (d + 1) y i else lines_are form env (d + 1) x i ++ f q)))
+    ∙ (λ i. own ++ (flat_map f (nodes env (d + 1) c) ++ branches_told f t p q xs ys i))
+    ∙ (λ i. own ++ sym (flat_map-append f (nodes env (d + 1) c) (branches t p q xs ys)) i)
 lines_are form env d e = sym (append-nil _)
 
 -- elements of a list
@@ -74,74 +122,199 @@ cons_cases : {X : Type 0} (x : X) (xs : List X) (y : X) → Contains (x ∷ xs) 
 cons_cases x xs y (zero, within, is) = inl is
 cons_cases x xs y (suc k, within, is) = inr (k, omega arith, is)
 
-flat_in : {X Y : Type 0} (f : X → List Y) (xs : List X) (x : X) (y : Y) → Contains xs x → Contains (f x) y →
-    Contains (flat_map f xs) y
-flat_in f [] x y (k, within, is) has = absurd (omega arith)
-flat_in f (a ∷ xs) x y (zero, within, is) has =
-    Contains-append_left (f a) (flat_map f xs) y (subst (λ z. Contains (f z) y) (sym is) has)
-flat_in f (a ∷ xs) x y (suc k, within, is) has =
-    Contains-append_right (f a) (flat_map f xs) y (flat_in f xs x y (k, omega arith, is) has)
+none_in : {X : Type 0} (y : X) → Contains [] y → ⊥
+none_in y (k, within, is) = absurd (omega arith)
 
--- each part is one of them
-listed : (depth d : ℕ) (part e : Term) → IsPart depth part e → Contains (nodes d e) (at_depth (d + depth) part)
-listed zero d part e is =
-    let at' : d ≡ d + 0 = omega arith in
-    subst (Contains (nodes d e)) (λ i. at_depth (at' i) (sym is i))
-    (subst (λ ns. Contains ns (at_depth d e)) (sym (nodes_are d e)) (0, omega arith, refl))
-listed (suc depth) d part e (operand, among, is) =
-    let at' : d + 1 + depth ≡ d + suc depth = omega arith in
-    let others : List Part = flat_map (nodes (d + 1)) (operands e) in
-    let found = flat_in (nodes (d + 1)) (operands e) operand _ among (listed depth (d + 1) part operand is) in
-    subst (λ k. Contains (nodes d e) (at_depth k part)) at'
-    (subst (λ ns. Contains ns (at_depth (d + 1 + depth) part)) (sym (nodes_are d e)) (tail_in (at_depth d e) others _ found))
+only : {X : Type 0} (x y : X) → Contains (x ∷ []) y → x ≡ y
+only x y among = ⊎_elim (λ is. is) (λ none. absurd (none_in y none)) (cons_cases x [] y among)
 
--- and each of them is a part
-abbrev IsListed : ℕ → Term → Part → Type 0
-IsListed d e p = (depth : ℕ) × (p.depth ≡ d + depth) × IsPart depth p.term e
+first_in : {X : Type 0} (x : X) (xs : List X) → Contains (x ∷ xs) x
+first_in x xs = (0, omega arith, refl)
 
-itself : (d : ℕ) (e : Term) (p : Part) → at_depth d e ≡ p → IsListed d e p
-itself d e p is = (0, ap (λ m. m.depth) (sym is) ∙ omega arith, ap (λ m. m.term) (sym is))
+own_in : (env : Env) (d : ℕ) (e : Term) → Contains (nodes env d e) (counted d e)
+own_in env d (One o x) = first_in (counted d (One o x)) _
+own_in env d (Two o x y) = first_in (counted d (Two o x y)) _
+own_in env d (Choose c x y) = first_in (counted d (Choose c x y)) _
+own_in env d e = first_in (counted d e) []
 
-deeper : (d : ℕ) (e operand : Term) (p : Part) → Contains (operands e) operand → IsListed (d + 1) operand p →
-    IsListed d e p
-deeper d e operand p among is = (suc is.0, is.1 ∙ omega arith, (operand, among, is.2))
+-- the parts of the branch that is taken, and the other branch, are among those of both
+taken_in : (env : Env) (d : ℕ) (t : Bool) (x y : Term) (p : Part) → Contains (nodes env d (if t then y else x)) p →
+    Contains (branches t (folded d x) (folded d y) (nodes env d x) (nodes env d y)) p
+taken_in env d true x y p has = tail_in (folded d x) (nodes env d y) p has
+taken_in env d false x y p has = Contains-append_left (nodes env d x) (folded d y ∷ []) p has
 
-are_parts : (d : ℕ) (e : Term) (p : Part) → Contains (nodes d e) p → IsListed d e p
-are_parts d (One o x) p has =
+other_in : (env : Env) (d : ℕ) (t : Bool) (x y : Term) →
+    Contains (branches t (folded d x) (folded d y) (nodes env d x) (nodes env d y)) (folded d (if t then x else y))
+other_in env d true x y = first_in (folded d x) (nodes env d y)
+other_in env d false x y =
+    Contains-append_right (nodes env d x) (folded d y ∷ []) (folded d y) (first_in (folded d y) [])
+
+-- the parts of an operand that counts are among those of the expression
+below : (env : Env) (d : ℕ) (e operand : Term) (p : Part) → Contains (counting env e) operand →
+    Contains (nodes env (d + 1) operand) p → Contains (nodes env d e) p
+below env d (One o x) operand p among has =
+    tail_in (counted d (One o x)) (nodes env (d + 1) x) p
+    (subst (λ e. Contains (nodes env (d + 1) e) p) (sym (only x operand among)) has)
+below env d (Two o x y) operand p among has =
+    let xs = nodes env (d + 1) x in
+    let ys = nodes env (d + 1) y in
+    tail_in (counted d (Two o x y)) (xs ++ ys) p
+    (⊎_elim (λ is. Contains-append_left xs ys p (subst (λ e. Contains (nodes env (d + 1) e) p) (sym is) has))
+    (λ last.
+    Contains-append_right xs ys p (subst (λ e. Contains (nodes env (d + 1) e) p) (sym (only y operand last)) has))
+    (cons_cases x (y ∷ []) operand among))
+below env d (Choose c x y) operand p among has =
+    let t = value c env == 0 in
+    let cs = nodes env (d + 1) c in
+    let both =
+    branches t (folded (d + 1) x) (folded (d + 1) y) (nodes env (d + 1) x) (nodes env (d + 1) y) in
+    let taken : Term = if t then y else x in
+    tail_in (counted d (Choose c x y)) (cs ++ both) p
+    (⊎_elim (λ is. Contains-append_left cs both p (subst (λ e. Contains (nodes env (d + 1) e) p) (sym is) has))
+    (λ last.
+    Contains-append_right cs both p
+    (taken_in env (d + 1) t x y p
+    (subst (λ e. Contains (nodes env (d + 1) e) p) (sym (only taken operand last)) has)))
+    (cons_cases c (taken ∷ []) operand among))
+below env d e operand p among has = absurd (none_in operand among)
+
+-- and so is a branch that is not taken
+untaken_in : (env : Env) (d : ℕ) (e part : Term) → Contains (untaken env e) part →
+    Contains (nodes env d e) (folded (d + 1) part)
+untaken_in env d (Choose c x y) part among =
+    let t = value c env == 0 in
+    let cs = nodes env (d + 1) c in
+    let both =
+    branches t (folded (d + 1) x) (folded (d + 1) y) (nodes env (d + 1) x) (nodes env (d + 1) y) in
+    let other : Term = if t then x else y in
+    subst (λ e. Contains (nodes env d (Choose c x y)) (folded (d + 1) e)) (only other part among)
+    (tail_in (counted d (Choose c x y)) (cs ++ both) (folded (d + 1) other)
+    (Contains-append_right cs both (folded (d + 1) other) (other_in env (d + 1) t x y)))
+untaken_in env d e part among = absurd (none_in part among)
+
+-- the parts of what counts are among those of the expression
+far_below : (env : Env) (depth d : ℕ) (part e : Term) (p : Part) → Counts env depth part e →
+    Contains (nodes env (d + depth) part) p → Contains (nodes env d e) p
+far_below env zero d part e p is has =
+    let same : d + 0 ≡ d = omega arith in
+    subst (λ ns. Contains ns p) (λ i. nodes env (same i) (is i)) has
+far_below env (suc depth) d part e p (operand, among, is) has =
+    let same : d + suc depth ≡ d + 1 + depth = omega arith in
+    below env d e operand p among
+    (far_below env depth (d + 1) part operand p is (subst (λ k. Contains (nodes env k part) p) same has))
+
+-- the part is listed as what it is
+counts_listed : (env : Env) (depth d : ℕ) (part e : Term) → Counts env depth part e →
+    Contains (nodes env d e) (counted (d + depth) part)
+counts_listed env depth d part e is =
+    far_below env depth d part e (counted (d + depth) part) is (own_in env (d + depth) part)
+
+untaken_listed : (env : Env) (depth d : ℕ) (part e : Term) → IsUntaken env depth part e →
+    Contains (nodes env d e) (folded (d + depth) part)
+untaken_listed env zero d part e is = absurd is
+untaken_listed env (suc depth) d part e (choice, is, among) =
+    let same : d + depth + 1 ≡ d + suc depth = omega arith in
+    subst (λ k. Contains (nodes env d e) (folded k part)) same
+    (far_below env depth d choice e (folded (d + depth + 1) part) is (untaken_in env (d + depth) choice part among))
+
+-- what a listed part is
+abbrev Stands : Env → Bool → ℕ → Term → Term → Type 0
+Stands env true depth part e = Counts env depth part e
+Stands env false depth part e = IsUntaken env depth part e
+
+abbrev IsListed : Env → ℕ → Term → Part → Type 0
+IsListed env d e p = (depth : ℕ) × (p.depth ≡ d + depth) × Stands env p.counts depth p.term e
+
+itself : (env : Env) (d : ℕ) (e : Term) (p : Part) → counted d e ≡ p → IsListed env d e p
+itself env d e p is = subst (IsListed env d e) is (0, omega arith, refl)
+
+one_deeper : (env : Env) (counts : Bool) (depth : ℕ) (part operand e : Term) → Contains (counting env e) operand →
+    Stands env counts depth part operand → Stands env counts (suc depth) part e
+one_deeper env true depth part operand e among is = (operand, among, is)
+one_deeper env false zero part operand e among is = absurd is
+one_deeper env false (suc depth) part operand e among (choice, is, other) = (choice, (operand, among, is), other)
+
+deeper : (env : Env) (d : ℕ) (e operand : Term) (p : Part) → Contains (counting env e) operand →
+    IsListed env (d + 1) operand p → IsListed env d e p
+deeper env d e operand p among is =
+    (suc is.0, is.1 ∙ omega arith, one_deeper env p.counts is.0 p.term operand e among is.2)
+
+other_listed : (env : Env) (d : ℕ) (e part : Term) (p : Part) → Contains (untaken env e) part →
+    folded (d + 1) part ≡ p → IsListed env d e p
+other_listed env d e part p among is = subst (IsListed env d e) is (1, refl, (e, refl, among))
+
+-- a part of the branches is the one that is not taken, or of the one that is
+branch_cases : (env : Env) (d : ℕ) (t : Bool) (x y : Term) (p : Part) →
+    Contains (branches t (folded d x) (folded d y) (nodes env d x) (nodes env d y)) p →
+    (folded d (if t then x else y) ≡ p) ⊎ Contains (nodes env d (if t then y else x)) p
+branch_cases env d true x y p has = cons_cases (folded d x) (nodes env d y) p has
+branch_cases env d false x y p has =
+    ⊎_elim (λ in_x. inr in_x) (λ last. inl (only (folded d y) p last))
+    (Contains-append_cases (nodes env d x) (folded d y ∷ []) p has)
+
+taken_listed : (env : Env) (d : ℕ) (t : Bool) (x y : Term) (p : Part) →
+    (Contains (nodes env d x) p → IsListed env d x p) → (Contains (nodes env d y) p → IsListed env d y p) →
+    Contains (nodes env d (if t then y else x)) p → IsListed env d (if t then y else x) p
+taken_listed env d true x y p first last has = last has
+taken_listed env d false x y p first last has = first has
+
+are_parts : (env : Env) (d : ℕ) (e : Term) (p : Part) → Contains (nodes env d e) p → IsListed env d e p
+are_parts env d (One o x) p has =
     let e : Term = One o x in
-    ⊎_elim (itself d e p) (λ in_x. deeper d e x p (0, omega arith, refl) (are_parts (d + 1) x p in_x))
-    (cons_cases (at_depth d e) (nodes (d + 1) x) p has)
-are_parts d (Two o x y) p has =
+    ⊎_elim (itself env d e p) (λ in_x. deeper env d e x p (0, omega arith, refl) (are_parts env (d + 1) x p in_x))
+    (cons_cases (counted d e) (nodes env (d + 1) x) p has)
+are_parts env d (Two o x y) p has =
     let e : Term = Two o x y in
-    ⊎_elim (itself d e p) (λ later.
-    ⊎_elim (λ in_x. deeper d e x p (0, omega arith, refl) (are_parts (d + 1) x p in_x))
-    (λ in_y. deeper d e y p (1, omega arith, refl) (are_parts (d + 1) y p in_y))
-    (Contains-append_cases (nodes (d + 1) x) (nodes (d + 1) y) p later))
-    (cons_cases (at_depth d e) (nodes (d + 1) x ++ nodes (d + 1) y) p has)
-are_parts d (Choose c x y) p has =
+    ⊎_elim (itself env d e p) (λ later.
+    ⊎_elim (λ in_x. deeper env d e x p (0, omega arith, refl) (are_parts env (d + 1) x p in_x))
+    (λ in_y. deeper env d e y p (1, omega arith, refl) (are_parts env (d + 1) y p in_y))
+    (Contains-append_cases (nodes env (d + 1) x) (nodes env (d + 1) y) p later))
+    (cons_cases (counted d e) (nodes env (d + 1) x ++ nodes env (d + 1) y) p has)
+are_parts env d (Choose c x y) p has =
     let e : Term = Choose c x y in
-    let others : List Part = nodes (d + 1) x ++ nodes (d + 1) y in
-    ⊎_elim (itself d e p) (λ later.
-    ⊎_elim (λ in_c. deeper d e c p (0, omega arith, refl) (are_parts (d + 1) c p in_c)) (λ last.
-    ⊎_elim (λ in_x. deeper d e x p (1, omega arith, refl) (are_parts (d + 1) x p in_x))
-    (λ in_y. deeper d e y p (2, omega arith, refl) (are_parts (d + 1) y p in_y))
-    (Contains-append_cases (nodes (d + 1) x) (nodes (d + 1) y) p last))
-    (Contains-append_cases (nodes (d + 1) c) others p later))
-    (cons_cases (at_depth d e) (nodes (d + 1) c ++ others) p has)
-are_parts d e p has = ⊎_elim (itself d e p) (λ none. absurd (omega (arith, none.1))) (cons_cases (at_depth d e) [] p has)
+    let t = value c env == 0 in
+    let taken : Term = if t then y else x in
+    let other : Term = if t then x else y in
+    let both =
+    branches t (folded (d + 1) x) (folded (d + 1) y) (nodes env (d + 1) x) (nodes env (d + 1) y) in
+    ⊎_elim (itself env d e p) (λ later.
+    ⊎_elim (λ in_c. deeper env d e c p (0, omega arith, refl) (are_parts env (d + 1) c p in_c)) (λ branch.
+    ⊎_elim (other_listed env d e other p (0, omega arith, refl)) (λ in_taken.
+    deeper env d e taken p (1, omega arith, refl)
+    (taken_listed env (d + 1) t x y p (are_parts env (d + 1) x p) (are_parts env (d + 1) y p) in_taken))
+    (branch_cases env (d + 1) t x y p branch))
+    (Contains-append_cases (nodes env (d + 1) c) both p later))
+    (cons_cases (counted d e) (nodes env (d + 1) c ++ both) p has)
+are_parts env d e p has =
+    ⊎_elim (itself env d e p) (λ none. absurd (none_in p none)) (cons_cases (counted d e) [] p has)
+
+-- the first is the whole expression
+first_is : (env : Env) (e : Term) → slice_get (nodes env 0 e) 0 ≡ Some (counted 0 e)
+first_is env (One o x) = refl
+first_is env (Two o x y) = refl
+first_is env (Choose c x y) = refl
+first_is env e = refl
 
 pub trees_show : TreesShowParts
 trees_show b env e = record {
-  parts = nodes 0 e;
-  are_parts = λ depth term. (
+  parts = nodes env 0 e;
+  are_counting = λ depth term. (
     λ has.
-        let is = are_parts 0 e (at_depth depth term) has in
-        subst (λ k. IsPart k term e) (sym (is.1 ∙ zero-add is.0)) is.2,
-    λ is. subst (λ k. Contains (nodes 0 e) (at_depth k term)) (zero-add depth) (listed depth 0 term e is),
+        let is = are_parts env 0 e (counted depth term) has in
+        subst (λ k. Counts env k term e) (sym (is.1 ∙ zero-add is.0)) is.2,
+    λ is.
+        subst (λ k. Contains (nodes env 0 e) (counted k term)) (zero-add depth) (counts_listed env depth 0 term e is),
   );
-  as_many = count_is 0 e;
-  first = ap (λ ns. slice_get ns 0) (nodes_are 0 e);
+  are_untaken = λ depth term. (
+    λ has.
+        let is = are_parts env 0 e (folded depth term) has in
+        subst (λ k. IsUntaken env k term e) (sym (is.1 ∙ zero-add is.0)) is.2,
+    λ is.
+        subst (λ k. Contains (nodes env 0 e) (folded k term)) (zero-add depth) (untaken_listed env depth 0 term e is),
+  );
+  as_many = count_is env 0 e;
+  first = first_is env e;
   whole =
       lines_are (form_of b (part_values env e)) env 0 e
-      ∙ ap (λ vs. flat_map (told_part (form_of b vs) env) (nodes 0 e)) (values_are env 0 e);
+      ∙ ap (λ vs. flat_map (told_part (form_of b vs) env) (nodes env 0 e)) (values_are env 0 e);
 }

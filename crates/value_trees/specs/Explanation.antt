@@ -1,4 +1,4 @@
--- How a place of a ring computes in global rounds: each expression of the program with the value of every part.
+-- How a place of a ring computes in global rounds: each expression of the program as a tree.
 use Rattle.std.specs.Prelude.{ℕ, ◌+◌, ◌==◌, if◌then◌else◌, List, [], ◌∷◌, ◌++◌, codes, length, slice_index}
 use Rattle.std.specs.Fmt.{decimal}
 use Rattle.node_program.specs.Term.{Term, Round, ProgramTree}

@@ -1,4 +1,5 @@
--- The laws of this crate: a tree shows each part of an expression, and the value at its root is what a trace and a run show.
+-- The laws of this crate: a tree shows each part of an expression that counts, and the value at its root is what a trace
+-- and a run show.
 use Rattle.std.specs.Prelude.{◌≡◌, ℕ, ◌+◌, ◌<◌, List, ◌++◌, codes, length, slice_get, slice_index, Some}
 use Rattle.std.specs.Fmt.{decimal}
 use Rattle.node_program.specs.Term.{Term, Round, ProgramTree}
@@ -10,7 +11,7 @@ use Rattle.value_trees.specs.Parts.{IsTree}
 use Rattle.value_trees.specs.Explanation.{before_messages, explanation, phase, with_messages}
 use Rattle.numerals.specs.declared.base.Base.{Base}
 
--- the tree of an expression shows each of its parts
+-- the tree of an expression shows each of its parts that counts, and where a branch is not taken
 abbrev pub TreesShowParts : Type 0
 TreesShowParts = (b : Base) (env : Env) (e : Term) → IsTree b env e (tree_lines b env e)
 

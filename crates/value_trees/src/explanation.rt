@@ -27,8 +27,8 @@ struct Explained {
 }
 
 /// Returns how a place of a ring computes by a plan: each expression of the program in the order of
-/// the text, under a heading, as a tree with the value of every part. The ring must have the plan's
-/// number of identifiers. Fails with `OutOfMemory` if memory was refused.
+/// the text, under a heading, as a tree with the value of every part that counts. The ring must have
+/// the plan's number of identifiers. Fails with `OutOfMemory` if memory was refused.
 pub fn explanation_text(
     alloc: Global,
     base: Base,

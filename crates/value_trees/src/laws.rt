@@ -1,9 +1,10 @@
 //! Laws of explanations and traces.
 ghost use Rattle.value_trees.specs.Laws as law;
 
-/// A tree has a line for each part of its expression, as deep as the part is, with its value. That
-/// of the whole expression is the register which is traced, the message which is sent, or the
-/// channel which a run prints.
+/// A tree has a line for each part of its expression that counts, as deep as the part is, with its
+/// value, and one line for each branch of an `if` that is not taken. The value of the whole
+/// expression is the register which is traced, the message which is sent, or the channel which a
+/// run prints.
 #[tactic(auto, using(crate::proofs::PartLines::trees_show, crate::proofs::Roots::starts, crate::proofs::Roots::assigned, crate::proofs::Roots::left_is_sent, crate::proofs::Roots::right_is_sent, crate::proofs::Roots::finished))]
 pub fn roots_are_traced()
     ensures trees { law.TreesShowParts }

@@ -1,5 +1,5 @@
 //! A ring on one thread: its trace, and how one of its places computes, with each expression of a
-//! program as a tree that has the value of every part.
+//! program as a tree that has the value of every part that counts.
 #![tactic(auto)]
 
 mod explanation;
