@@ -154,19 +154,20 @@ EXPLANATIONS = [
     (
         "explain --ids 8 --ring 5,1,3,7 --place 0",
         CV1,
-        "start r0\n id 5\nround 1 left\n 0 0\nround 1 right\n r0 5\nround 1 r0\n add 2\n  shl 2\n   ldb 1\n    r0 5\n    L 7\n   1 1\n"
-        "  bit 0\n   r0 5\n   ldb 1\n    r0 5\n    L 7\nfinish\n r0 2\n",
+        "start r0\n id 5\nround 1 left, registers of start\n 0 0\nround 1 right, registers of start\n r0 5\n"
+        "round 1 r0, registers of start\n add 2\n  shl 2\n   ldb 1\n    r0 5\n    L 7\n   1 1\n"
+        "  bit 0\n   r0 5\n   ldb 1\n    r0 5\n    L 7\nfinish, registers of round 1\n r0 2\n",
         0,
     ),
     (
         "explain --ids 8 --ring 5,1,3,7 --place 0 --base 2",
         CV1,
-        "start r0\n id 101\nround 1 left\n 0 0\nround 1 right\n r0 101\n"
-        "round 1 r0\n add 010\n  shl 010\n   ldb 001\n    r0 101\n    L 111\n   1 001\n"
-        "  bit 000\n   r0 101\n   ldb 001\n    r0 101\n    L 111\nfinish\n r0 10\n",
+        "start r0\n id 101\nround 1 left, registers of start\n 0 0\nround 1 right, registers of start\n r0 101\n"
+        "round 1 r0, registers of start\n add 010\n  shl 010\n   ldb 001\n    r0 101\n    L 111\n   1 001\n"
+        "  bit 000\n   r0 101\n   ldb 001\n    r0 101\n    L 111\nfinish, registers of round 1\n r0 10\n",
         0,
     ),
-    ("explain --ids 2 --ring 0,1 --place 1", ZERO, "start r0\n id 1\nfinish\n 0 0\n", 0),
+    ("explain --ids 2 --ring 0,1 --place 1", ZERO, "start r0\n id 1\nfinish, registers of start\n 0 0\n", 0),
 ]
 
 # A program is printed whether or not it is accepted.

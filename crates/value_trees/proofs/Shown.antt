@@ -1,7 +1,6 @@
 -- An explanation has the tree of each expression, with its value at the root.
 use Rattle.std.proofs.Common.{◌≡◌, ℕ, zero, suc, ◌+◌, ◌<◌, List, [], ◌∷◌, ◌++◌, codes, length, sym, ap, subst, ◌∙◌, append_assoc, append-nil, arith}
 use Rattle.std.specs.Prelude.{Some, slice_get, slice_index}
-use Rattle.std.specs.Fmt.{decimal}
 use Rattle.std.proofs.lemmas.Option.{none-some, same_Some}
 use Rattle.node_program.specs.Term.{Term, Round, ProgramTree}
 use Rattle.node_program.specs.Node.{knowing_id, to_left, to_right}
@@ -9,7 +8,7 @@ use Rattle.node_program.specs.GlobalRounds.{state, channels_of}
 use Rattle.node_program.specs.Value.{Env, value}
 use Rattle.numerals.specs.declared.base.Base.{Base}
 use Rattle.value_trees.specs.Trees.{tree_lines}
-use Rattle.value_trees.specs.Explanation.{headed, phase, assigned_lines, round_trees, rounds_trees, explanation, before_messages, with_messages}
+use Rattle.value_trees.specs.Explanation.{headed, register_heading, side_heading, finish_heading, assigned_lines, round_trees, rounds_trees, explanation, before_messages, with_messages}
 use Rattle.value_trees.specs.Laws.{Shows, ExplanationsShowTraces}
 use Rattle.value_trees.proofs.PartLines.{trees_show}
 use Rattle.value_trees.proofs.Roots.{starts, assigned, left_is_sent, right_is_sent, finished}
@@ -55,19 +54,19 @@ shown b heading env e n text is has = record {
 }
 
 assigned_has : (r : ℕ) (b : Base) (env : Env) (k : ℕ) (es : List Term) (j : ℕ) (e : Term) → slice_get es j ≡ Some e
-    → Has (headed (phase r ++ (codes " r" ++ decimal (k + j))) b env e) (assigned_lines r b env k es)
+    → Has (headed (register_heading r (k + j)) b env e) (assigned_lines r b env k es)
 assigned_has r b env k [] j e is = absurd (none-some e is)
 assigned_has r b env k (d ∷ ds) zero e is =
-    let own = headed (phase r ++ (codes " r" ++ decimal k)) b env d in
+    let own = headed (register_heading r k) b env d in
     let has : Has own (assigned_lines r b env k (d ∷ ds)) = on_left own own (assigned_lines r b env (k + 1) ds) (itself own) in
     let same : k ≡ k + 0 = omega arith in
     subst (λ h. Has h (assigned_lines r b env k (d ∷ ds)))
-    (λ i. headed (phase r ++ (codes " r" ++ decimal (same i))) b env (same_Some d e is i)) has
+    (λ i. headed (register_heading r (same i)) b env (same_Some d e is i)) has
 assigned_has r b env k (d ∷ ds) (suc j) e is =
     let next : k + 1 + j ≡ k + suc j = omega arith in
-    let own = headed (phase r ++ (codes " r" ++ decimal k)) b env d in
+    let own = headed (register_heading r k) b env d in
     on_right _ own (assigned_lines r b env (k + 1) ds)
-    (subst (λ m. Has (headed (phase r ++ (codes " r" ++ decimal m)) b env e) (assigned_lines r b env (k + 1) ds)) next (assigned_has r b env (k + 1) ds j e is))
+    (subst (λ m. Has (headed (register_heading r m) b env e) (assigned_lines r b env (k + 1) ds)) next (assigned_has r b env (k + 1) ds j e is))
 
 rounds_has : (b : Base) (p : ProgramTree) (x : List ℕ) (i k : ℕ) (ss : List Round) (r : ℕ) (s : Round) → slice_get ss r ≡ Some s
     → Has (round_trees b p x i (k + r) s) (rounds_trees b p x i k ss)
@@ -84,10 +83,10 @@ rounds_has b p x i k (d ∷ ds) (suc r) s is =
 
 -- the same from the first on
 register_has : (r : ℕ) (b : Base) (env : Env) (es : List Term) (j : ℕ) (e : Term) → slice_get es j ≡ Some e
-    → Has (headed (phase r ++ (codes " r" ++ decimal j)) b env e) (assigned_lines r b env 0 es)
+    → Has (headed (register_heading r j) b env e) (assigned_lines r b env 0 es)
 register_has r b env es j e is =
     let same : 0 + j ≡ j = omega arith in
-    subst (λ m. Has (headed (phase r ++ (codes " r" ++ decimal m)) b env e) (assigned_lines r b env 0 es)) same (assigned_has r b env 0 es j e is)
+    subst (λ m. Has (headed (register_heading r m) b env e) (assigned_lines r b env 0 es)) same (assigned_has r b env 0 es j e is)
 
 step_has : (b : Base) (p : ProgramTree) (x : List ℕ) (i : ℕ) (ss : List Round) (r : ℕ) (s : Round) → slice_get ss r ≡ Some s
     → Has (round_trees b p x i r s) (rounds_trees b p x i 0 ss)
@@ -104,14 +103,14 @@ module _ (b : Base) (p : ProgramTree) (x : List ℕ) (i : ℕ) where
   middle = rounds_trees b p x i 0 p.steps
 
   abbrev end : List ℕ
-  end = headed (codes "finish") b (before_messages p x i (length p.steps)) p.finish
+  end = headed (finish_heading (length p.steps)) b (before_messages p x i (length p.steps)) p.finish
 
   -- those of a round
   abbrev left_tree : ℕ → Round → List ℕ
-  left_tree r s = headed (phase (r + 1) ++ codes " left") b (before_messages p x i r) s.left
+  left_tree r s = headed (side_heading (codes " left") (r + 1)) b (before_messages p x i r) s.left
 
   abbrev right_tree : ℕ → Round → List ℕ
-  right_tree r s = headed (phase (r + 1) ++ codes " right") b (before_messages p x i r) s.right
+  right_tree r s = headed (side_heading (codes " right") (r + 1)) b (before_messages p x i r) s.right
 
   abbrev next_trees : ℕ → Round → List ℕ
   next_trees r s = assigned_lines (r + 1) b (with_messages p x i r) 0 s.next
@@ -120,7 +119,7 @@ module _ (b : Base) (p : ProgramTree) (x : List ℕ) (i : ℕ) where
   round_has r s is = on_right _ begin (middle ++ end) (on_left _ middle end (step_has b p x i p.steps r s is))
 
   start_shown : (j : ℕ) (e : Term) → slice_get p.start j ≡ Some e
-      → Shows b (phase 0 ++ (codes " r" ++ decimal j)) (knowing_id (slice_index x i)) e (slice_index (state p x 0 i) j) (explanation b p x i)
+      → Shows b (register_heading 0 j) (knowing_id (slice_index x i)) e (slice_index (state p x 0 i) j) (explanation b p x i)
   start_shown j e is =
       shown b _ (knowing_id (slice_index x i)) e _ _ (starts p x i j e is)
       (on_left _ begin (middle ++ end) (register_has 0 b (knowing_id (slice_index x i)) p.start j e is))
@@ -133,26 +132,26 @@ module _ (b : Base) (p : ProgramTree) (x : List ℕ) (i : ℕ) where
       (inside _ (round_trees b p x i r s) (explanation b p x i) has (round_has r s round))
 
   register_shown : (r j : ℕ) (s : Round) (e : Term) → slice_get p.steps r ≡ Some s → slice_get s.next j ≡ Some e
-      → Shows b (phase (r + 1) ++ (codes " r" ++ decimal j)) (with_messages p x i r) e (slice_index (state p x (r + 1) i) j) (explanation b p x i)
+      → Shows b (register_heading (r + 1) j) (with_messages p x i r) e (slice_index (state p x (r + 1) i) j) (explanation b p x i)
   register_shown r j s e round is =
       in_round r s (with_messages p x i r) _ e _ round (assigned p x i r j s e round is)
       (on_right _ (left_tree r s) (right_tree r s ++ next_trees r s)
       (on_right _ (right_tree r s) (next_trees r s) (register_has (r + 1) b (with_messages p x i r) s.next j e is)))
 
   left_shown : (r : ℕ) (s : Round) → slice_get p.steps r ≡ Some s
-      → Shows b (phase (r + 1) ++ codes " left") (before_messages p x i r) s.left (to_left p r (state p x r i)) (explanation b p x i)
+      → Shows b (side_heading (codes " left") (r + 1)) (before_messages p x i r) s.left (to_left p r (state p x r i)) (explanation b p x i)
   left_shown r s round =
       in_round r s (before_messages p x i r) _ s.left _ round (left_is_sent p x i r s round)
       (on_left (left_tree r s) (left_tree r s) (right_tree r s ++ next_trees r s) (itself (left_tree r s)))
 
   right_shown : (r : ℕ) (s : Round) → slice_get p.steps r ≡ Some s
-      → Shows b (phase (r + 1) ++ codes " right") (before_messages p x i r) s.right (to_right p r (state p x r i)) (explanation b p x i)
+      → Shows b (side_heading (codes " right") (r + 1)) (before_messages p x i r) s.right (to_right p r (state p x r i)) (explanation b p x i)
   right_shown r s round =
       in_round r s (before_messages p x i r) _ s.right _ round (right_is_sent p x i r s round)
       (on_right (right_tree r s) (left_tree r s) (right_tree r s ++ next_trees r s)
       (on_left (right_tree r s) (right_tree r s) (next_trees r s) (itself (right_tree r s))))
 
-  channel_shown : i < length x → Shows b (codes "finish") (before_messages p x i (length p.steps)) p.finish (slice_index (channels_of p x) i) (explanation b p x i)
+  channel_shown : i < length x → Shows b (finish_heading (length p.steps)) (before_messages p x i (length p.steps)) p.finish (slice_index (channels_of p x) i) (explanation b p x i)
   channel_shown within =
       shown b _ (before_messages p x i (length p.steps)) p.finish _ _ (finished p x i within)
       (on_right end begin (middle ++ end) (on_right end middle end (itself end)))

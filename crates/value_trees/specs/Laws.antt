@@ -1,14 +1,13 @@
--- The laws of this crate: a tree shows each part of an expression that counts, and the value at its root is what a trace
--- and a run show.
+-- The laws of this crate: a tree shows each part of an expression that counts, and the value at its root is what a
+-- trace and a run show.
 use Rattle.std.specs.Prelude.{◌≡◌, ℕ, ◌+◌, ◌<◌, List, ◌++◌, codes, length, slice_get, slice_index, Some}
-use Rattle.std.specs.Fmt.{decimal}
 use Rattle.node_program.specs.Term.{Term, Round, ProgramTree}
 use Rattle.node_program.specs.Value.{Env, value}
 use Rattle.node_program.specs.Node.{knowing_id, to_left, to_right}
 use Rattle.node_program.specs.GlobalRounds.{state, channels_of}
 use Rattle.value_trees.specs.Trees.{tree_lines}
 use Rattle.value_trees.specs.Parts.{IsTree}
-use Rattle.value_trees.specs.Explanation.{before_messages, explanation, phase, with_messages}
+use Rattle.value_trees.specs.Explanation.{before_messages, explanation, finish_heading, register_heading, side_heading, with_messages}
 use Rattle.numerals.specs.declared.base.Base.{Base}
 
 -- the tree of an expression shows each of its parts that counts, and where a branch is not taken
@@ -52,18 +51,21 @@ pub record Shows (b : Base) (heading : List ℕ) (env : Env) (e : Term) (number 
   pub others : List ℕ
   pub whole : text ≡ before ++ (heading ++ (codes "\n" ++ (tree ++ others)))
 
--- The text shows what the node at place i of the ring x gets and sends in global rounds, below the headings that the lines of
--- a trace have: its registers before the first round and after each, its messages, and its channel.
+-- The text shows what the node at place i of the ring x gets and sends in global rounds, each below its heading: its
+-- registers before the first round and after each, its messages, and its channel.
 pub record ShowsTrace (b : Base) (p : ProgramTree) (x : List ℕ) (i : ℕ) (text : List ℕ) : Type 0 where
   pub starts : (j : ℕ) (e : Term) → slice_get p.start j ≡ Some e
-      → Shows b (phase 0 ++ (codes " r" ++ decimal j)) (knowing_id (slice_index x i)) e (slice_index (state p x 0 i) j) text
+      → Shows b (register_heading 0 j) (knowing_id (slice_index x i)) e (slice_index (state p x 0 i) j) text
   pub registers : (r j : ℕ) (s : Round) (e : Term) → slice_get p.steps r ≡ Some s → slice_get s.next j ≡ Some e
-      → Shows b (phase (r + 1) ++ (codes " r" ++ decimal j)) (with_messages p x i r) e (slice_index (state p x (r + 1) i) j) text
+      → Shows b (register_heading (r + 1) j) (with_messages p x i r) e (slice_index (state p x (r + 1) i) j) text
   pub left : (r : ℕ) (s : Round) → slice_get p.steps r ≡ Some s
-      → Shows b (phase (r + 1) ++ codes " left") (before_messages p x i r) s.left (to_left p r (state p x r i)) text
+      → Shows b (side_heading (codes " left") (r + 1)) (before_messages p x i r) s.left
+      (to_left p r (state p x r i)) text
   pub right : (r : ℕ) (s : Round) → slice_get p.steps r ≡ Some s
-      → Shows b (phase (r + 1) ++ codes " right") (before_messages p x i r) s.right (to_right p r (state p x r i)) text
-  pub channel : Shows b (codes "finish") (before_messages p x i (length p.steps)) p.finish (slice_index (channels_of p x) i) text
+      → Shows b (side_heading (codes " right") (r + 1)) (before_messages p x i r) s.right
+      (to_right p r (state p x r i)) text
+  pub channel : Shows b (finish_heading (length p.steps)) (before_messages p x i (length p.steps)) p.finish
+      (slice_index (channels_of p x) i) text
 
 -- an explanation shows what a trace and a run do
 abbrev pub ExplanationsShowTraces : Type 0

@@ -55,8 +55,8 @@ told_part form env p =
     ++ (own_word p.term
     ++ (codes " " ++ (padded form (value p.term env) ++ (if p.counts then codes "\n" else codes " (not taken)\n"))))
 
--- the text has the lines of all parts of an expression that count, that of the whole one first, and of all branches that
--- are not taken, and no others. The values are written together, so the widest of them gives the width of all
+-- the text has the lines of all parts of an expression that count, that of the whole one first, and of all branches
+-- that are not taken, and no others. The values are written together, so the widest of them gives the width of all
 pub record IsTree (b : Base) (env : Env) (e : Term) (text : List ℕ) : Type 0 where
   pub parts : List Part
   pub are_counting : (depth : ℕ) (term : Term)

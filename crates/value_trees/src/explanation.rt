@@ -7,7 +7,8 @@ ghost use Rattle.node_program.specs.declared.limits.TheConstants.{MAX_ROUNDS};
 ghost use Rattle.node_program.specs.Value.{env_of};
 ghost use Rattle.node_program.specs.Node as node;
 ghost use Rattle.node_program.specs.GlobalRounds.{left_of, right_of, state};
-ghost use Rattle.value_trees.specs.Explanation.{phase, assigned_lines, round_trees, rounds_trees, explanation};
+ghost use Rattle.value_trees.specs.Explanation.{phase, registers_read, side_heading, finish_heading};
+ghost use Rattle.value_trees.specs.Explanation.{assigned_lines, round_trees, rounds_trees, explanation};
 
 use crate::tree::write_tree;
 use lang_check::Plan;
@@ -47,7 +48,7 @@ pub fn explanation_text(
     let known = knowing(ring.id(place));
     write_assigned(&mut text, explained, known, 0, program.start())?;
     write_rounds(&mut text, explained, program.steps(), &mut places)?;
-    text.push_str("finish")?;
+    write_finish(&mut text, places.round())?;
     let last = places.held_by(place);
     write_tree(
         alloc,
@@ -94,6 +95,27 @@ pub(crate) fn write_phase(text: &mut String, rounds: u32) -> Result<(), AllocErr
     }
 }
 
+// Appends what a heading in this round says of the registers that are read there.
+fn write_registers_read(text: &mut String, round: u32) -> Result<(), AllocError>
+    ensures { OnOk result (string_bytes text.new ≡ string_bytes text.old ++ registers_read round) }
+{
+    if round > 0 {
+        text.push_str(", registers of ")?;
+        write_phase(text, round - 1)?;
+    }
+    Ok(())
+}
+
+// Appends the heading of the last expression, which is evaluated after this many rounds.
+fn write_finish(text: &mut String, rounds: u32) -> Result<(), AllocError>
+    requires { rounds ≤ MAX_ROUNDS }
+    ensures { OnOk result (string_bytes text.new
+        ≡ string_bytes text.old ++ finish_heading rounds) }
+{
+    text.push_str("finish")?;
+    write_registers_read(text, rounds + 1)
+}
+
 // Appends the assignments that give the registers after this many rounds.
 fn write_assigned(
     text: &mut String,
@@ -109,6 +131,7 @@ fn write_assigned(
     'registers: for (register, expression) in expressions.iter().enumerate() {
         write_phase(text, rounds)?;
         write!(text, " r{register}")?;
+        write_registers_read(text, rounds)?;
         write_tree(explained.alloc, text, explained.base, env, expression)?;
     }
     Ok(())
@@ -132,6 +155,16 @@ fn received(places: &Configuration<'_>, place: u32) -> (u32, u32)
     )
 }
 
+// Appends the heading of a message of this round, with the word of its side and a blank before it.
+fn write_side(text: &mut String, round: u32, side: &str) -> Result<(), AllocError>
+    ensures { OnOk result (string_bytes text.new
+        ≡ string_bytes text.old ++ side_heading side.now round) }
+{
+    write_phase(text, round)?;
+    text.push_str(side)?;
+    write_registers_read(text, round)
+}
+
 // Appends the next round of a place, whose number is `number`.
 fn write_round(
     text: &mut String,
@@ -149,11 +182,9 @@ fn write_round(
 {
     let Explained { alloc, base, place } = explained;
     let own = places.held_by(place);
-    write_phase(text, number)?;
-    text.push_str(" left")?;
+    write_side(text, number, " left")?;
     write_tree(alloc, text, base, reading(own, 0, 0), &round.left)?;
-    write_phase(text, number)?;
-    text.push_str(" right")?;
+    write_side(text, number, " right")?;
     write_tree(alloc, text, base, reading(own, 0, 0), &round.right)?;
     let (left, right) = received(places, place);
     let read = reading(own, left, right);

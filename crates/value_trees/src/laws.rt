@@ -16,7 +16,8 @@ pub fn roots_are_traced()
 {}
 
 /// An explanation shows them: below each heading the tree of an expression, and in the tree's first
-/// line the register as a trace does, the message, or the channel as a run does.
+/// line the register as a trace does, the message, or the channel as a run does. The heading says
+/// where the registers that the expression reads were assigned.
 pub fn explanations_show_traces()
     ensures { law.ExplanationsShowTraces }
 {}

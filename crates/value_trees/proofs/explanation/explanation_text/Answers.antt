@@ -5,7 +5,7 @@ use Rattle.node_program.specs.GlobalRounds.{state}
 use Rattle.node_lang.proofs.Writing.{three_more}
 use Rattle.round_eval.specs.Configuration.{RingConfiguration}
 use Rattle.value_trees.specs.Trees.{tree_lines}
-use Rattle.value_trees.specs.Explanation.{assigned_lines, rounds_trees, before_messages}
+use Rattle.value_trees.specs.Explanation.{finish_heading, assigned_lines, rounds_trees, before_messages}
 use Rattle.value_trees.proofs.Roots.{at_place}
 use Rattle.value_trees.proofs.explanation.explanation_text.Goals as goal
 
@@ -28,9 +28,11 @@ returns c =
     let reads = c.reading.ensures ∙ ap (λ registers. reading_messages registers 0 0) own in
     let finish = c.finish.ensures.value ∙ ap (λ (t : ProgramTree). t.finish) program in
     let last = c.in_ok-write_tree.ensures
-    ∙ (λ k. string_bytes c.push_str.new.self ++ (codes "\n" ++ tree_lines b (reads k) (finish k))) in
+    ∙ (λ k. string_bytes c.write_finish.new.text ++ (codes "\n" ++ tree_lines b (reads k) (finish k))) in
     let all = rounds_trees b p x i 0 p.steps in
+    let number = c.round.ensures.value ∙ ap (λ (s : RingConfiguration). s.round) after in
+    let named = c.in_ok-write_finish.ensures ∙ ap (λ r. string_bytes c.write_rounds.new.text ++ finish_heading r) number in
     let end : List ℕ = codes "\n" ++ tree_lines b (before_messages p x i (length p.steps)) p.finish in
     last
-    ∙ ap (λ l. l ++ end) (c.in_ok-push_str.ensures.bytes ∙ ap (λ l. l ++ codes "finish") (rounds ∙ ap (λ l. l ++ all) first))
-    ∙ three_more (assigned_lines 0 b (knowing_id (get_or x i 0)) 0 p.start) all (codes "finish") end
+    ∙ ap (λ l. l ++ end) (named ∙ ap (λ l. l ++ finish_heading (length p.steps)) (rounds ∙ ap (λ l. l ++ all) first))
+    ∙ three_more (assigned_lines 0 b (knowing_id (get_or x i 0)) 0 p.start) all (finish_heading (length p.steps)) end

@@ -9,7 +9,7 @@ registers-preserved c =
     let e = c.index-expressions-register in
     let next = next_item term_of c.args.expressions.now c.registers.register-counter e.result c.registers-test.true e.is in
     let left = rw next at c.registers.invariant in
-    rw (c.in_ok-write_tree.ensures, c.in_ok-write.ensures.bytes, c.in_ok-write_phase.ensures)
+    rw (c.in_ok-write_tree.ensures, c.in_ok-write_registers_read.ensures, c.in_ok-write.ensures.bytes, c.in_ok-write_phase.ensures)
     (simp append_assoc (simp append_assoc at left))
 
 pub write_tree-requires : goal.write_tree-requires
