@@ -34,6 +34,8 @@ add("part", ["start", "round", "send", "left", "right", "finish"]);
 add("input", ["id", "L", "R"]);
 add("operation", OPERATIONS.flatMap(({ forms }) => forms.map((form) => form.split("(")[0])));
 
+const OPERANDS = new Map(OPERATIONS.flatMap(({ forms }) => forms.map((form) => [form.split("(")[0], form.split(",").length])));
+
 const TOKEN = /#[^\n]*|[A-Za-z0-9]+|[\s\S]/g;
 
 /** The pieces of a text as `{ text, kind, at }`, in order and without gaps; `kind` is empty for punctuation and blanks. */
@@ -61,14 +63,20 @@ export function headRows(rows) {
 }
 
 /**
- * The words of a program's expressions, in order, each with its place as `{ at, length }`: operations, numbers, registers, `id`, `L`
- * and `R`.
+ * The words of a program's expressions, in order, each with its place as `{ at, length, size }`: operations, numbers, registers, `id`,
+ * `L` and `R`. The expression that begins with a word has `size` of them.
  */
 export function partTokens(text) {
   const tokens = [...text.matchAll(/#[^\n]*|[A-Za-z0-9]+|=/g)].filter(([word]) => !word.startsWith("#"));
   // The header is six words, and a register before `=` is assigned.
-  return tokens.slice(6).filter(([word], i, rest) => word !== "=" && KINDS.get(word) !== "part" && rest[i + 1]?.[0] !== "=")
-    .map((match) => ({ at: match.index, length: match[0].length }));
+  const words = tokens.slice(6).filter(([word], i, rest) => word !== "=" && KINDS.get(word) !== "part" && rest[i + 1]?.[0] !== "=");
+  const sizes = [];
+  for (let i = words.length - 1; i >= 0; i -= 1) {
+    let end = i + 1;
+    for (let more = OPERANDS.get(words[i][0]) ?? 0; more > 0; more -= 1) end += sizes[end] ?? 1;
+    sizes[i] = end - i;
+  }
+  return words.map((match, i) => ({ at: match.index, length: match[0].length, size: sizes[i] }));
 }
 
 /** The first and the last row of a program that a step of its run does, from 0; `null` for a text that has no such part. */

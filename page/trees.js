@@ -2,21 +2,23 @@
 
 /**
  * The trees of an explanation, in the order of the text: each has its `head`, as `round 1 r0`, and its `parts` as
- * `{ depth, word, value, number }`. Parts are numbered through all trees, from 0.
+ * `{ depth, word, value, counts, number }`. A branch that is not taken does not count. The number of a part is the place of its word
+ * among the program's words of expressions, whose `size` says how many of them an expression has.
  */
-export function treesOf(text) {
+export function treesOf(text, words) {
   const trees = [];
   let number = 0;
   for (const line of text.split("\n")) {
     if (line === "") continue;
     const depth = line.search(/\S/);
     if (depth === 0) {
-      trees.push({ head: line, parts: [] });
+      trees.push({ head: line.split(",")[0], parts: [] });
       continue;
     }
-    const [word, value] = line.trim().split(" ");
-    trees.at(-1).parts.push({ depth, word, value: Number(value), number });
-    number += 1;
+    const [word, value, ...note] = line.trim().split(" ");
+    const counts = note.length === 0;
+    trees.at(-1).parts.push({ depth, word, value: Number(value), counts, number });
+    number += counts ? 1 : words[number]?.size ?? 1;
   }
   return trees;
 }
@@ -27,21 +29,15 @@ function endOf(parts, i) {
   return next < 0 ? parts.length : next;
 }
 
-/**
- * For each part of a tree its `branch`, `taken` if its value is that of an `if`, `other` if it is the one that is not, and `within`,
- * the branches of the second kind that it stands in.
- */
+/** For each part of a tree `taken` or `other` if it is the branch of an `if` that is taken or the other one, else an empty text. */
 export function branchesOf(parts) {
-  const found = parts.map(() => ({ branch: "", within: [] }));
+  const found = parts.map(() => "");
   parts.forEach(({ word, depth }, i) => {
     if (word !== "if") return;
     const operands = [];
     for (let j = i + 1; j < endOf(parts, i); j += 1) if (parts[j].depth === depth + 1) operands.push(j);
-    const [condition, first, second] = operands;
-    const [taken, other] = parts[condition].value ? [first, second] : [second, first];
-    found[taken].branch = "taken";
-    found[other].branch = "other";
-    for (let j = other + 1; j < endOf(parts, other); j += 1) found[j].within.push(other);
+    // The first operand is the condition. An `if` that does not count itself has none here.
+    for (const j of operands.slice(1)) found[j] = parts[j].counts ? "taken" : "other";
   });
   return found;
 }

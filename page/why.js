@@ -55,7 +55,7 @@ export async function showWhy(step, ring) {
     return box.replaceChildren(html("p", { class: "refused" }, ...coded(note || line)));
   }
   const tokens = partTokens(text);
-  box.replaceChildren(...treesIn(treesOf(answer.out), step).map((tree) => drawTree(tree, tokens, step, ring)));
+  box.replaceChildren(...treesIn(treesOf(answer.out, tokens), step).map((tree) => drawTree(tree, tokens, step, ring)));
   panel.scrollTop = 0;
   scrollToRows();
   return bringIntoView();
@@ -72,27 +72,17 @@ function bringIntoView() {
 function drawTree({ head, parts }, tokens, step, ring) {
   const values = numerals(parts.map(({ value }) => value), state.base, widthOf(ring));
   const branches = branchesOf(parts);
-  const folded = new Set(branches.flatMap((_, i) => (branches.some(({ within }) => within.includes(i)) ? [i] : [])));
-  const list = html("ul", { role: "tree", "aria-label": head });
-  const fold = (i, closed) => {
-    if (closed) folded.add(i);
-    else folded.delete(i);
-    list.children[i].ariaExpanded = String(!closed);
-    branches.forEach(({ within }, j) => { list.children[j].hidden = within.some((other) => folded.has(other)); });
-  };
-  list.append(...parts.map(({ depth, word, number }, i) => {
+  const list = html("ul", { role: "tree", "aria-label": head }, ...parts.map(({ depth, word, number }, i) => {
     const source = sourceOf(step, word);
     const follow = source && (() => lead(source));
-    const turn = folded.has(i) && (() => fold(i, !folded.has(i)));
     return html("li", {
-      role: "treeitem", class: branches[i].branch, "aria-level": depth, "data-part": number, tabindex: i === 0 ? "0" : "-1",
+      role: "treeitem", class: branches[i], "aria-level": depth, "data-part": number, tabindex: i === 0 ? "0" : "-1",
       style: { paddingLeft: `${depth * 1.1 - 0.6}em` },
-      onfocus: () => mark(number, tokens), onpointerenter: () => mark(number, tokens), onkeydown: (event) => treeKey(event, follow, turn),
+      onfocus: () => mark(number, tokens), onpointerenter: () => mark(number, tokens), onkeydown: (event) => treeKey(event, follow),
     }, html("code", {}, word), " ", html("b", { class: "code" }, values[i]),
     source && html("button", { type: "button", class: "source", tabindex: "-1", onclick: follow }, nameOf(source, ring)),
-    branches[i].branch && html("span", { class: "branch", onclick: turn || null }, BRANCHES[branches[i].branch]));
+    branches[i] && html("span", { class: "branch" }, BRANCHES[branches[i]]));
   }));
-  for (const i of folded) fold(i, true);
   return html("section", { class: "tree" }, html("h4", {}, ...coded(`\`${head}\``)), list);
 }
 
@@ -104,7 +94,7 @@ function nameOf({ kind, round, further }, ring) {
   return kind === "start" ? "from start" : `from round ${round}`;
 }
 
-const items = () => [...box.querySelectorAll("[role=treeitem]:not([hidden])")];
+const items = () => [...box.querySelectorAll("[role=treeitem]")];
 
 /** Marks a part of a tree, and its word in the program. */
 function mark(number, tokens) {
@@ -113,10 +103,10 @@ function mark(number, tokens) {
 }
 
 /**
- * Arrows go along the parts: up and down to the next ones, left to the whole of which a part is one, right to its first part, which
- * unfolds it. Enter leads to where the part's value comes from.
+ * Arrows go along the parts: up and down to the next ones, left to the whole of which a part is one, right to its first part. Enter
+ * leads to where the part's value comes from.
  */
-function treeKey(event, follow, turn) {
+function treeKey(event, follow) {
   const all = items();
   const item = event.currentTarget;
   const at = all.indexOf(item);
@@ -124,8 +114,6 @@ function treeKey(event, follow, turn) {
   let to;
   if (event.key === "ArrowDown") to = all[at + 1];
   else if (event.key === "ArrowUp") to = all[at - 1];
-  else if (event.key === "ArrowRight" && item.ariaExpanded === "false") turn();
-  else if (event.key === "ArrowLeft" && item.ariaExpanded === "true") turn();
   else if (event.key === "ArrowRight") to = level(all[at + 1]) > level(item) ? all[at + 1] : undefined;
   else if (event.key === "ArrowLeft") to = all.slice(0, at).findLast((other) => level(other) < level(item));
   else if (event.key === "Enter" && follow) follow();

@@ -171,12 +171,13 @@ test("numerals: decimal, and binary as wide as the widest", () => {
 });
 
 test("trees: the trees of an explanation, and those of a step", () => {
-  const text = "start r0\n id 5\nround 1 left\n 0 0\nround 1 right\n r0 5\nround 1 r0\n add 2\n  L 1\n  1 1\nfinish\n r0 2\n";
-  const trees = treesOf(text);
+  const text = "start r0\n id 5\nround 1 left, registers of start\n 0 0\nround 1 right, registers of start\n r0 5\n"
+    + "round 1 r0, registers of start\n add 2\n  L 1\n  1 1\nfinish, registers of round 1\n r0 2\n";
+  const trees = treesOf(text, []);
   assert.deepEqual(trees.map(({ head, parts }) => [head, parts.length]), [
     ["start r0", 1], ["round 1 left", 1], ["round 1 right", 1], ["round 1 r0", 3], ["finish", 1],
   ]);
-  assert.deepEqual(trees[3].parts[1], { depth: 2, word: "L", value: 1, number: 4 });
+  assert.deepEqual(trees[3].parts[1], { depth: 2, word: "L", value: 1, counts: true, number: 4 });
   const heads = (kind, round) => treesIn(trees, { kind, round }).map(({ head }) => head);
   assert.deepEqual([heads("start", 0), heads("send", 1), heads("assign", 1), heads("finish", 1)], [
     ["start r0"], ["round 1 left", "round 1 right"], ["round 1 r0"], ["finish"],
@@ -184,11 +185,19 @@ test("trees: the trees of an explanation, and those of a step", () => {
   assert.deepEqual(heads("assign", 2), []);
 });
 
-test("trees: the branch of an if that counts, and what stands in the other", () => {
-  const [{ parts }] = treesOf("round 2 r0\n if 7\n  eq 0\n   r0 1\n   3 3\n  if 1\n   0 0\n   5 5\n   1 1\n  add 7\n   L 3\n   4 4\n");
-  const branches = branchesOf(parts);
-  assert.deepEqual(branches.map(({ branch }) => branch), ["", "", "", "", "other", "", "other", "taken", "taken", "", ""]);
-  assert.deepEqual(branches.map(({ within }) => within), [[], [], [], [], [], [4], [4], [4], [], [], []]);
+test("trees: the branch of an if that is taken, and the other one, whose parts are no lines", () => {
+  const text = "rounds 0 channels 9 registers 1 start r0 = if(eq(id, 3), if(0, 5, 1), if(id, add(id, 4), not(2))) finish r0";
+  const words = partTokens(text);
+  const out = "start r0\n if 5\n  eq 0\n   id 1\n   3 3\n  if 1 (not taken)\n  if 5\n   id 1\n   add 5\n    id 1\n    4 4\n"
+    + "   not 4294967293 (not taken)\nfinish, registers of start\n r0 5\n";
+  const [{ parts }, last] = treesOf(out, words);
+  assert.deepEqual(branchesOf(parts), ["", "", "", "", "other", "taken", "", "taken", "", "", "other"]);
+  assert.deepEqual(parts.map(({ number }) => number), [0, 1, 2, 3, 4, 8, 9, 10, 11, 12, 13]);
+  assert.equal(last.parts[0].number, 15);
+  for (const { number, word } of [...parts, ...last.parts]) {
+    const { at, length } = words[number];
+    assert.equal(text.slice(at, at + length), word);
+  }
 });
 
 test("trees: where a value comes from", () => {
@@ -212,6 +221,7 @@ test("language: the rows that a step does", () => {
 
 test("language: the words of expressions, as the trees have them", () => {
   const text = "rounds 1 # r0 = L\nchannels 6 registers 1\nstart r0=id round send left 0 send right r0\nr0 = add(L, 1) finish r0";
-  const words = partTokens(text).map(({ at, length }) => text.slice(at, at + length));
-  assert.deepEqual(words, ["id", "0", "r0", "add", "L", "1", "r0"]);
+  const tokens = partTokens(text);
+  assert.deepEqual(tokens.map(({ at, length }) => text.slice(at, at + length)), ["id", "0", "r0", "add", "L", "1", "r0"]);
+  assert.deepEqual(tokens.map(({ size }) => size), [1, 1, 1, 3, 1, 1, 1]);
 });

@@ -339,7 +339,7 @@ def binary(page):
     page.wait("decimal again", "document.querySelector('.message.right text').textContent === '5' && !location.hash.includes('base=')")
 
 
-ITEMS = "[...document.querySelectorAll('[role=treeitem]:not([hidden])')]"
+ITEMS = "[...document.querySelectorAll('[role=treeitem]')]"
 # The word and the value of a part.
 PART = "(e => [...e.querySelectorAll('code, b')].map(e => e.textContent).join(' '))"
 
@@ -348,7 +348,7 @@ def why(page):
     """The tree of a node, by mouse, finger and keys, in both bases and at each kind of step."""
     lines = nbhd(CV1, "explain", "--ids", "8", "--ring", "5,1,3,7", "--place", "1").splitlines()
     heads = [number for number, line in enumerate(lines) if not line.startswith(" ")]
-    trees = {lines[a]: lines[a + 1 : b] for a, b in zip(heads, [*heads[1:], len(lines)])}
+    trees = {lines[a].split(",")[0]: lines[a + 1 : b] for a, b in zip(heads, [*heads[1:], len(lines)])}
     steps = {"": ["start r0"], "1": ["round 1 left", "round 1 right"], "2": ["round 1 r0"], "end": ["finish"]}
     for width, base, way in ((1280, "10", "mouse"), (1280, "2", "keys"), (390, "10", "finger"), (390, "2", "keys")):
         page.browser.size(width, 900)
@@ -391,7 +391,7 @@ NEAR = """[...document.querySelectorAll('#stage .disc'), ...[...document.querySe
 
 
 def why_in_view(page):
-    """The ring and the tree are in view together, at once and after each step; a branch that does not count is folded."""
+    """The ring and the tree are in view together, at once and after each step; a branch that is not taken is one line."""
     three = (ROOT / "examples/tutorial_three.txt").read_text()
     for width, height, way in ((1366, 768, "mouse"), (1280, 800, "mouse"), (820, 1180, "finger"), (390, 844, "finger"), (640, 400, "mouse")):
         page.browser.size(width, height)
@@ -409,13 +409,9 @@ def why_in_view(page):
     page.wait("a link to why", f"{ITEMS}.length === 8")
     STEPS.equal("the branch that counts", page.texts("li.taken code"), ["min"])
     STEPS.equal("the other one", page.texts("li.other code"), ["if"])
-    page.focus("li.other")
-    page.browser.key("ArrowRight")
-    lines = nbhd(three, "explain", "--ids", "8", "--ring", "5,1,3,7,0,2,6,4", "--place", "3").split("\nround 3 r0\n")[1].split("\nfinish")[0]
-    # A branch in the other one stays folded.
-    STEPS.check("it is unfolded", 8 < page.value(f"{ITEMS}.length") <= len(lines.splitlines()), page.value(f"{ITEMS}.length"))
-    page.browser.key("ArrowLeft")
-    STEPS.equal("it is folded again", page.value(f"{ITEMS}.length"), 8)
+    STEPS.equal("it says so", page.texts("li.other .branch"), ["not taken"])
+    page.value("document.querySelector('li.taken').focus()")
+    STEPS.equal("the word of the part behind it", page.texts(".ink .asked"), ["min"])
 
 
 def why_leads_on(page):
