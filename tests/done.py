@@ -132,8 +132,8 @@ def assigned(place):
 
 
 def with_sign(place):
-    """`=` is written, before the word or instead of it, or the word before the register is left out."""
-    if place.wanted.startswith("the assignment"):
+    """`=` is written, before the word or instead of it, or what is too much is left out."""
+    if place.wanted.startswith("the assignment") or place.last() == "=":
         return [leave_out(place)]
     end = AT_FAULT.match(place.text, place.at).end()
     return [put(place, "="), f"{place.text[: place.at]}={place.text[end:]}"]
