@@ -3,6 +3,10 @@
 use Rattle.std.specs.Prelude.{◌≡◌, ℕ, ◌+◌, ◌*◌, ◌%◌, ◌<◌, List, length, slice_index}
 use Rattle.std.specs.Int.{abs_diff, bit_at}
 
+-- the mask has the bit of the channel: bit c mod 64 for the channel c
+abbrev pub HasBit : ℕ → ℕ → Type 0
+HasBit mask channel = bit_at mask (channel % 64) ≡ 1
+
 -- the mask has the bits of all channels that are closer to this one than the distance: bit c mod 64 for the channel c
 abbrev pub Covers : ℕ → ℕ → ℕ → Type 0
 Covers mask distance channel = (c : ℕ) → abs_diff c channel < distance → bit_at mask (c % 64) ≡ 1

@@ -1,11 +1,11 @@
 //! Masks of the channels of consecutive windows. They show quickly of most windows that no later
 //! window is close.
-ghost use Rattle.std.specs.Prelude.{◌≡◌, ℕ, List, ◌+◌, ◌*◌, ◌<◌, ◌≤◌, length, slice_index};
+ghost use Rattle.std.specs.Prelude.{◌≡◌, ℕ, List, ◌+◌, ◌*◌, ◌<◌, ◌≤◌, ◌↔◌, IsTrue, length, slice_index};
 ghost use Rattle.std.specs.Bool.{OnFalse};
 ghost use Rattle.channel_tables.specs.Tables.{IsTable};
 ghost use Rattle.nbhd_check.specs.declared.masks.TheConstants.{MAX_DISTANCE};
 ghost use Rattle.nbhd_check.specs.Counts.{family_len};
-ghost use Rattle.nbhd_check.specs.Masks.{AreMasks, Covers, NoneClose};
+ghost use Rattle.nbhd_check.specs.Masks.{AreMasks, Covers, HasBit, NoneClose};
 
 use channel_tables::Table;
 use std::alloc::Global;
@@ -26,9 +26,30 @@ pub(crate) fn may_hold(masks: &[u64], group: usize, channel: u16) -> bool
         → OnFalse result (NoneClose entries len distance group channel) }
 {
     match masks.get(group) {
-        Some(mask) => *mask >> (channel % 64) & 1 == 1,
+        Some(mask) => has_bit(*mask, channel),
         None => true,
     }
+}
+
+/// Returns the number of first channels that all lack their bit in the mask beside them.
+pub(crate) fn count_without_bits(channels: &[u16], masks: &[u64]) -> usize
+    requires { length channels.now ≡ length masks.now }
+    ensures few { result ≤ length channels.now }
+    ensures lack { (place : ℕ) → place < result → ¬ HasBit (slice_index masks.now place) (slice_index channels.now place) }
+{
+    for place in 0..channels.len() {
+        if has_bit(masks[place], channels[place]) {
+            return place;
+        }
+    }
+    channels.len()
+}
+
+// Returns whether the mask has the bit of this channel.
+fn has_bit(mask: u64, channel: u16) -> bool
+    ensures { IsTrue result ↔ HasBit mask channel }
+{
+    mask >> (channel % 64) & 1 == 1
 }
 
 /// Returns the number of windows of a family.

@@ -1,13 +1,13 @@
 //! Windows that begin a tuple whose second window is too close. The second windows after a window
 //! are a run, but for the one that would end in the window's first identifier.
-ghost use Rattle.std.specs.Prelude.{◌≡◌, ℕ, ◌+◌, ◌-◌, ◌*◌, ◌^◌, ◌<◌, ◌≤◌, Some, length, take, drop, slice_get, slice_index};
+ghost use Rattle.std.specs.Prelude.{◌≡◌, ℕ, ◌+◌, ◌-◌, ◌*◌, ◌^◌, ◌<◌, ◌≤◌, cond, nat_lt, Some, length, take, drop, slice_get, slice_index};
 ghost use Rattle.std.specs.Bool.{OnFalse};
 ghost use Rattle.channel_tables.specs.Tables.{windows_of};
 ghost use Rattle.nbhd_check.specs.Masks.{AreMasks};
 ghost use Rattle.nbhd_check.specs.Runs.{AreFree, AreFreeUntil, BeginsBadTuple, SecondRunsOf, wide};
 
 use crate::gaps::has_close_outside;
-use crate::masks::{group_masks, may_hold};
+use crate::masks::{count_without_bits, group_masks, may_hold};
 use crate::run_search::{RunSearch, window_count, windows_per_run};
 use crate::search::{Search, free_windows};
 use channel_tables::Table;
@@ -88,6 +88,14 @@ impl SecondRuns {
         }
     }
 
+    // Returns the end of the places from this one on of which the runs of the second windows follow one
+    // another. There are `each` places.
+    fn side_end(self, place: usize, each: usize) -> usize
+        ensures { result ≡ cond (nat_lt place self.gap) self.gap each }
+    {
+        if place < self.gap { self.gap } else { each }
+    }
+
     // Returns the place in that run of the window that is none of them.
     fn gap_at(self, place: usize) -> usize
         ensures { result ≡ second_gap self place }
@@ -110,7 +118,12 @@ impl<'a> RunSearch for NearSearch<'a> {
     }
 
     fn first_in_run(&self, window: &[u32], run: u32) -> Option<u32> {
-        self.first_close(second_runs(self.table, window, run as usize))
+        let runs = second_runs(self.table, window, run as usize);
+        if self.masks.is_empty() {
+            self.first_close(runs)
+        } else {
+            self.first_by_masks(runs)
+        }
     }
 }
 
@@ -128,6 +141,47 @@ impl<'a> NearSearch<'a> {
             }
         }
         None
+    }
+
+    // Like `first_in_run`. Passes over windows by their masks.
+    fn first_by_masks(&self, runs: SecondRuns) -> Option<u32>
+        requires { SecondRunsOf self.now.table.now runs }
+        ensures { AreFreeUntil self.now.table.now (BeginsBadTuple self.now.table.now (record { near = self.now.distance; far = 0 }))
+            (runs.run * wide self.now.table.now) (runs.run * wide self.now.table.now + wide self.now.table.now) result }
+    {
+        let each = windows_per_run(self.table);
+        let mut place = 0;
+        while place < each {
+            let next = self.pass_over(runs, place);
+            if next == each {
+                return None;
+            }
+            if self.may_be_close(runs, next) {
+                return Some((runs.run * each + next) as u32);
+            }
+            place = next + 1;
+        }
+        None
+    }
+
+    // Returns a place of the run, this one or a later one, such that masks show that no window between
+    // them begins such a tuple. Goes no further than to the gap or the end of the run.
+    fn pass_over(&self, runs: SecondRuns, place: usize) -> usize
+        requires runs { SecondRunsOf self.now.table.now runs }
+        requires place { place < wide self.now.table.now }
+        ensures range { (place ≤ result) × (result ≤ wide self.now.table.now) }
+        ensures free { AreFree self.now.table.now (BeginsBadTuple self.now.table.now (record { near = self.now.distance; far = 0 }))
+            (runs.run * wide self.now.table.now + place) (runs.run * wide self.now.table.now + result) }
+    {
+        let each = windows_per_run(self.table);
+        let count = runs.side_end(place, each) - place;
+        let next = runs.run_at(place);
+        if self.masks.len() < next + count {
+            return place;
+        }
+        let first = runs.run * each + place;
+        let channels = &self.table.entries()[first..first + count];
+        place + count_without_bits(channels, &self.masks[next..next + count])
     }
 
     // Returns `false` only if the window at this place of the run begins no such tuple.

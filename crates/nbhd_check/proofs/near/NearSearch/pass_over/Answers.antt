@@ -1,0 +1,102 @@
+use Rattle.std.proofs.Common.{◌≡◌, ℕ, ◌+◌, ◌-◌, ◌*◌, ◌^◌, ◌<◌, ◌≤◌, length, get_or, take, drop, subst, sym, ap, arith, length-drop}
+use Rattle.std.proofs.lemmas.List.{length-take-le}
+use Rattle.nbhd_check.specs.Masks.{HasBit}
+use Rattle.nbhd_check.specs.Runs.{second_run, wide}
+use Rattle.nbhd_check.proofs.RunSteps.{small_run}
+use Rattle.nbhd_check.proofs.SecondRuns.{AtPlace, at_place, free_along, side}
+use Rattle.nbhd_check.proofs.Suffixes.{run_within}
+use Rattle.nbhd_check.proofs.near.NearSearch.pass_over.Goals.{After-side_end, After-count_without_bits}
+use Rattle.nbhd_check.proofs.near.NearSearch.pass_over.Goals as goal
+
+-- the window at the place, and the windows after it on its side of the gap
+module _ (c : After-side_end) where
+  here : AtPlace c.args.self.now.table.now c.args.runs c.args.place
+  here = at_place c.args.self.now.table.now c.args.runs c.args.place
+      c.windows_per_run-each.ensures.table.size c.requires.runs c.requires.place
+
+  side_is : (c.args.place < c.side_end.result) × (c.side_end.result ≤ wide c.args.self.now.table.now)
+      × ((i : ℕ) → i < c.side_end.result - c.args.place → second_run c.args.runs (c.args.place + i) ≡ second_run c.args.runs c.args.place + i)
+  side_is = side c.args.runs c.args.place (wide c.args.self.now.table.now) c.side_end.result c.requires.place
+      here.gap_inside (rw c.windows_per_run-each.ensures.value at c.side_end.ensures)
+
+  -- the numbers of the windows and of their second runs are small
+  run_in : c.args.runs.run * wide c.args.self.now.table.now + wide c.args.self.now.table.now ≤ length c.args.self.now.table.now.entries
+  run_in = run_within c.args.self.now.table.now c.args.runs.run c.requires.runs.front c.windows_per_run-each.ensures.table.size c.requires.runs.front_at
+
+  run_small : c.args.runs.run * c.windows_per_run-each.result + c.windows_per_run-each.result < 2 ^ 32
+  run_small =
+      let table = c.windows_per_run-each.ensures.table in
+      small_run c.args.self.now.table.now c.args.runs.run c.windows_per_run-each.result table c.windows_per_run-each.ensures.value
+      (omega (arith, run_in, table.size))
+
+  next_small : second_run c.args.runs c.args.place < 2 ^ 32
+  next_small = omega (arith, here.next_few, c.windows_per_run-each.ensures.table.begun.shape.few_windows, c.windows_per_run-each.ensures.table.size)
+
+pub run_at-next-requires : goal.run_at-next-requires
+run_at-next-requires c = omega (arith, next_small c)
+
+pub overflow_add-next : goal.overflow_add-next
+overflow_add-next c =
+    let d = (goal.at.overflow_add-next c).After-side_end in
+    omega (arith, next_small d, c.run_at-next.ensures, (side_is d).1, run_small d, c.windows_per_run-each.ensures.value)
+
+pub overflow_mul-first : goal.overflow_mul-first
+overflow_mul-first c = omega (arith, run_small (goal.at.overflow_mul-first c).After-side_end)
+
+pub overflow_add-first : goal.overflow_add-first
+overflow_add-first c = omega (arith, run_small (goal.at.overflow_add-first c).After-side_end, c.requires.place, c.windows_per_run-each.ensures.value)
+
+pub overflow_add-channels : goal.overflow_add-channels
+overflow_add-channels c =
+    let d = (goal.at.overflow_add-channels c).After-side_end in
+    omega (arith, run_small d, (side_is d).1, c.windows_per_run-each.ensures.value)
+
+pub offset_bounds-entries-first : goal.offset_bounds-entries-first
+offset_bounds-entries-first c = omega (arith, run_small (goal.at.offset_bounds-entries-first c).After-side_end, c.requires.place, c.windows_per_run-each.ensures.value)
+
+-- the channels of the windows on this side of the gap are among the entries
+inside : (c : After-side_end) → c.args.runs.run * c.windows_per_run-each.result + c.args.place + (c.side_end.result - c.args.place) ≤ length c.args.self.now.table.now.entries
+inside c = rw c.windows_per_run-each.ensures.value (omega (arith, run_in c, (side_is c).0, (side_is c).1))
+
+pub slice_bounds-channels-end : goal.slice_bounds-channels-end
+slice_bounds-channels-end c = omega (arith, inside (goal.at.slice_bounds-channels-end c).After-side_end, ap length c.entries.ensures.value)
+
+-- so many channels are looked at
+few : (c : After-count_without_bits) → c.args.runs.run * c.windows_per_run-each.result + c.args.place + (c.side_end.result - c.args.place) ≤ length c.entries.result.now
+    → c.count_without_bits.result ≤ c.side_end.result - c.args.place
+few c within =
+    let first : ℕ = c.args.runs.run * c.windows_per_run-each.result + c.args.place in
+    let count : ℕ = c.side_end.result - c.args.place in
+    omega (arith, c.count_without_bits.ensures.few, length-take-le (first + count - first) (drop first c.entries.result.now) (omega (arith, within, length-drop first c.entries.result.now)))
+
+pub returns-clause-range : goal.returns-clause-range
+returns-clause-range c =
+    let d = (goal.at.returns-clause-range c).After-side_end in (
+      omega arith,
+      omega (
+        arith,
+        few (goal.at.returns-clause-range c).After-count_without_bits
+            (rw c.entries.ensures.value (inside d)),
+        side_is d,
+      ),
+    )
+
+pub returns-clause-free : goal.returns-clause-free
+returns-clause-free c =
+    let d = (goal.at.returns-clause-free c).After-side_end in
+    let s = (goal.at.returns-clause-free c).After-count_without_bits in
+    let t = c.args.self.now.table.now in
+    let first : ℕ = c.args.runs.run * c.windows_per_run-each.result + c.args.place in
+    let n : ℕ = c.side_end.result - c.args.place in
+    let next : ℕ = c.run_at-next.result in
+    let beside : take (next + n - next) (drop next c.deref.result.now) ≡ take n (drop (second_run c.args.runs c.args.place) c.args.self.now.masks.items) =
+    let len : next + n - next ≡ n = omega arith in λ q. take (len q) (drop (c.run_at-next.ensures q) (c.deref.ensures.value q)) in
+    let channels : take (first + n - first) (drop (first) c.entries.result.now) ≡ take n (drop (c.args.runs.run * wide t + c.args.place) t.entries) =
+    let len : first + n - first ≡ n = omega arith in λ q. take (len q) (drop (c.args.runs.run * c.windows_per_run-each.ensures.value q + c.args.place) (c.entries.ensures.value q)) in
+    free_along t c.args.runs c.args.place c.count_without_bits.result n c.args.self.now.distance c.args.self.now.masks.items
+    c.windows_per_run-each.ensures.table.size c.requires.runs c.args.self.now.cover
+    (omega (arith, side_is d)) (few s (rw c.entries.ensures.value (inside d))) (side_is d).2
+    (omega (arith, c.if-len-next.false, c.len.ensures, c.run_at-next.ensures, ap length c.deref.ensures.value, c.deref.ensures.len))
+    (λ i lt has. c.count_without_bits.ensures.lack i lt
+    (subst (λ l. HasBit (get_or l i 0) (get_or (take (first + n - first) (drop (first) c.entries.result.now)) i 0)) (sym beside)
+    (subst (λ l. HasBit (get_or (take n (drop (second_run c.args.runs c.args.place) c.args.self.now.masks.items)) i 0) (get_or l i 0)) (sym channels) has)))
