@@ -17,7 +17,7 @@ pub(crate) const MAX_DISTANCE: u32 = 8;
 const MAX_MASKS: usize = 1 << 17;
 
 // The minimum number of windows of a group with a mask. A mask saves no time at smaller groups.
-const MIN_GROUP_WINDOWS: usize = 8;
+const MIN_GROUP_WINDOWS: usize = 4;
 
 /// Returns `false` only if no channel of the group is close to this one. The masks are those of the
 /// first groups.
