@@ -7,7 +7,7 @@ ghost use Rattle.nbhd_check.specs.FarSearch.{IsFarSearch};
 use crate::counts::channel_limit;
 use crate::far_counts::FarCounts;
 use crate::far_masks::FarMasks;
-use crate::masks::{group_masks, windows_per_family};
+use crate::masks::{Grouping, group_masks, windows_per_family};
 use crate::run_search::{window_count, windows_per_run};
 use crate::search::{Search, free_windows};
 use bad_tuples::Tuples;
@@ -71,7 +71,11 @@ fn free_by_masks<R: Threads + Sync>(
         separation,
     } = tuples;
     let distance = separation.far;
-    let masks = group_masks(alloc, table, windows_per_family(table), distance);
+    let grouping = Grouping {
+        len: windows_per_family(table),
+        distance,
+    };
+    let masks = group_masks(rt, alloc, table, grouping, threads);
     if masks.is_empty() {
         return None;
     }

@@ -1,14 +1,17 @@
 //! Masks of the channels of consecutive windows. They show quickly of most windows that no later
 //! window is close.
-ghost use Rattle.std.specs.Prelude.{◌≡◌, ℕ, List, ◌+◌, ◌*◌, ◌<◌, ◌≤◌, ◌↔◌, IsTrue, length, slice_index};
+ghost use Rattle.std.specs.Prelude.{◌≡◌, ℕ, List, ◌+◌, ◌*◌, ◌<◌, ◌≤◌, ◌↔◌, IsTrue, drop, length, slice_index};
 ghost use Rattle.std.specs.Bool.{OnFalse};
 ghost use Rattle.channel_tables.specs.Tables.{IsTable};
 ghost use Rattle.nbhd_check.specs.declared.masks.TheConstants.{MAX_DISTANCE};
 ghost use Rattle.nbhd_check.specs.Counts.{family_len};
 ghost use Rattle.nbhd_check.specs.Masks.{AreMasks, Covers, HasBit, NoneClose};
 
+use crate::parallel::part_count;
+use crate::run_search::window_count;
 use channel_tables::Table;
 use std::alloc::Global;
+use std::thread::{Threads, for_each_chunk_mut};
 
 /// The greatest distance for which masks are made. They hardly help at greater ones.
 pub(crate) const MAX_DISTANCE: u32 = 8;
@@ -63,12 +66,28 @@ pub(crate) fn windows_per_family(table: &Table) -> usize
     free * (free - 1)
 }
 
-/// Returns a mask for each of the first groups of `len` windows of a table: bit `c % 64` for each
-/// channel `c` that is closer than `distance` to a channel of the group. Returns none if they do not
-/// help, or if memory was refused.
-pub(crate) fn group_masks(alloc: Global, table: &Table, len: usize, distance: u32) -> Vec<u64>
-    ensures { AreMasks table.now.entries len distance result.items }
+/// How the windows of a table are grouped, and the distance of channels that are not close.
+#[derive(Clone, Copy)]
+pub(crate) struct Grouping {
+    /// The number of windows of a group.
+    pub(crate) len: usize,
+    /// The distance below which channels are close.
+    pub(crate) distance: u32,
+}
+
+/// Returns a mask for each of the first groups of windows: bit `c % 64` for each channel `c` that is
+/// close to a channel of the group. Returns none if they do not help, or if memory was refused. At
+/// most `threads` threads make them.
+pub(crate) fn group_masks<R: Threads + Sync>(
+    rt: &R,
+    alloc: Global,
+    table: &Table,
+    grouping: Grouping,
+    threads: u32,
+) -> Vec<u64>
+    ensures { AreMasks table.now.entries grouping.len grouping.distance result.items }
 {
+    let Grouping { len, distance } = grouping;
     if len < MIN_GROUP_WINDOWS || distance > MAX_DISTANCE {
         return Vec::new(alloc);
     }
@@ -81,7 +100,9 @@ pub(crate) fn group_masks(alloc: Global, table: &Table, len: usize, distance: u3
     let Ok(mut masks) = vec![in alloc; 0u64; groups] else {
         return Vec::new(alloc);
     };
-    fill_masks(&mut masks, entries, len, distance);
+    let parts = part_count(window_count(table), threads) as usize;
+    let size = groups.div_ceil(parts).max(1);
+    fill_masks(rt, &mut masks, entries, grouping, size);
     masks
 }
 
@@ -90,12 +111,38 @@ fn is_full(mask: u64, channels: u32) -> bool {
     mask.count_ones() * 16 > channels.min(64) * 15
 }
 
-// Makes the masks of the first groups.
-fn fill_masks(masks: &mut [u64], entries: &[u16], len: usize, distance: u32)
-    requires few { distance ≤ MAX_DISTANCE }
-    requires room { length masks.old * len ≤ length entries.now }
-    ensures { AreMasks entries.now len distance masks.new }
+// Makes the masks of the first groups, so many at a time, each part on a thread of its own.
+fn fill_masks<R: Threads + Sync>(
+    rt: &R,
+    masks: &mut [u64],
+    entries: &[u16],
+    grouping: Grouping,
+    size: usize,
+)
+    requires few { grouping.distance ≤ MAX_DISTANCE }
+    requires some { 0 < size }
+    requires room { length masks.old * grouping.len ≤ length entries.now }
+    ensures { AreMasks entries.now grouping.len grouping.distance masks.new }
 {
+    for_each_chunk_mut(
+        rt,
+        masks,
+        size,
+        &|start: usize, part: &mut [u64]|
+            requires { (grouping.distance ≤ MAX_DISTANCE) × ((start + length part.old) * grouping.len ≤ length entries.now) }
+            ensures { (length part.new ≡ length part.old)
+                × AreMasks (drop (start * grouping.len) entries.entry.now) grouping.len grouping.distance part.new }
+        { fill_part(part, &entries[start * grouping.len..], grouping) },
+    );
+}
+
+// Makes the masks of the first groups, on the calling thread.
+fn fill_part(masks: &mut [u64], entries: &[u16], grouping: Grouping)
+    requires few { grouping.distance ≤ MAX_DISTANCE }
+    requires room { length masks.old * grouping.len ≤ length entries.now }
+    ensures { AreMasks entries.now grouping.len grouping.distance masks.new }
+{
+    let Grouping { len, distance } = grouping;
     for group in 0..masks.len() {
         let start = group * len;
         masks[group] = mask_of(&entries[start..start + len], distance);

@@ -7,7 +7,7 @@ ghost use Rattle.nbhd_check.specs.Masks.{AreMasks};
 ghost use Rattle.nbhd_check.specs.Runs.{AreFree, AreFreeUntil, BeginsBadTuple, SecondRunsOf, wide};
 
 use crate::gaps::has_close_outside;
-use crate::masks::{count_without_bits, group_masks, may_hold};
+use crate::masks::{Grouping, count_without_bits, group_masks, may_hold};
 use crate::run_search::{RunSearch, window_count, windows_per_run};
 use crate::search::{Search, free_windows};
 use channel_tables::Table;
@@ -44,7 +44,11 @@ pub(crate) fn near_free_windows<R: Threads + Sync>(
     if first < most || most == count {
         return first;
     }
-    let masks = group_masks(alloc, table, windows_per_run(table), distance);
+    let grouping = Grouping {
+        len: windows_per_run(table),
+        distance,
+    };
+    let masks = group_masks(rt, alloc, table, grouping, threads);
     let search = NearSearch {
         table,
         distance,

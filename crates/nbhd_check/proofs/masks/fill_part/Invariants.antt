@@ -1,6 +1,6 @@
 use Rattle.std.proofs.Common.{◌≡◌, ℕ, ◌+◌, ◌*◌, ◌<◌, length, get_or}
 use Rattle.nbhd_check.specs.Masks.{Covers}
-use Rattle.nbhd_check.proofs.masks.fill_masks.Given as goal
+use Rattle.nbhd_check.proofs.masks.fill_part.Given as goal
 
 -- the masks of the groups so far cover their channels
 abbrev pub invariant-loop-group : goal.invariant-loop-group
