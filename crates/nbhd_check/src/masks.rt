@@ -16,10 +16,8 @@ use std::thread::{Threads, for_each_chunk_mut};
 /// The greatest distance for which masks are made. They hardly help at greater ones.
 pub(crate) const MAX_DISTANCE: u32 = 8;
 
-// The maximum number of masks, which take a megabyte.
-const MAX_MASKS: usize = 1 << 17;
-
-// The minimum number of windows of a group with a mask. A mask saves no time at smaller groups.
+// The minimum number of windows of a group with a mask. A mask saves no time at smaller groups, and
+// the masks of such groups take no more memory than the channels of their windows.
 const MIN_GROUP_WINDOWS: usize = 4;
 
 /// Returns `false` only if no channel of the group is close to this one. The masks are those of the
@@ -75,7 +73,7 @@ pub(crate) struct Grouping {
     pub(crate) distance: u32,
 }
 
-/// Returns a mask for each of the first groups of windows: bit `c % 64` for each channel `c` that is
+/// Returns a mask for each group of windows: bit `c % 64` for each channel `c` that is
 /// close to a channel of the group. Returns none if they do not help, or if memory was refused. At
 /// most `threads` threads make them.
 pub(crate) fn group_masks<R: Threads + Sync>(
@@ -92,7 +90,7 @@ pub(crate) fn group_masks<R: Threads + Sync>(
         return Vec::new(alloc);
     }
     let entries = table.entries();
-    let groups = (entries.len() / len).min(MAX_MASKS);
+    let groups = entries.len() / len;
     let first = &entries[..len.min(entries.len())];
     if is_full(mask_of(first, 1), table.channels()) {
         return Vec::new(alloc);
@@ -111,7 +109,7 @@ fn is_full(mask: u64, channels: u32) -> bool {
     mask.count_ones() * 16 > channels.min(64) * 15
 }
 
-// Makes the masks of the first groups, so many at a time, each part on a thread of its own.
+// Makes the masks of the first groups, `size` at a time, each part on a thread of its own.
 fn fill_masks<R: Threads + Sync>(
     rt: &R,
     masks: &mut [u64],

@@ -6,7 +6,7 @@ use Rattle.nbhd_check.proofs.masks.group_masks.Goals as goal
 pub fill_masks-requires-clause-room : goal.fill_masks-requires-clause-room
 fill_masks-requires-clause-room g c =
     let entries : ℕ = length c.entries-entries.result.now in
-    let few : length c.deref_mut.result.now ≤ entries / c.args.grouping.len = omega (arith, c.deref_mut.ensures.len, c.in-Ok.ensures.len, c.min-groups.ensures) in
+    let few : length c.deref_mut.result.now ≤ entries / c.args.grouping.len = omega (arith, c.deref_mut.ensures.len, c.in-Ok.ensures.len) in
     omega (arith, mul-le-mul_right c.args.grouping.len few, div-mul-le_self entries c.args.grouping.len)
 
 pub returns : goal.returns
