@@ -1,12 +1,12 @@
 -- The families of the third windows after the windows of a run.
-use Rattle.std.proofs.Common.{◌≡◌, ℕ, ◌+◌, ◌-◌, ◌*◌, ◌<◌, ◌≤◌, Option, Some, None, List, [], ◌∷◌, ◌++◌, length, get_or, set, take, drop, slice_get, slice_index, sym, ap, ◌∙◌, arith, refl, length-set}
+use Rattle.std.proofs.Common.{◌≡◌, ℕ, ◌+◌, ◌-◌, ◌*◌, ◌<◌, ◌≤◌, Option, Some, None, List, [], ◌∷◌, ◌++◌, length, get_or, set, take, drop, slice_get, slice_index, sym, ap, ◌∙◌, arith, refl, length-set, subst}
 use Rattle.std.proofs.Math.Nat.{mul-le-mul_left}
-use Rattle.std.proofs.lemmas.List.{take_all, take_more_set}
+use Rattle.std.proofs.lemmas.List.{get_or-take, take_all, take_more_set}
 use Rattle.std.proofs.lemmas.Option.{same_Some, slice_get-get_or, slice_get_within}
 use Rattle.std.specs.Option.{unwrap_or, IfSome, IfNone}
-use Rattle.win_index.specs.Runs.{HasPlaces, IsAtPlace, IsLastOfRun, IsRunStart, place_in_run}
+use Rattle.win_index.specs.Runs.{HasPlaces, IsAtPlace, IsLastOfRun, IsRunStart, IsSeries, place_in_run}
 use Rattle.win_index.specs.Successor.{IsNext}
-use Rattle.win_index.specs.Windows.{unused, IsWindow}
+use Rattle.win_index.specs.Windows.{unused, windows, IsWindow}
 use Rattle.win_index.specs.declared.series.RunPlaces.{RunPlaces}
 use Rattle.win_index.proofs.Kept.{kept_rises}
 use Rattle.win_index.proofs.Numbers.{windows_all}
@@ -16,9 +16,9 @@ use Rattle.channel_tables.specs.Tables.{ChannelTable, windows_of}
 use Rattle.nbhd_check.specs.Counts.{shared_len, shared_lists, family_len}
 use Rattle.nbhd_check.specs.FarSearch.{IsAtFamily}
 use Rattle.nbhd_check.specs.Masks.{NoneClose}
-use Rattle.nbhd_check.specs.Runs.{BeginsFarTuple, wide}
+use Rattle.nbhd_check.specs.Runs.{AreFree, BeginsFarTuple, wide}
 use Rattle.nbhd_check.proofs.FarFree.{all_of_families, family_is, far_third, some_product, third_in_family}
-use Rattle.bad_tuples.proofs.Prefixes.{at_place_of_run, lacks_drop, rank_rises, whole_list}
+use Rattle.bad_tuples.proofs.Prefixes.{at_place_of_run, lacks_drop, one_number, rank_rises, whole_list}
 use Rattle.nbhd_check.proofs.Suffixes.{number_of_third, shared_cut}
 
 -- no third window is close to the channel of a window if none of their family is
@@ -90,6 +90,55 @@ module _ (t : ChannelTable) (number : ℕ) (window : List ℕ) (first : ℕ) (pl
       let larger = rw back at (last x (rw (back, whole) is_later)) in
       let rises = kept_rises (lacks (take k window)) x (get_or window k 0) larger in
       absurd (omega (arith, rises, here.1, rw front at there.1))
+
+  -- the same for each window of a series
+  pub in_series : (count j : ℕ) → IsSeries (shared_len t) t.ids window count → j < count
+      → (later : List ℕ) × IsAtFamily t (number + j) later first places (place + j)
+  in_series count j series lt =
+      let k : ℕ = shared_len t in
+      let len : 2 * t.rounds + 1 ≡ k + 2 = omega arith in
+      let front : 2 * t.rounds ≡ k + 1 = omega arith in
+      let step = series number (first + place) j (subst (λ l. slice_get (windows l t.ids) number ≡ Some window) len own.item) family_at lt in
+      let later = step.0 in
+      let same : take (k + 1) later ≡ take (k + 1) window = step.2 in
+      let is = windows_all (k + 2) t.ids (number + j) later step.1 in
+      let head = λ (i : ℕ) (within : i < k + 1). sym (get_or-take (k + 1) later i 0 within) ∙ ap (λ l. get_or l i 0) same ∙ get_or-take (k + 1) window i 0 within in
+      let has = own.at_place.run_has in
+      let starts = subst (λ l. IsRunStart (2 * (t.rounds - 1)) t.ids (drop 2 l) first) (sym (ap (λ n. take n later) front ∙ same ∙ ap (λ n. take n window) (sym front))) own.starts in
+      let rank : ℕ = place_in_run k later (get_or later (k + 1) 0) in
+      let third = number_of_third t later first rank some (subst (λ l. IsWindow l t.ids later) (sym len) is) starts
+      (ap (λ n. length (unused (get_or later n 0) (drop 2 (take n later)))) (sym front)) in
+      let number_is = one_number k t.ids (first + rank) (first + place + j) (drop 2 later) third step.3 in (
+        later,
+        record {
+          item = subst (λ l. slice_get (windows l t.ids) (number + j) ≡ Some later) (sym len) step.1;
+          at_place = record {
+            window_is = is;
+            run_has = record {
+              first = (λ q. length (unused (head 0 (omega arith) q) (drop 2 (same q)))) ∙ has.first;
+              second = (λ q. length (unused (head 1 (omega arith) q) (drop 2 (same q)))) ∙ has.second;
+              end = (λ q. length (unused t.ids (drop 2 (same q)))) ∙ has.end;
+            };
+            place_is = omega (arith, number_is);
+          };
+          starts = starts;
+        },
+      )
+
+-- the windows of a series begin no tuple with a close third window as far as no channel of their families is close
+pub free_in_front : (t : ChannelTable) (distance number : ℕ) (window : List ℕ) (first : ℕ) (places : RunPlaces) (place count free : ℕ) → 1 ≤ t.rounds
+    → IsAtFamily t number window first places place → IsSeries (shared_len t) t.ids window count → free ≤ count
+    → ((i : ℕ) → i < free → NoneClose t.entries (family_len t) distance (first + place + i) (get_or t.entries (number + i) 0))
+    → AreFree t (BeginsFarTuple t distance) number (number + free)
+free_in_front t distance number window first places place count free some own series few none n w from below item =
+    let j : ℕ = n - number in
+    let at : n ≡ number + j = omega (arith, from) in
+    let step = in_series t number window first places place some own count j series (omega (arith, from, below, few)) in
+    let same : w ≡ step.0 = same_Some w step.0 (sym item ∙ ap (slice_get (windows_of t)) at ∙ step.1.item) in
+    let family : first + place + j ≡ first + (place + j) = omega arith in
+    subst (λ w. ¬ BeginsFarTuple t distance w) (sym same)
+    (free_in_family t distance (first + (place + j)) (number + j) step.0 some step.1.item (family_at t (number + j) step.0 first places (place + j) some step.1)
+    (subst (λ f. NoneClose t.entries (family_len t) distance f (get_or t.entries (number + j) 0)) family (none j (omega (arith, from, below)))))
 
 -- there are few families
 pub families_few : (t : ChannelTable) → 1 ≤ t.rounds → 2 * t.rounds + 2 ≤ t.ids → length (shared_lists t) ≤ length (windows_of t)

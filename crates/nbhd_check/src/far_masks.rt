@@ -1,16 +1,16 @@
 //! Windows that may begin a tuple whose third window is too close, by masks of families. A family is
 //! the windows that begin with the same `2t-1` identifiers; the third windows of the tuples that
 //! begin with a window are in one family.
-ghost use Rattle.std.specs.Prelude.{◌≡◌, ℕ, List, ◌+◌, ◌-◌, ◌*◌, ◌<◌, ◌≤◌, Some, drop, take, length, slice_get};
+ghost use Rattle.std.specs.Prelude.{◌≡◌, ℕ, List, ◌+◌, ◌-◌, ◌*◌, ◌^◌, ◌<◌, ◌≤◌, Some, drop, take, length, slice_get, slice_index};
 ghost use Rattle.win_index.specs.Runs.{IsAtPlace, IsRunStart};
 ghost use Rattle.win_index.specs.declared.series.RunPlaces.{RunPlaces};
 ghost use Rattle.channel_tables.specs.Tables.{ChannelTable, windows_of};
 ghost use Rattle.nbhd_check.specs.Counts.{family_len};
 ghost use Rattle.nbhd_check.specs.FarSearch.{IsAtFamily};
-ghost use Rattle.nbhd_check.specs.Masks.{AreMasks};
+ghost use Rattle.nbhd_check.specs.Masks.{AreMasks, NoneClose};
 ghost use Rattle.nbhd_check.specs.Runs.{AreFreeUntil, BeginsFarTuple, wide};
 
-use crate::masks::may_hold;
+use crate::masks::count_apart;
 use crate::run_search::{RunSearch, windows_per_run};
 use channel_tables::Table;
 use win_index::RunPlaces;
@@ -52,16 +52,34 @@ impl<'a> FarMasks<'a> {
         ensures { AreFreeUntil self.now.table.now (BeginsFarTuple self.now.table.now self.now.distance)
             (run * wide self.now.table.now) (run * wide self.now.table.now + wide self.now.table.now) result }
     {
-        let entries = self.table.entries();
         let each = windows_per_run(self.table) as u32;
+        let end = run * each + each;
+        let mut number = run * each;
         let mut place = place;
-        for number in run * each..run * each + each {
-            let family = first + place as usize;
-            if may_hold(&self.masks, family, entries[number as usize]) {
-                return Some(number);
+        while number < end {
+            let count = places.series(place, end - number);
+            let free = self.free_in_series(number, first + place as usize, count);
+            if free < count {
+                return Some(number + free);
             }
-            place = places.after(place).unwrap_or(place);
+            number += count;
+            let last = place + count - 1;
+            place = places.after(last).unwrap_or(last);
         }
         None
+    }
+
+    // Returns a number of windows, from this one on and at most `count`, of which masks show that they
+    // begin no such tuple. Their families have consecutive numbers.
+    fn free_in_series(&self, number: u32, family: usize, count: u32) -> u32
+        requires windows { number + count ≤ length self.now.table.now.entries }
+        requires family { family < 2 ^ 32 }
+        ensures few { result ≤ count }
+        ensures free { (i : ℕ) → i < result → NoneClose self.now.table.now.entries (family_len self.now.table.now) self.now.distance
+            (family + i) (slice_index self.now.table.now.entries (number + i)) }
+    {
+        let first = number as usize;
+        let channels = &self.table.entries()[first..first + count as usize];
+        count_apart(&self.masks, family, channels) as u32
     }
 }

@@ -1,6 +1,6 @@
 //! Masks of the channels of consecutive windows. They show quickly of most windows that no later
 //! window is close.
-ghost use Rattle.std.specs.Prelude.{◌≡◌, ℕ, List, ◌+◌, ◌*◌, ◌<◌, ◌≤◌, ◌↔◌, IsTrue, drop, length, slice_index};
+ghost use Rattle.std.specs.Prelude.{◌≡◌, ℕ, List, ◌+◌, ◌*◌, ◌^◌, ◌<◌, ◌≤◌, ◌↔◌, IsTrue, drop, length, slice_index};
 ghost use Rattle.std.specs.Bool.{OnFalse};
 ghost use Rattle.channel_tables.specs.Tables.{IsTable};
 ghost use Rattle.nbhd_check.specs.declared.masks.TheConstants.{MAX_DISTANCE};
@@ -30,6 +30,21 @@ pub(crate) fn may_hold(masks: &[u64], group: usize, channel: u16) -> bool
         Some(mask) => has_bit(*mask, channel),
         None => true,
     }
+}
+
+/// Returns a number of first channels none of which is close to a channel of its group: that of the
+/// first channel has this number, and the others follow. The masks are those of the first groups.
+pub(crate) fn count_apart(masks: &[u64], group: usize, channels: &[u16]) -> usize
+    requires { group + length channels.now < 2 ^ 64 }
+    ensures few { result ≤ length channels.now }
+    ensures apart { (entries : List ℕ) (len distance place : ℕ) → AreMasks entries len distance masks.now → place < result
+        → NoneClose entries len distance (group + place) (slice_index channels.now place) }
+{
+    let end = group + channels.len();
+    if masks.len() < end {
+        return 0;
+    }
+    count_without_bits(channels, &masks[group..end])
 }
 
 /// Returns the number of first channels that all lack their bit in the mask beside them.
