@@ -39,7 +39,7 @@ pub(crate) fn gather<'s, S: Source<'s>>(
     let shape = upper.plan.shape();
     let below = upper.below;
     let len = upper.len;
-    let mut prefix = shape.run_prefix(below, window);
+    let mut prefixes = shape.run_prefixes_from(below, window);
     let mut place = shape.place_in_run(below, window);
     let mut index = 0;
     let mut near = Near {
@@ -48,7 +48,7 @@ pub(crate) fn gather<'s, S: Source<'s>>(
         last: None,
     };
     loop {
-        let run = start_run(upper, source, index, prefix, near)?;
+        let run = start_run(upper, source, index, prefixes.prefix(), near)?;
         let reached = Reached {
             index,
             place,
@@ -60,11 +60,11 @@ pub(crate) fn gather<'s, S: Source<'s>>(
         if after == len {
             return Ok(());
         }
-        let Some(next) = shape.next_run_prefix(below, prefix) else {
+        let Some(next) = prefixes.next() else {
             unreachable!()
         };
-        prefix = next;
-        place = shape.prefix_places(below, prefix).first();
+        prefixes = next;
+        place = shape.prefix_places(below, prefixes.prefix()).first();
         index = after;
         near = Near {
             first: Some(run.first),

@@ -1,9 +1,9 @@
 -- The numbers of a prefix with one identifier more, and with one fewer.
-use Rattle.std.proofs.Common.{◌≡◌, ◌≢◌, ℕ, zero, suc, ◌+◌, ◌-◌, ◌*◌, ◌/◌, ◌%◌, ◌<◌, ◌≤◌, nat_le, cond, List, [], ◌∷◌, length, get_or, take, drop, slice_get, Some, refl, sym, ap, ◌∙◌, arith}
+use Rattle.std.proofs.Common.{◌≡◌, ◌≢◌, ℕ, zero, suc, ◌+◌, ◌-◌, ◌*◌, ◌/◌, ◌%◌, ◌<◌, ◌≤◌, nat_le, cond, List, [], ◌∷◌, length, get_or, take, drop, slice_get, Some, refl, sym, ap, ◌∙◌, arith, length-drop}
 use Rattle.std.proofs.Math.Nat.{div-div-eq-div-mul, div-one, mul_comm}
 use Rattle.std.proofs.lemmas.Bool.Decides.{nat_tests}
-use Rattle.std.proofs.lemmas.List.{take_all, take-take, get_or-take}
-use Rattle.std.proofs.lemmas.Option.{slice_get_within}
+use Rattle.std.proofs.lemmas.List.{take_all, take-take, get_or-take, get_or-drop}
+use Rattle.std.proofs.lemmas.Option.{same_Some, slice_get_within}
 use Rattle.win_index.specs.RunPrefixes.{HasNumbers, IsLonger}
 use Rattle.win_index.specs.Runs.{HasPlaces}
 use Rattle.win_index.specs.Falling.{falling}
@@ -12,7 +12,7 @@ use Rattle.win_index.specs.declared.run_prefix.RunPrefix.{RunPrefix}
 use Rattle.win_index.specs.declared.series.RunPlaces.{RunPlaces}
 use Rattle.win_index.proofs.FrontPlaces.{Part, Placed, placed, below, last_place, window_front, shorter_number, part_longer, part_shorter}
 use Rattle.win_index.proofs.Numbers.{windows-zero, window_step, windows_all}
-use Rattle.win_index.proofs.Unused.{unused_all}
+use Rattle.win_index.proofs.Unused.{lacks_from_differs, unused_all, unused_at}
 
 -- the number of a prefix of a window
 pub prefix_number :
@@ -160,3 +160,21 @@ pair_is m list p has = absurd (omega (arith, has.window.size))
 pub two_items : (list : List ℕ) → length list ≡ 2 → list ≡ get_or list 0 0 ∷ get_or list 1 0 ∷ []
 two_items (a ∷ b ∷ []) size = refl
 two_items list size = absurd (omega (arith, size))
+
+-- a list lacks its first identifier after the second one, and the position of that follows from its numbers
+first_at : (k m x : ℕ) (rest : List ℕ) (p : RunPrefix) → HasNumbers k m (x ∷ rest) p
+    → slice_get (unused m (drop 1 rest)) p.first_gap ≡ Some x
+first_at k m x rest p has =
+    let later = λ (i : ℕ). let more : i + 2 ≡ suc (1 + i) = omega arith in ap (λ n. get_or (x ∷ rest) n 0) (sym more) in
+    let lacks = lacks_from_differs (drop 1 rest) x (λ i lt same.
+    has.window.distinct 0 (i + 2) 0 (omega arith) (omega (arith, lt, length-drop 1 rest)) (sym same ∙ get_or-drop 1 rest i 0 ∙ later i)) in
+    rw has.first_gap at (unused_at (drop 1 rest) m x (has.window.below 0 0 (omega arith)) lacks)
+
+-- a list follows from its numbers
+pub one_list : (k m : ℕ) (a b : List ℕ) (p : RunPrefix) → 2 ≤ k → HasNumbers k m a p → HasNumbers k m b p → a ≡ b
+one_list k m [] b p some has other = absurd (omega (arith, has.window.size))
+one_list k m (x ∷ u) [] p some has other = absurd (omega (arith, other.window.size))
+one_list k m (x ∷ u) (y ∷ v) p some has other =
+    let rest : u ≡ v = same_Some u v (sym has.middle ∙ other.middle) in
+    let first : x ≡ y = same_Some x y (sym (first_at k m x u p has) ∙ (λ q. slice_get (unused m (drop 1 (rest q))) p.first_gap) ∙ first_at k m y v p other) in
+    (λ q. first q ∷ rest q)

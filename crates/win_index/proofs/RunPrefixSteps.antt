@@ -40,7 +40,7 @@ begins_run k m last prefix next is greatest short steps has =
       first = rw (begins, end) least;
     }
 
-pub no_run_follows : (k m : ℕ) (prefix : RunPrefix) (o : Option RunPrefix) → IfNone o (IsLastPrefix k m prefix) →
+pub no_run_follows : {A : Type 0} (k m : ℕ) (prefix : RunPrefix) (o : Option A) → IfNone o (IsLastPrefix k m prefix) →
     IfNone o (IsPrefixOfLastRun k m prefix)
 no_run_follows k m prefix None ends = λ last is greatest has.
     last_run (k + 1) m k last refl is greatest (ends (take k last) has)

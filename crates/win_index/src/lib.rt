@@ -8,6 +8,7 @@ mod limits;
 mod prefixes;
 mod ring;
 mod run_prefix;
+mod run_prefixes;
 mod series;
 mod shape;
 
@@ -23,5 +24,6 @@ pub use limits::{
 };
 pub use ring::{Ring, RingFault};
 pub use run_prefix::RunPrefix;
+pub use run_prefixes::RunPrefixes;
 pub use series::RunPlaces;
 pub use shape::{Shape, ShapeFault, place_among_unused};

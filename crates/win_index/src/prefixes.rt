@@ -23,6 +23,17 @@ pub(crate) struct Prefixes {
 }
 
 impl Prefixes {
+    // Returns the lists that are one identifier shorter.
+    pub(crate) fn shorter(self) -> Prefixes
+        requires { 3 ≤ self.len }
+        ensures { (result.ids ≡ self.ids) × (result.len ≡ self.len - 1) }
+    {
+        Prefixes {
+            ids: self.ids,
+            len: self.len - 1,
+        }
+    }
+
     // Returns the positions for the lists that are one identifier longer than this one.
     pub(crate) fn places(self, prefix: RunPrefix) -> RunPlaces
         ensures { (window : List ℕ) → IsWindow (self.len + 1) self.ids window
@@ -37,7 +48,7 @@ impl Prefixes {
     }
 
     // Returns the prefix with one identifier more, which has this position.
-    fn longer(self, prefix: RunPrefix, place: u32) -> RunPrefix
+    pub(crate) fn longer(self, prefix: RunPrefix, place: u32) -> RunPrefix
         requires { (window : List ℕ) × IsLonger self.len self.ids prefix place window }
         ensures { (window : List ℕ) → IsLonger self.len self.ids prefix place window → HasNumbers (self.len + 1) self.ids window result }
     {
@@ -51,7 +62,7 @@ impl Prefixes {
     }
 
     // Returns the prefix without its last identifier, and the position of that one.
-    fn without_last(self, prefix: RunPrefix) -> (RunPrefix, u32)
+    pub(crate) fn without_last(self, prefix: RunPrefix) -> (RunPrefix, u32)
         requires { IsPrefix (self.len + 1) self.ids prefix }
         ensures { (window : List ℕ) → HasNumbers (self.len + 1) self.ids window prefix → IsLonger self.len self.ids result.0 result.1 window }
     {
@@ -90,7 +101,7 @@ impl Prefixes {
     }
 
     // Returns the next prefix of two identifiers, or `None` if this is the last one.
-    fn next_pair(self, prefix: RunPrefix) -> Option<RunPrefix>
+    pub(crate) fn next_pair(self, prefix: RunPrefix) -> Option<RunPrefix>
         requires { IsPrefix 2 self.ids prefix }
         ensures next { IfSome result (IsNextPrefix 2 self.ids prefix) }
         ensures last { IfNone result (IsLastPrefix 2 self.ids prefix) }
@@ -113,13 +124,13 @@ impl Prefixes {
 }
 
 impl Shape {
-    ghost use Rattle.std.specs.Prelude.{◌≡◌, ℕ, List, ◌+◌, ◌*◌, ◌<◌, take, drop, length, slice_get, Some, IfSome, IfNone};
-    ghost use Rattle.win_index.specs.RunPrefixes.{HasNumbers, IsPrefix, IsPrefixOfNextRun, IsPrefixOfLastRun};
+    ghost use Rattle.std.specs.Prelude.{◌≡◌, ℕ, List, ◌+◌, ◌*◌, ◌<◌, take, drop, length, slice_get, Some};
+    ghost use Rattle.win_index.specs.RunPrefixes.{HasNumbers, IsPrefix};
     ghost use Rattle.win_index.specs.Runs.{HasPlaces, IsRunStart};
     ghost use Rattle.win_index.specs.Windows.{windows, IsWindow};
 
-    /// Returns the prefix of the run of a window one level above `below`, by its numbers.
-    pub fn run_prefix(&self, below: u32, window: &[u32]) -> RunPrefix
+    // Returns the prefix of the run of a window one level above `below`, by its numbers.
+    pub(crate) fn run_prefix(&self, below: u32, window: &[u32]) -> RunPrefix
         requires below { below < self.now.rounds }
         requires window { IsWindow (2 * below + 3) self.now.ids window.now }
         ensures { HasNumbers (2 * below + 2) self.now.ids (take (2 * below + 2) window.now) result }
@@ -132,17 +143,6 @@ impl Shape {
             first_gap: places.first_gap,
             second_gap: places.second_gap,
         }
-    }
-
-    /// Returns the prefix of the next run one level above `below`, or `None` if this is the prefix
-    /// of the last one.
-    pub fn next_run_prefix(&self, below: u32, prefix: RunPrefix) -> Option<RunPrefix>
-        requires below { below < self.now.rounds }
-        requires prefix { IsPrefix (2 * below + 2) self.now.ids prefix }
-        ensures next { IfSome result (IsPrefixOfNextRun (2 * below + 2) self.now.ids prefix) }
-        ensures last { IfNone result (IsPrefixOfLastRun (2 * below + 2) self.now.ids prefix) }
-    {
-        self.run_prefixes(below).next(prefix)
     }
 
     /// Returns the positions for the run with this prefix one level above `below`.
@@ -177,7 +177,7 @@ impl Shape {
 
     // Returns the prefixes of the runs one level above `below`.
     #[tactic(auto, using(crate::proofs::Levels::few_of_shape))]
-    fn run_prefixes(&self, below: u32) -> Prefixes
+    pub(crate) fn run_prefixes(&self, below: u32) -> Prefixes
         requires { below < self.now.rounds }
         ensures ids { result.ids ≡ self.now.ids }
         ensures len { result.len ≡ 2 * below + 2 }

@@ -30,8 +30,9 @@ loop-run-init g c =
           here = subst (λ n. slice_get (windows (2 * (low + 1) + 1) m) n ≡ Some w) (sym zero) first.here ∙ ap Some (sym own);
           window = rw own (subst (λ k. IsWindow k m w) long first.window);
         };
-        has = rw (own, ← c.shape-shape.ensures.ids) c.run_prefix-prefix.ensures;
+        has = rw (own, ← c.shape-shape.ensures.ids) c.run_prefixes_from-prefixes.ensures.prefix;
       };
+      lists = (c.run_prefixes_from-prefixes.ensures.ids ∙ c.shape-shape.ensures.ids, c.run_prefixes_from-prefixes.ensures.len);
       placed = record {
         place_is = rw own (sym c.place_in_run-place.ensures.value);
         inside = rw (own, ← c.shape-shape.ensures.ids) c.place_in_run-place.ensures.inside;
@@ -111,8 +112,8 @@ unreachable-requires g c =
     let run = c.in_ok-after.ensures.gathered in
     let len = c.args.upper.len_is in
     let within : c.in_ok-after.after < block_len upper.plan.now.ids (upper.below + 1) upper.number = omega (arith, len, run.within, c.if-after-len.false) in
-    some_run_follows upper c.loop-run.index c.in_ok-after.after c.loop-run.prefix (omega (arith, run.later)) within (run.ended within)
-    c.loop-run.invariant.here.has (rw c.shape-shape.ensures.ids at c.in_default.ensures.last)
+    some_run_follows upper c.loop-run.index c.in_ok-after.after c.loop-run.prefixes.prefix (omega (arith, run.later)) within (run.ended within)
+    c.loop-run.invariant.here.has (rw (c.loop-run.invariant.lists.1, c.loop-run.invariant.lists.0) at c.in_default.ensures.last)
 
 pub loop-run-preserved : goal.loop-run-preserved
 loop-run-preserved g c =
@@ -127,13 +128,14 @@ loop-run-preserved g c =
     let run = went.gathered in
     let len = c.args.upper.len_is in
     let within : after < block_len plan.ids (low + 1) upper.number = omega (arith, len, run.within, c.if-after-len.false) in
-    let next = next_run upper c.loop-run.index after c.loop-run.prefix (omega (arith, run.later)) within (run.ended within)
-    before.here.has c.in-Some.next (rw c.shape-shape.ensures.ids at c.in-Some.ensures.next) in
-    let places = rw c.shape-shape.ensures.ids at (c.prefix_places.ensures (window_in upper after) (rw c.shape-shape.ensures.ids next.at'.is.window) (rw c.shape-shape.ensures.ids next.at'.has)) in
+    let next = next_run upper c.loop-run.index after c.loop-run.prefixes.prefix (omega (arith, run.later)) within (run.ended within)
+    before.here.has c.in-Some.next.prefix (rw (before.lists.1, before.lists.0) at c.in-Some.ensures.next) in
+    let places = rw c.shape-shape.ensures.ids at (c.prefix_places.ensures (window_in upper after) (rw c.shape-shape.ensures.ids next.at'.is.window) (rw (c.shape-shape.ensures.ids, c.prefix-in-loop-run.ensures) next.at'.has)) in
     record {
       asked = asked_both (asked_both before.asked asked.asked) went.asked;
       here = next.at';
-      placed = first_place upper after c.first-place.result c.in-Some.next c.prefix_places.result next places c.first-place.ensures.place c.first-place.ensures.inside;
+      lists = rw c.in-Some.ensures.lists before.lists;
+      placed = first_place upper after c.first-place.result c.in-Some.next.prefix c.prefix_places.result next places c.first-place.ensures.place c.first-place.ensures.inside;
       near = record {
         first = first_grows plan (entries c.start_run.new.source) (entries c.gather_run.new.source) low went.asked.grows _ asked.run.first_is;
         middle = entry_grows plan (entries c.start_run.new.source) (entries c.gather_run.new.source) low _ _ went.asked.grows asked.run.middle_is;

@@ -1,4 +1,4 @@
-use Rattle.std.proofs.Common.{◌-◌}
+use Rattle.std.proofs.Common.{◌≡◌, ◌+◌, ◌-◌, ◌*◌}
 use Rattle.window_states.specs.Entries.{Asked}
 use Rattle.unroll.specs.Parts.{IsAtIndex, IsNear}
 use Rattle.unroll.specs.WideColumns.{IsReady, AreGathered}
@@ -9,7 +9,8 @@ abbrev pub invariant-loop-run : goal.invariant-loop-run
 invariant-loop-run g l =
     record {
       asked : Asked g.S.Source.plan g.S.Source.fixed g.S.Source.entries l.fn.source l.source;
-      here : IsAtIndex l.upper l.index l.prefix;
+      here : IsAtIndex l.upper l.index l.prefixes.prefix;
+      lists : (l.prefixes.lists.ids ≡ l.upper.plan.now.ids) × (l.prefixes.lists.len ≡ 2 * l.below + 2);
       placed : IsPlaced l.upper l.index l.place;
       near : IsNear l.upper.plan.now (g.S.Source.entries l.source) l.below l.near;
       ready : IsReady l.upper.plan.now l.scratch;
