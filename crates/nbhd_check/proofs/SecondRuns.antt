@@ -14,7 +14,7 @@ use Rattle.win_index.proofs.RunStarts.{run_start_is}
 use Rattle.win_index.proofs.Unused.{IsDistinct, distinct_head, distinct_tail, lacks_differs, length-unused, unused_at, unused_at_end, unused_in_front}
 use Rattle.channel_tables.specs.Tables.{ChannelTable, windows_of}
 use Rattle.nbhd_check.specs.declared.near.SecondRuns.{SecondRuns}
-use Rattle.nbhd_check.specs.Masks.{AreMasks, HasBit, NoneClose}
+use Rattle.nbhd_check.specs.Masks.{NoneClose}
 use Rattle.nbhd_check.specs.Runs.{SecondRunsOf, second_run, second_gap, wide, AreFree, BeginsBadTuple, HasCloseOutside}
 use Rattle.nbhd_check.proofs.Suffixes.{number_of_next, run_within}
 use Rattle.bad_tuples.proofs.Prefixes.{at_place_of_run, lacks_drop, rank_rises, whole_list, window_drop}
@@ -127,16 +127,6 @@ none_outside entries gap len distance run channel none within has =
     let read : get_or (take len list) place 0 ≡ get_or entries (run * len + place) 0 = get_or-take len list place 0 lt ∙ get_or-drop (run * len) entries place 0 in
     none place lt (subst (λ c. abs_diff channel c < distance) read has.3)
 
--- no such tuple begins with the window if the mask of that run lacks the window's channel
-pub free_by_mask : (t : ChannelTable) (runs : SecondRuns) (place distance : ℕ) (masks : List ℕ) → AreMasks t.entries (wide t) distance masks → AtPlace t runs place
-    → second_run runs place < length masks → ¬ HasBit (get_or masks (second_run runs place) 0) (get_or t.entries (runs.run * wide t + place) 0)
-    → AreFree t (BeginsBadTuple t (record { near = distance; far = 0 })) (runs.run * wide t + place) (runs.run * wide t + place + 1)
-free_by_mask t runs place distance masks are at' made lacks =
-    let run : ℕ = second_run runs place in
-    let channel : ℕ = get_or t.entries (runs.run * wide t + place) 0 in
-    free_at t runs place distance at'
-    (none_outside t.entries (second_gap runs place) (wide t) distance run channel (λ i lt close. lacks (are run i made lt channel close)) at'.next_within)
-
 -- the end of the places from this one on of which the second runs are consecutive
 pub side : (runs : SecondRuns) (place each end : ℕ) → place < each → second_gap runs place < each → end ≡ cond (nat_lt place runs.gap) runs.gap each
     → (place < end) × (end ≤ each) × ((i : ℕ) → i < end - place → second_run runs (place + i) ≡ second_run runs place + i)
@@ -146,26 +136,23 @@ side runs place each end lt gap end_is = (
   λ i in_side. grind (arith, nat_tests, end_is, in_side),
 )
 
--- the same for consecutive windows on one side of the gap, of which the second runs are consecutive too
-pub free_along : (t : ChannelTable) (runs : SecondRuns) (place count all distance : ℕ) (masks : List ℕ)
-    → length t.entries ≡ length (windows_of t) → SecondRunsOf t runs → AreMasks t.entries (wide t) distance masks
+-- no such tuple begins with consecutive windows, of which the second runs are consecutive too, if these have no close
+-- channel
+pub free_along : (t : ChannelTable) (runs : SecondRuns) (place count all distance : ℕ)
+    → length t.entries ≡ length (windows_of t) → SecondRunsOf t runs
     → place + all ≤ wide t → count ≤ all → ((i : ℕ) → i < all → second_run runs (place + i) ≡ second_run runs place + i)
-    → second_run runs place + all ≤ length masks
-    → ((i : ℕ) → i < count → ¬ HasBit (get_or (take all (drop (second_run runs place) masks)) i 0) (get_or (take all (drop (runs.run * wide t + place) t.entries)) i 0))
+    → ((i : ℕ) → i < count → NoneClose t.entries (wide t) distance (second_run runs place + i) (get_or t.entries (runs.run * wide t + place + i) 0))
     → AreFree t (BeginsBadTuple t (record { near = distance; far = 0 })) (runs.run * wide t + place) (runs.run * wide t + (place + count))
-free_along t runs place count all distance masks full are covers within few beside made lacks number window from below item =
+free_along t runs place count all distance full are within few beside none number window from below item =
     let first : ℕ = runs.run * wide t + place in
     let i : ℕ = number - first in
     let lt : i < count = omega (arith, from, below) in
     let in_all : i < all = omega (arith, lt, few) in
-    let next : ℕ = second_run runs place in
-    let mask : get_or (take all (drop next masks)) i 0 ≡ get_or masks (second_run runs (place + i)) 0 =
-    get_or-take all (drop next masks) i 0 in_all ∙ get_or-drop next masks i 0 ∙ ap (λ n. get_or masks n 0) (sym (beside i in_all)) in
-    let at : first + i ≡ runs.run * wide t + (place + i) = omega arith in
-    let channel : get_or (take all (drop first t.entries)) i 0 ≡ get_or t.entries (runs.run * wide t + (place + i)) 0 =
-    get_or-take all (drop first t.entries) i 0 in_all ∙ get_or-drop first t.entries i 0 ∙ ap (λ n. get_or t.entries n 0) at in
-    free_by_mask t runs (place + i) distance masks covers (at_place t runs (place + i) full are (omega (arith, in_all, within)))
-    (omega (arith, beside i in_all, in_all, made)) (λ has. lacks i lt
-    (subst (λ m. HasBit m (get_or (take all (drop first t.entries)) i 0)) (sym mask)
-    (subst (λ v. HasBit (get_or masks (second_run runs (place + i)) 0) v) (sym channel) has)))
+    let here = at_place t runs (place + i) full are (omega (arith, in_all, within)) in
+    let own : first + i ≡ runs.run * wide t + (place + i) = omega arith in
+    let lacks : NoneClose t.entries (wide t) distance (second_run runs (place + i)) (get_or t.entries (runs.run * wide t + (place + i)) 0) =
+    subst (λ n. NoneClose t.entries (wide t) distance (second_run runs (place + i)) (get_or t.entries n 0)) own
+    (subst (λ r. NoneClose t.entries (wide t) distance r (get_or t.entries (first + i) 0)) (sym (beside i in_all)) (none i lt)) in
+    free_at t runs (place + i) distance here
+    (none_outside t.entries (second_gap runs (place + i)) (wide t) distance (second_run runs (place + i)) (get_or t.entries (runs.run * wide t + (place + i)) 0) lacks here.next_within)
     number window (omega (arith, from)) (omega (arith, from)) item

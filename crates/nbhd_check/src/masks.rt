@@ -47,8 +47,8 @@ pub(crate) fn count_apart(masks: &[u64], group: usize, channels: &[u16]) -> usiz
     count_without_bits(channels, &masks[group..end])
 }
 
-/// Returns the number of first channels that all lack their bit in the mask beside them.
-pub(crate) fn count_without_bits(channels: &[u16], masks: &[u64]) -> usize
+// Returns the number of first channels that all lack their bit in the mask beside them.
+fn count_without_bits(channels: &[u16], masks: &[u64]) -> usize
     requires { length channels.now ≡ length masks.now }
     ensures few { result ≤ length channels.now }
     ensures lack { (place : ℕ) → place < result → ¬ HasBit (slice_index masks.now place) (slice_index channels.now place) }

@@ -7,7 +7,7 @@ ghost use Rattle.nbhd_check.specs.Masks.{AreMasks};
 ghost use Rattle.nbhd_check.specs.Runs.{AreFree, AreFreeUntil, BeginsBadTuple, SecondRunsOf, wide};
 
 use crate::gaps::has_close_outside;
-use crate::masks::{Grouping, count_without_bits, group_masks, may_hold};
+use crate::masks::{Grouping, count_apart, group_masks, may_hold};
 use crate::run_search::{RunSearch, window_count, windows_per_run};
 use crate::search::{Search, free_windows};
 use channel_tables::Table;
@@ -179,13 +179,9 @@ impl<'a> NearSearch<'a> {
     {
         let each = windows_per_run(self.table);
         let count = runs.side_end(place, each) - place;
-        let next = runs.run_at(place);
-        if self.masks.len() < next + count {
-            return place;
-        }
         let first = runs.run * each + place;
         let channels = &self.table.entries()[first..first + count];
-        place + count_without_bits(channels, &self.masks[next..next + count])
+        place + count_apart(&self.masks, runs.run_at(place), channels)
     }
 
     // Returns `false` only if the window at this place of the run begins no such tuple.

@@ -1,11 +1,11 @@
-use Rattle.std.proofs.Common.{◌≡◌, ℕ, ◌+◌, ◌-◌, ◌*◌, ◌^◌, ◌<◌, ◌≤◌, length, get_or, take, drop, subst, sym, ap, arith, length-drop}
-use Rattle.std.proofs.lemmas.List.{length-take-le}
-use Rattle.nbhd_check.specs.Masks.{HasBit}
+use Rattle.std.proofs.Common.{◌≡◌, ℕ, ◌+◌, ◌-◌, ◌*◌, ◌^◌, ◌<◌, ◌≤◌, length, get_or, take, drop, subst, ap, ◌∙◌, arith, length-drop}
+use Rattle.std.proofs.lemmas.List.{get_or-drop, get_or-take, length-take-le}
+use Rattle.nbhd_check.specs.Masks.{NoneClose}
 use Rattle.nbhd_check.specs.Runs.{second_run, wide}
 use Rattle.nbhd_check.proofs.RunSteps.{small_run}
 use Rattle.nbhd_check.proofs.SecondRuns.{AtPlace, at_place, free_along, side}
 use Rattle.nbhd_check.proofs.Suffixes.{run_within}
-use Rattle.nbhd_check.proofs.near.NearSearch.pass_over.Goals.{After-side_end, After-count_without_bits}
+use Rattle.nbhd_check.proofs.near.NearSearch.pass_over.Goals.{After-side_end, After-count_apart}
 use Rattle.nbhd_check.proofs.near.NearSearch.pass_over.Goals as goal
 
 -- the window at the place, and the windows after it on its side of the gap
@@ -32,13 +32,8 @@ module _ (c : After-side_end) where
   next_small : second_run c.args.runs c.args.place < 2 ^ 32
   next_small = omega (arith, here.next_few, c.windows_per_run-each.ensures.table.begun.shape.few_windows, c.windows_per_run-each.ensures.table.size)
 
-pub run_at-next-requires : goal.run_at-next-requires
-run_at-next-requires c = omega (arith, next_small c)
-
-pub overflow_add-next : goal.overflow_add-next
-overflow_add-next c =
-    let d = (goal.at.overflow_add-next c).After-side_end in
-    omega (arith, next_small d, c.run_at-next.ensures, (side_is d).1, run_small d, c.windows_per_run-each.ensures.value)
+pub run_at-requires : goal.run_at-requires
+run_at-requires c = omega (arith, next_small (goal.at.run_at-requires c).After-side_end)
 
 pub overflow_mul-first : goal.overflow_mul-first
 overflow_mul-first c = omega (arith, run_small (goal.at.overflow_mul-first c).After-side_end)
@@ -61,13 +56,21 @@ inside c = rw c.windows_per_run-each.ensures.value (omega (arith, run_in c, (sid
 pub slice_bounds-channels-end : goal.slice_bounds-channels-end
 slice_bounds-channels-end c = omega (arith, inside (goal.at.slice_bounds-channels-end c).After-side_end, ap length c.entries.ensures.value)
 
--- so many channels are looked at
-few : (c : After-count_without_bits) → c.args.runs.run * c.windows_per_run-each.result + c.args.place + (c.side_end.result - c.args.place) ≤ length c.entries.result.now
-    → c.count_without_bits.result ≤ c.side_end.result - c.args.place
-few c within =
+pub count_apart-requires : goal.count_apart-requires
+count_apart-requires c =
+    let d = (goal.at.count_apart-requires c).After-side_end in
     let first : ℕ = c.args.runs.run * c.windows_per_run-each.result + c.args.place in
     let count : ℕ = c.side_end.result - c.args.place in
-    omega (arith, c.count_without_bits.ensures.few, length-take-le (first + count - first) (drop first c.entries.result.now) (omega (arith, within, length-drop first c.entries.result.now)))
+    let long = length-take-le (first + count - first) (drop first c.entries.result.now) (omega (arith, inside d, ap length c.entries.ensures.value, length-drop first c.entries.result.now)) in
+    omega (arith, next_small d, c.run_at.ensures, long, run_small d, (side_is d).1, c.windows_per_run-each.ensures.value)
+
+-- so many channels are looked at
+few : (d : After-side_end) (c : After-count_apart) → c.args.runs.run * c.windows_per_run-each.result + c.args.place + (c.side_end.result - c.args.place) ≤ length c.entries.result.now
+    → c.count_apart.result ≤ c.side_end.result - c.args.place
+few d c within =
+    let first : ℕ = c.args.runs.run * c.windows_per_run-each.result + c.args.place in
+    let count : ℕ = c.side_end.result - c.args.place in
+    omega (arith, c.count_apart.ensures.few, length-take-le (first + count - first) (drop first c.entries.result.now) (omega (arith, within, length-drop first c.entries.result.now)))
 
 pub returns-clause-range : goal.returns-clause-range
 returns-clause-range c =
@@ -75,8 +78,7 @@ returns-clause-range c =
       omega arith,
       omega (
         arith,
-        few (goal.at.returns-clause-range c).After-count_without_bits
-            (rw c.entries.ensures.value (inside d)),
+        few d (goal.at.returns-clause-range c).After-count_apart (rw c.entries.ensures.value (inside d)),
         side_is d,
       ),
     )
@@ -84,19 +86,16 @@ returns-clause-range c =
 pub returns-clause-free : goal.returns-clause-free
 returns-clause-free c =
     let d = (goal.at.returns-clause-free c).After-side_end in
-    let s = (goal.at.returns-clause-free c).After-count_without_bits in
     let t = c.args.self.now.table.now in
+    let distance = c.args.self.now.distance in
     let first : ℕ = c.args.runs.run * c.windows_per_run-each.result + c.args.place in
-    let n : ℕ = c.side_end.result - c.args.place in
-    let next : ℕ = c.run_at-next.result in
-    let beside : take (next + n - next) (drop next c.deref.result.now) ≡ take n (drop (second_run c.args.runs c.args.place) c.args.self.now.masks.items) =
-    let len : next + n - next ≡ n = omega arith in λ q. take (len q) (drop (c.run_at-next.ensures q) (c.deref.ensures.value q)) in
-    let channels : take (first + n - first) (drop (first) c.entries.result.now) ≡ take n (drop (c.args.runs.run * wide t + c.args.place) t.entries) =
-    let len : first + n - first ≡ n = omega arith in λ q. take (len q) (drop (c.args.runs.run * c.windows_per_run-each.ensures.value q + c.args.place) (c.entries.ensures.value q)) in
-    free_along t c.args.runs c.args.place c.count_without_bits.result n c.args.self.now.distance c.args.self.now.masks.items
-    c.windows_per_run-each.ensures.table.size c.requires.runs c.args.self.now.cover
-    (omega (arith, side_is d)) (few s (rw c.entries.ensures.value (inside d))) (side_is d).2
-    (omega (arith, c.if-len-next.false, c.len.ensures, c.run_at-next.ensures, ap length c.deref.ensures.value, c.deref.ensures.len))
-    (λ i lt has. c.count_without_bits.ensures.lack i lt
-    (subst (λ l. HasBit (get_or l i 0) (get_or (take (first + n - first) (drop (first) c.entries.result.now)) i 0)) (sym beside)
-    (subst (λ l. HasBit (get_or (take n (drop (second_run c.args.runs c.args.place) c.args.self.now.masks.items)) i 0) (get_or l i 0)) (sym channels) has)))
+    let count : ℕ = c.side_end.result - c.args.place in
+    let short = few d (goal.at.returns-clause-free c).After-count_apart (rw c.entries.ensures.value (inside d)) in
+    let read : (i : ℕ) → i < c.count_apart.result → get_or (take (first + count - first) (drop first c.entries.result.now)) i 0 ≡ get_or t.entries (c.args.runs.run * wide t + c.args.place + i) 0 =
+    λ i lt. get_or-take (first + count - first) (drop first c.entries.result.now) i 0 (omega (arith, lt, short)) ∙ get_or-drop first c.entries.result.now i 0
+    ∙ (λ q. get_or (c.entries.ensures.value q) (c.args.runs.run * c.windows_per_run-each.ensures.value q + c.args.place + i) 0) in
+    free_along t c.args.runs c.args.place c.count_apart.result count distance c.windows_per_run-each.ensures.table.size c.requires.runs
+    (omega (arith, side_is d)) short (side_is d).2
+    (λ i lt. subst (λ r. NoneClose t.entries (wide t) distance (r + i) (get_or t.entries (c.args.runs.run * wide t + c.args.place + i) 0)) c.run_at.ensures
+    (subst (NoneClose t.entries (wide t) distance (c.run_at.result + i)) (read i lt)
+    (c.count_apart.ensures.apart t.entries (wide t) distance i (rw c.deref.ensures.value c.args.self.now.cover) lt)))
