@@ -7,6 +7,10 @@ use Rattle.std.specs.Int.{abs_diff, bit_at}
 abbrev pub HasBit : ℕ → ℕ → Type 0
 HasBit mask channel = bit_at mask (channel % 64) ≡ 1
 
+-- the mask has all bits of the other one
+abbrev pub HasBitsOf : ℕ → ℕ → Type 0
+HasBitsOf mask other = (bit : ℕ) → bit_at other bit ≡ 1 → bit_at mask bit ≡ 1
+
 -- the mask has the bits of all channels that are closer to this one than the distance: bit c mod 64 for the channel c
 abbrev pub Covers : ℕ → ℕ → ℕ → Type 0
 Covers mask distance channel = (c : ℕ) → abs_diff c channel < distance → bit_at mask (c % 64) ≡ 1

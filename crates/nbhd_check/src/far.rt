@@ -1,13 +1,16 @@
 //! Windows that begin a bad tuple, if the channels of places at distance two are judged too.
 ghost use Rattle.std.specs.Prelude.{◌≡◌, IfSome, ◌+◌, ◌*◌, ◌^◌, ◌<◌, ◌≤◌, length};
 ghost use Rattle.channel_tables.specs.Tables.{windows_of};
-ghost use Rattle.nbhd_check.specs.Runs.{AreFree, BeginsBadTuple};
+ghost use Rattle.nbhd_check.specs.Counts.{family_len};
+ghost use Rattle.nbhd_check.specs.Masks.{AreMasks};
+ghost use Rattle.nbhd_check.specs.Runs.{AreFree, BeginsBadTuple, wide};
 ghost use Rattle.nbhd_check.specs.FarSearch.{IsFarSearch};
 
 use crate::counts::channel_limit;
 use crate::far_counts::FarCounts;
 use crate::far_masks::FarMasks;
-use crate::masks::{Grouping, group_masks, windows_per_family};
+use crate::masks::{Grouping, group_masks, joined_masks, windows_per_family};
+use crate::near::NearFree;
 use crate::run_search::{window_count, windows_per_run};
 use crate::search::{Search, free_windows};
 use bad_tuples::Tuples;
@@ -19,8 +22,8 @@ use std::thread::Threads;
 // for them.
 const FIRST_TUPLES: usize = 1 << 13;
 
-/// Returns a number of windows such that none of the windows below it begins a bad tuple, if none
-/// below `most` begins one whose second window is too close. At most `threads` threads search.
+/// Returns a number of windows such that none of the windows below it begins a bad tuple. `near` is the
+/// result of the search of second windows. At most `threads` threads search.
 ///
 /// The first tuples are tested one by one. Then masks of the channels of third windows often show that
 /// no third window is too close. If they do not, third windows are counted. The number is 0 if one of
@@ -29,17 +32,19 @@ pub(crate) fn far_free_windows<R: Threads + Sync>(
     rt: &R,
     alloc: Global,
     tuples: Tuples<'_, Table>,
-    most: u32,
+    near: NearFree,
     threads: u32,
 ) -> u32
-    requires { IsFarSearch tuples.windows.now tuples.separation most }
+    requires search { IsFarSearch tuples.windows.now tuples.separation near.windows }
+    requires masks { AreMasks tuples.windows.now.entries (wide tuples.windows.now) tuples.separation.near near.masks.items }
     ensures { AreFree tuples.entry.windows.now (BeginsBadTuple tuples.entry.windows.now tuples.entry.separation) 0 result }
 {
+    let most = near.windows;
     let few = windows_before_masks(tuples.windows).min(most);
     if !is_long_search(tuples.windows, most) || has_bad_tuple(tuples, 0, few) {
         return 0;
     }
-    if let Some(free) = free_by_masks(rt, alloc, tuples, most, threads) {
+    if let Some(free) = free_by_masks(rt, alloc, tuples, near, threads) {
         return free;
     }
     free_by_counts(rt, alloc, tuples, most, threads).unwrap_or(0)
@@ -60,10 +65,11 @@ fn free_by_masks<R: Threads + Sync>(
     rt: &R,
     alloc: Global,
     tuples: Tuples<'_, Table>,
-    most: u32,
+    near: NearFree,
     threads: u32,
 ) -> Option<u32>
-    requires { IsFarSearch tuples.windows.now tuples.separation most }
+    requires search { IsFarSearch tuples.windows.now tuples.separation near.windows }
+    requires masks { AreMasks tuples.windows.now.entries (wide tuples.windows.now) tuples.separation.near near.masks.items }
     ensures { IfSome result (AreFree tuples.entry.windows.now (BeginsBadTuple tuples.entry.windows.now tuples.entry.separation) 0) }
 {
     let Tuples {
@@ -71,11 +77,8 @@ fn free_by_masks<R: Threads + Sync>(
         separation,
     } = tuples;
     let distance = separation.far;
-    let grouping = Grouping {
-        len: windows_per_family(table),
-        distance,
-    };
-    let masks = group_masks(rt, alloc, table, grouping, threads);
+    let most = near.windows;
+    let masks = family_masks(rt, alloc, tuples, near.masks, threads);
     if masks.is_empty() {
         return None;
     }
@@ -89,6 +92,34 @@ fn free_by_masks<R: Threads + Sync>(
         return Some(free);
     }
     None
+}
+
+// Returns masks of families, of the masks of their runs if these are for the same distance.
+fn family_masks<R: Threads + Sync>(
+    rt: &R,
+    alloc: Global,
+    tuples: Tuples<'_, Table>,
+    runs: Vec<u64>,
+    threads: u32,
+) -> Vec<u64>
+    requires some { 1 ≤ tuples.windows.now.rounds }
+    requires runs { AreMasks tuples.windows.now.entries (wide tuples.windows.now) tuples.separation.near runs.items }
+    ensures { AreMasks tuples.entry.windows.now.entries (family_len tuples.entry.windows.now) tuples.entry.separation.far result.items }
+{
+    let Tuples {
+        windows: table,
+        separation,
+    } = tuples;
+    let distance = separation.far;
+    if separation.near == distance && !runs.is_empty() {
+        let len = windows_per_run(table);
+        return joined_masks(alloc, table, &runs, len, len + 1);
+    }
+    let grouping = Grouping {
+        len: windows_per_family(table),
+        distance,
+    };
+    group_masks(rt, alloc, table, grouping, threads)
 }
 
 // Returns a number as `far_free_windows` does, by counts of third windows. Returns `None` if memory for

@@ -45,7 +45,7 @@ fn first_windows<R: Threads + Sync>(
     }
     let near = near_free_windows(rt, alloc, table, separation.near, threads);
     if separation.far == 0 {
-        return near;
+        return near.windows;
     }
     far_free_windows(rt, alloc, tuples, near, threads)
 }

@@ -5,7 +5,7 @@ ghost use Rattle.std.specs.Bool.{OnFalse};
 ghost use Rattle.channel_tables.specs.Tables.{IsTable};
 ghost use Rattle.nbhd_check.specs.declared.masks.TheConstants.{MAX_DISTANCE};
 ghost use Rattle.nbhd_check.specs.Counts.{family_len};
-ghost use Rattle.nbhd_check.specs.Masks.{AreMasks, Covers, HasBit, NoneClose};
+ghost use Rattle.nbhd_check.specs.Masks.{AreMasks, Covers, HasBit, HasBitsOf, NoneClose};
 
 use crate::parallel::part_count;
 use crate::run_search::window_count;
@@ -88,9 +88,9 @@ pub(crate) struct Grouping {
     pub(crate) distance: u32,
 }
 
-/// Returns a mask for each group of windows: bit `c % 64` for each channel `c` that is
-/// close to a channel of the group. Returns none if they do not help, or if memory was refused. At
-/// most `threads` threads make them.
+/// Returns a mask for each group of windows: bit `c % 64` for each channel `c` that is close to a
+/// channel of the group. Returns none if they do not help, or if memory was refused. At most `threads`
+/// threads make them.
 pub(crate) fn group_masks<R: Threads + Sync>(
     rt: &R,
     alloc: Global,
@@ -101,15 +101,11 @@ pub(crate) fn group_masks<R: Threads + Sync>(
     ensures { AreMasks table.now.entries grouping.len grouping.distance result.items }
 {
     let Grouping { len, distance } = grouping;
-    if len < MIN_GROUP_WINDOWS || distance > MAX_DISTANCE {
+    if distance > MAX_DISTANCE || !masks_help(table, len) {
         return Vec::new(alloc);
     }
     let entries = table.entries();
     let groups = entries.len() / len;
-    let first = &entries[..len.min(entries.len())];
-    if is_full(mask_of(first, 1), table.channels()) {
-        return Vec::new(alloc);
-    }
     let Ok(mut masks) = vec![in alloc; 0u64; groups] else {
         return Vec::new(alloc);
     };
@@ -117,6 +113,62 @@ pub(crate) fn group_masks<R: Threads + Sync>(
     let size = groups.div_ceil(parts).max(1);
     fill_masks(rt, &mut masks, entries, grouping, size);
     masks
+}
+
+// Estimates from the first group whether masks of groups of `len` windows help.
+fn masks_help(table: &Table, len: usize) -> bool
+    ensures { IsTrue result → 1 ≤ len }
+{
+    let entries = table.entries();
+    let first = &entries[..len.min(entries.len())];
+    len >= MIN_GROUP_WINDOWS && !is_full(mask_of(first, 1), table.channels())
+}
+
+/// Returns a mask for each `count` groups of `len` windows: the bits of their masks, which are these.
+/// Returns none if they do not help, or if memory was refused.
+pub(crate) fn joined_masks(
+    alloc: Global,
+    table: &Table,
+    masks: &[u64],
+    len: usize,
+    count: usize,
+) -> Vec<u64>
+    requires count { 1 ≤ count }
+    requires len { len ≤ 2 ^ 16 }
+    requires few { count ≤ 2 ^ 16 }
+    ensures { (entries : List ℕ) (distance : ℕ) → AreMasks entries len distance masks.now → AreMasks entries (count * len) distance result.items }
+{
+    if !masks_help(table, count * len) {
+        return Vec::new(alloc);
+    }
+    let Ok(mut joined) = vec![in alloc; 0u64; masks.len() / count] else {
+        return Vec::new(alloc);
+    };
+    join_masks(&mut joined, masks, count);
+    joined
+}
+
+// Joins the masks of `count` groups at a time.
+fn join_masks(joined: &mut [u64], masks: &[u64], count: usize)
+    requires room { length joined.old * count ≤ length masks.now }
+    ensures { (group place : ℕ) → group < length joined.new → place < count
+        → HasBitsOf (slice_index joined.new group) (slice_index masks.now (group * count + place)) }
+{
+    for group in 0..joined.len() {
+        let start = group * count;
+        joined[group] = union_of(&masks[start..start + count]);
+    }
+}
+
+// Returns the bits of these masks.
+fn union_of(masks: &[u64]) -> u64
+    ensures { (place : ℕ) → place < length masks.now → HasBitsOf result (slice_index masks.now place) }
+{
+    let mut union = 0;
+    for mask in masks {
+        union |= *mask;
+    }
+    union
 }
 
 // Estimates whether a mask has the bits of nearly all channels, so that it hardly helps.

@@ -19,18 +19,28 @@ use win_index::place_among_unused;
 // for them.
 const FIRST_WINDOWS: u32 = 1 << 12;
 
-/// Returns a number of windows such that none of the windows below it begins a tuple whose second
-/// window is closer than `distance`. At most `threads` threads search.
+/// The result of a search for windows that begin a tuple whose second window is too close.
+#[derive(Drop)]
+pub(crate) struct NearFree {
+    /// A number of windows such that none of the windows below it begins such a tuple.
+    pub(crate) windows: u32,
+    /// The masks of runs, none if none were made.
+    pub(crate) masks: Vec<u64>,
+}
+
+/// Searches for windows that begin a tuple whose second window is closer than `distance`. At most
+/// `threads` threads search.
 pub(crate) fn near_free_windows<R: Threads + Sync>(
     rt: &R,
     alloc: Global,
     table: &Table,
     distance: u32,
     threads: u32,
-) -> u32
+) -> NearFree
     requires some { 1 ≤ table.now.rounds }
-    ensures few { result ≤ length (windows_of table.now) }
-    ensures free { AreFree table.now (BeginsBadTuple table.now (record { near = distance; far = 0 })) 0 result }
+    ensures few { result.windows ≤ length (windows_of table.now) }
+    ensures free { AreFree table.now (BeginsBadTuple table.now (record { near = distance; far = 0 })) 0 result.windows }
+    ensures masks { AreMasks table.now.entries (wide table.now) distance result.masks.items }
 {
     let count = window_count(table);
     let most = count.min(FIRST_WINDOWS);
@@ -40,9 +50,10 @@ pub(crate) fn near_free_windows<R: Threads + Sync>(
         distance,
         masks,
     };
-    let first = free_windows(rt, Search::Near(&search), most, 1);
-    if first < most || most == count {
-        return first;
+    let windows = free_windows(rt, Search::Near(&search), most, 1);
+    if windows < most || most == count {
+        let masks = Vec::new(alloc);
+        return NearFree { windows, masks };
     }
     let grouping = Grouping {
         len: windows_per_run(table),
@@ -54,7 +65,13 @@ pub(crate) fn near_free_windows<R: Threads + Sync>(
         distance,
         masks,
     };
-    free_windows(rt, Search::Near(&search), count, threads)
+    let windows = free_windows(rt, Search::Near(&search), count, threads);
+    let NearSearch {
+        table: _,
+        distance: _,
+        masks,
+    } = search;
+    NearFree { windows, masks }
 }
 
 /// The search for windows that begin a tuple whose second window is closer than `distance`.
