@@ -182,9 +182,26 @@ fn words_in(text: &[u8]) -> u64 {
     words
 }
 
+// Returns whether a number of a line has ten digits or more, so that it may be too large.
+fn has_long_number(line: &[u8]) -> bool {
+    let mut digits = 0usize;
+    for byte in line {
+        digits = if byte.is_ascii_digit() {
+            digits.saturating_add(1)
+        } else {
+            0
+        };
+        if digits > 9 {
+            return true;
+        }
+    }
+    false
+}
+
 // Returns whether a line is that of a window of this number of identifiers.
 fn has_window(line: &[u8], count: u64) -> bool {
     is_of_window(line)
+        && !has_long_number(line)
         && blanks_advice(line).is_none()
         && words_in(line) == count.saturating_add(2)
         && matches!(line, [b'0'..=b'9', .., b'0'..=b'9'])
@@ -213,7 +230,13 @@ fn numbers_advice(line: &[u8]) -> &'static str {
     if line.iter().any(|byte| matches!(*byte, b'+' | b'-' | b'.')) {
         return "; a number has only digits";
     }
-    blanks_advice(line).unwrap_or(WINDOW)
+    if let Some(advice) = blanks_advice(line) {
+        return advice;
+    }
+    if has_long_number(line) {
+        return "; numbers are at most 4294967295";
+    }
+    WINDOW
 }
 
 // Returns the window of this shape with this number.
