@@ -2,7 +2,7 @@
 
 import { byId, html } from "./dom.js";
 import { roundsOf } from "./language.js";
-import { change, exampleOf, isLinked, state } from "./state.js";
+import { change, exampleAsking, exampleOf, isLinked, state } from "./state.js";
 
 /** The examples: name, title, text, and the number of identifiers that a comment recommends, else 8. */
 export async function loadExamples() {
@@ -52,6 +52,14 @@ export function showExample() {
   for (const item of byId("examples").children) {
     item.setAttribute("aria-current", String(item.firstElementChild.textContent === example?.title));
   }
+  showAnswer();
+}
+
+/** A link to the answer to what the comments of the text have to try. */
+function showAnswer() {
+  const example = exampleAsking(state.text);
+  byId("to-try").hidden = !example;
+  byId("answer").href = `docs/ANSWERS.html#${example ? example.name.replace(/\.txt$/, "") : "what-to-try"}`;
 }
 
 /** Takes an example with its number of identifiers, a new ring if the current one is no ring for it, and the start of its run if

@@ -83,6 +83,14 @@ export const missingExample = () => (isLinked() ? missing : null);
 
 export const exampleOf = (text) => examples.find((example) => example.text === text);
 
+const questionOf = (text) => text.match(/To try: .*/)?.[0];
+
+/** The example whose question a text has: so it is found while one tries and changes the text. */
+export function exampleAsking(text) {
+  const question = questionOf(text);
+  return question && examples.find((example) => questionOf(example.text) === question);
+}
+
 function read() {
   const said = Object.fromEntries(new URLSearchParams(location.hash.slice(1)));
   const values = {};

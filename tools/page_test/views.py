@@ -593,6 +593,8 @@ def examples(page):
     facts = page.value("[...document.querySelectorAll('#examples .aside')].map(e => e.textContent)")
     options = [file.name for file in (ROOT / "examples").glob("*.txt") if re.search(r"#.* --\w", file.read_text())]
     STEPS.equal("examples that speak of the command line", options, [])
+    heads = re.findall(r"^### (\w+)$", (ROOT / "docs/ANSWERS.md").read_text(encoding="utf-8"), re.MULTILINE)
+    answers = {f"{name}.txt": f"docs/ANSWERS.html#{name}" for name in heads}
     STEPS.equal("the list of examples", [fact.split(" ")[0] for fact in facts], names)
     count = len(names)
     for number in range(count):
@@ -602,6 +604,12 @@ def examples(page):
         STEPS.equal(f"example {number + 1}: its name", name, names[number])
         size = "(t => t.scrollWidth <= t.clientWidth && t.scrollHeight <= t.clientHeight)(document.querySelector('#text'))"
         STEPS.check(f"example {number + 1}: the text area is as large as the coloured copy", page.value(size))
+        answer = page.value("document.querySelector('#to-try').hidden ? null : document.querySelector('#answer').getAttribute('href')")
+        STEPS.equal(f"example {number + 1}: its answer", answer, answers.get(names[number]))
+    page.fill("#text", page.value("document.querySelector('#text').value") + "# of my own\n")
+    page.wait("the answer is there while one tries", "document.querySelector('#to-try').checkVisibility()")
+    page.fill("#text", LDB)
+    page.wait("no answer without a question", "!document.querySelector('#to-try').checkVisibility()")
     fields = "[...document.querySelectorAll('input,select,textarea')]"
     STEPS.equal("fields without a label", page.value(f"{fields}.filter(e => !e.labels?.length && !e.ariaLabel).map(e => e.id)"), [])
     unnamed = "[...document.querySelectorAll('button')].filter(e => !(e.textContent.trim() || e.ariaLabel)).length"
