@@ -2,8 +2,8 @@
 
 /**
  * The trees of an explanation, in the order of the text: each has its `head`, as `round 1 r0`, and its `parts` as
- * `{ depth, word, value, counts, number }`. A branch that is not taken does not count. The number of a part is the place of its word
- * among the program's words of expressions, whose `size` says how many of them an expression has.
+ * `{ depth, word, value, counts, number, end }`. A branch that is not taken does not count. Of the `words` of the program's expressions
+ * the line of a part stands for those from `number` to before `end`: for one, or for all of a branch that is not taken.
  */
 export function treesOf(text, words) {
   const trees = [];
@@ -17,8 +17,9 @@ export function treesOf(text, words) {
     }
     const [word, value, ...note] = line.trim().split(" ");
     const counts = note.length === 0;
-    trees.at(-1).parts.push({ depth, word, value: Number(value), counts, number });
-    number += counts ? 1 : words[number]?.size ?? 1;
+    const end = number + (counts ? 1 : words[number]?.size ?? 1);
+    trees.at(-1).parts.push({ depth, word, value: Number(value), counts, number, end });
+    number = end;
   }
   return trees;
 }

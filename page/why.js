@@ -72,11 +72,11 @@ function bringIntoView() {
 function drawTree({ head, parts }, tokens, step, ring) {
   const values = numerals(parts.map(({ value }) => value), state.base, widthOf(ring));
   const branches = branchesOf(parts);
-  const list = html("ul", { role: "tree", "aria-label": head }, ...parts.map(({ depth, word, number }, i) => {
+  const list = html("ul", { role: "tree", "aria-label": head }, ...parts.map(({ depth, word, number, end }, i) => {
     const source = sourceOf(step, word);
     const follow = source && (() => lead(source));
     return html("li", {
-      role: "treeitem", class: branches[i], "aria-level": depth, "data-part": number, tabindex: i === 0 ? "0" : "-1",
+      role: "treeitem", class: branches[i], "aria-level": depth, "data-part": number, "data-end": end, tabindex: i === 0 ? "0" : "-1",
       style: { paddingLeft: `${depth * 1.1 - 0.6}em` },
       onfocus: () => mark(number, tokens), onpointerenter: () => mark(number, tokens), onkeydown: (event) => treeKey(event, follow),
     }, html("code", {}, word), " ", html("b", { class: "code" }, values[i]),
@@ -137,12 +137,12 @@ export function startWhy(show) {
     close();
   });
   box.addEventListener("pointerleave", () => markWord(null));
-  // The other way round: the part of the word that the cursor is in.
+  // The other way round: the part that stands for the word that the cursor is in.
   onWord((index) => {
     if (whyPlace() === null) return;
     const number = partTokens(state.text).findIndex(({ at, length }) => at <= index && index <= at + length);
     for (const item of items()) {
-      const here = Number(item.dataset.part) === number;
+      const here = Number(item.dataset.part) <= number && number < Number(item.dataset.end);
       item.classList.toggle("marked", here);
       if (here) item.scrollIntoView({ block: "nearest" });
     }

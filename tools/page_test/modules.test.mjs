@@ -177,7 +177,7 @@ test("trees: the trees of an explanation, and those of a step", () => {
   assert.deepEqual(trees.map(({ head, parts }) => [head, parts.length]), [
     ["start r0", 1], ["round 1 left", 1], ["round 1 right", 1], ["round 1 r0", 3], ["finish", 1],
   ]);
-  assert.deepEqual(trees[3].parts[1], { depth: 2, word: "L", value: 1, counts: true, number: 4 });
+  assert.deepEqual(trees[3].parts[1], { depth: 2, word: "L", value: 1, counts: true, number: 4, end: 5 });
   const heads = (kind, round) => treesIn(trees, { kind, round }).map(({ head }) => head);
   assert.deepEqual([heads("start", 0), heads("send", 1), heads("assign", 1), heads("finish", 1)], [
     ["start r0"], ["round 1 left", "round 1 right"], ["round 1 r0"], ["finish"],
@@ -193,6 +193,7 @@ test("trees: the branch of an if that is taken, and the other one, whose parts a
   const [{ parts }, last] = treesOf(out, words);
   assert.deepEqual(branchesOf(parts), ["", "", "", "", "other", "taken", "", "taken", "", "", "other"]);
   assert.deepEqual(parts.map(({ number }) => number), [0, 1, 2, 3, 4, 8, 9, 10, 11, 12, 13]);
+  assert.deepEqual(parts.filter(({ counts }) => !counts).map(({ end }) => end), [8, 15]);
   assert.equal(last.parts[0].number, 15);
   for (const { number, word } of [...parts, ...last.parts]) {
     const { at, length } = words[number];

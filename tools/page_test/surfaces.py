@@ -412,6 +412,10 @@ def why_in_view(page):
     STEPS.equal("it says so", page.texts("li.other .branch"), ["not taken"])
     page.value("document.querySelector('li.taken').focus()")
     STEPS.equal("the word of the part behind it", page.texts(".ink .asked"), ["min"])
+    at = three.index("ne(R, 1)") + 3
+    page.value(f"(t => {{ t.focus(); t.setSelectionRange({at}, {at}); t.click(); }})(document.querySelector('#text'))")
+    STEPS.equal("a word in it marks its line", page.texts("li.marked code"), ["if"])
+    STEPS.check("that of the branch", page.count("li.other.marked") == 1)
 
 
 def why_leads_on(page):
