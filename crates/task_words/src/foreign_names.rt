@@ -35,154 +35,57 @@ pub(crate) enum Foreign {
 pub(crate) const LABELLING: &str =
     "nbhd: L(2,1) is `--near 2 --far 1`, of `table`, `judge`, `formula` and `refute`";
 
-// Names of commands of other programs.
-pub(crate) const COMMANDS: [(&[u8], Foreign); 57] = [
-    (b"man", Foreign::Help),
-    (b"info", Foreign::Help),
-    (b"usage", Foreign::Help),
-    (b"manual", Foreign::Help),
-    (b"options", Foreign::Help),
-    (b"commands", Foreign::Help),
-    (b"version", Foreign::Version),
-    (b"simulate", Foreign::Run),
-    (b"simulat", Foreign::Run),
-    (b"simulation", Foreign::Run),
-    (b"exec", Foreign::Run),
-    (b"execute", Foreign::Run),
-    (b"sim", Foreign::Run),
-    (b"verify", Foreign::Verify),
-    (b"validate", Foreign::Verify),
-    (b"verification", Foreign::Verify),
-    (b"validation", Foreign::Verify),
-    (b"test", Foreign::Verify),
-    (b"prove", Foreign::Verify),
-    (b"correct", Foreign::Verify),
-    (b"compile", Foreign::Compile),
-    (b"build", Foreign::Compile),
-    (b"make", Foreign::Compile),
-    (b"format", Foreign::Format),
-    (b"fmt", Foreign::Format),
-    (b"lint", Foreign::Format),
-    (b"parse", Foreign::Format),
-    (b"pretty", Foreign::Format),
-    (b"solve", Foreign::Solve),
-    (b"sat", Foreign::Solve),
-    (b"cnf", Foreign::Solve),
-    (b"dimacs", Foreign::Solve),
-    (b"show", Foreign::Show),
-    (b"draw", Foreign::Show),
-    (b"visualize", Foreign::Show),
-    (b"graph", Foreign::Show),
-    (b"dot", Foreign::Show),
-    (b"plot", Foreign::Show),
-    (b"convert", Foreign::Convert),
-    (b"upgrade", Foreign::Convert),
-    (b"debug", Foreign::Debug),
-    (b"why", Foreign::Debug),
-    (b"step", Foreign::Debug),
-    (b"lrat", Foreign::Unsat),
-    (b"drat", Foreign::Unsat),
-    (b"unsat", Foreign::Unsat),
-    (b"certify", Foreign::Unsat),
-    (b"least", Foreign::Least),
-    (b"search", Foreign::Least),
-    (b"find", Foreign::Least),
-    (b"minimize", Foreign::Least),
-    (b"optimize", Foreign::Least),
-    (b"page", Foreign::Page),
-    (b"serve", Foreign::Page),
-    (b"server", Foreign::Page),
-    (b"gui", Foreign::Page),
-    (b"web", Foreign::Page),
+// Names of commands of other programs, with single spaces between them.
+pub(crate) const COMMANDS: [(&str, Foreign); 13] = [
+    ("man info usage manual options commands", Foreign::Help),
+    ("version", Foreign::Version),
+    ("simulate simulat simulation exec execute sim", Foreign::Run),
+    (
+        "verify validate verification validation test prove correct",
+        Foreign::Verify,
+    ),
+    ("compile build make", Foreign::Compile),
+    ("format fmt lint parse pretty", Foreign::Format),
+    ("solve sat cnf dimacs", Foreign::Solve),
+    ("show draw visualize graph dot plot", Foreign::Show),
+    ("convert upgrade", Foreign::Convert),
+    ("debug why step", Foreign::Debug),
+    ("lrat drat unsat certify", Foreign::Unsat),
+    ("least search find minimize optimize", Foreign::Least),
+    ("page serve server gui web", Foreign::Page),
 ];
 
-// Names of options of other programs.
-pub(crate) const OPTIONS: [(&[u8], Foreign); 85] = [
-    (b"-w", Foreign::Threads),
-    (b"-j", Foreign::Threads),
-    (b"--threads", Foreign::Threads),
-    (b"--jobs", Foreign::Threads),
-    (b"--parallel", Foreign::Threads),
-    (b"--cores", Foreign::Threads),
-    (b"--cpus", Foreign::Threads),
-    (b"--processes", Foreign::Threads),
-    (b"--nthreads", Foreign::Threads),
-    (b"--L21", Foreign::Labelling),
-    (b"--l21", Foreign::Labelling),
-    (b"-L", Foreign::Labelling),
-    (b"--l", Foreign::Labelling),
-    (b"--L", Foreign::Labelling),
-    (b"--lambda", Foreign::Labelling),
-    (b"--distance", Foreign::Labelling),
-    (b"--separation", Foreign::Labelling),
-    (b"--bits", Foreign::Bases),
-    (b"--binary", Foreign::Bases),
-    (b"--bin", Foreign::Bases),
-    (b"--hex", Foreign::Bases),
-    (b"--octal", Foreign::Bases),
-    (b"--radix", Foreign::Bases),
-    (b"--decimal", Foreign::Bases),
-    (b"-b", Foreign::Bases),
-    (b"--node", Foreign::Node),
-    (b"--pos", Foreign::Node),
-    (b"--position", Foreign::Node),
-    (b"--index", Foreign::Node),
-    (b"--at", Foreign::Node),
-    (b"-p", Foreign::Node),
-    (b"-v", Foreign::Quiet),
-    (b"-q", Foreign::Quiet),
-    (b"--quiet", Foreign::Quiet),
-    (b"--verbose", Foreign::Quiet),
-    (b"--silent", Foreign::Quiet),
-    (b"--debug", Foreign::Quiet),
-    (b"-o", Foreign::Output),
-    (b"--output", Foreign::Output),
-    (b"--out", Foreign::Output),
-    (b"-f", Foreign::Text),
-    (b"-i", Foreign::Text),
-    (b"--table", Foreign::Text),
-    (b"--text", Foreign::Text),
-    (b"--stdin", Foreign::Text),
-    (b"-n", Foreign::Identifiers),
-    (b"-m", Foreign::Identifiers),
-    (b"-M", Foreign::Identifiers),
-    (b"-N", Foreign::Identifiers),
-    (b"--N", Foreign::Identifiers),
-    (b"--M", Foreign::Identifiers),
-    (b"--size", Foreign::Identifiers),
-    (b"--max", Foreign::Identifiers),
-    (b"--num", Foreign::Identifiers),
-    (b"--count", Foreign::Identifiers),
-    (b"--id", Foreign::Identifiers),
-    (b"--number", Foreign::Identifiers),
-    (b"-t", Foreign::Rounds),
-    (b"-T", Foreign::Rounds),
-    (b"--t", Foreign::Rounds),
-    (b"--T", Foreign::Rounds),
-    (b"--steps", Foreign::Rounds),
-    (b"--round", Foreign::Rounds),
-    (b"-r", Foreign::Ring),
-    (b"--cycle", Foreign::Ring),
-    (b"-c", Foreign::Colours),
-    (b"-C", Foreign::Colours),
-    (b"-k", Foreign::Colours),
-    (b"--colors", Foreign::Colours),
-    (b"--colours", Foreign::Colours),
-    (b"--C", Foreign::Colours),
-    (b"--k", Foreign::Colours),
-    (b"--channel", Foreign::Colours),
-    (b"--color", Foreign::Colours),
-    (b"--colour", Foreign::Colours),
-    (b"-s", Foreign::Parts),
-    (b"--segment-count", Foreign::Parts),
-    (b"--parts", Foreign::Parts),
-    (b"--seed", Foreign::Chance),
-    (b"--random", Foreign::Chance),
-    (b"--shuffle", Foreign::Chance),
-    (b"--json", Foreign::Forms),
-    (b"--csv", Foreign::Forms),
-    (b"--format", Foreign::Forms),
-    (b"--yaml", Foreign::Forms),
+// Names of options of other programs, with single spaces between them.
+pub(crate) const OPTIONS: [(&str, Foreign); 14] = [
+    (
+        "-w -j --threads --jobs --parallel --cores --cpus --processes --nthreads",
+        Foreign::Threads,
+    ),
+    (
+        "--L21 --l21 -L --l --L --lambda --distance --separation",
+        Foreign::Labelling,
+    ),
+    (
+        "--bits --binary --bin --hex --octal --radix --decimal -b",
+        Foreign::Bases,
+    ),
+    ("--node --pos --position --index --at -p", Foreign::Node),
+    ("-v -q --quiet --verbose --silent --debug", Foreign::Quiet),
+    ("-o --output --out", Foreign::Output),
+    ("-f -i --table --text --stdin", Foreign::Text),
+    (
+        "-n -m -M -N --N --M --size --max --num --count --id --number",
+        Foreign::Identifiers,
+    ),
+    ("-t -T --t --T --steps --round", Foreign::Rounds),
+    ("-r --cycle", Foreign::Ring),
+    (
+        "-c -C -k --colors --colours --C --k --channel --color --colour",
+        Foreign::Colours,
+    ),
+    ("-s --segment-count --parts", Foreign::Parts),
+    ("--seed --random --shuffle", Foreign::Chance),
+    ("--json --csv --format --yaml", Foreign::Forms),
 ];
 
 impl Foreign {
@@ -234,26 +137,32 @@ impl Foreign {
     }
 }
 
+// Returns whether a word is one of some words with single spaces between them.
+pub(crate) fn is_one_of(words: &str, word: &[u8]) -> bool {
+    words.split(' ').any(|it| it.as_bytes() == word)
+}
+
 // Returns the line on the number of threads of a command.
 fn threads_line(command: &[u8]) -> &'static str {
-    match command {
-        b"table" | b"judge" | b"plan" =>
-            "nbhd: the number of threads is given by `--workers`, as in `--workers 4`",
-        b"run" => "nbhd: a run has a thread for each segment, as in `--segments 4`",
-        _ => "nbhd: this command has one thread",
+    if is_one_of("table judge plan", command) {
+        return "nbhd: the number of threads is given by `--workers`, as in `--workers 4`";
     }
+    if is_one_of("run", command) {
+        return "nbhd: a run has a thread for each segment, as in `--segments 4`";
+    }
+    "nbhd: this command has one thread"
 }
 
 // Returns the line on the name of a file, at the command with this name.
 pub(crate) fn file_line(command: &[u8]) -> &'static str {
-    match command {
-        b"formula" => "nbhd: `nbhd formula` reads no file",
-        b"audit" | b"apply" | b"migrate" => {
-            "nbhd: a table is read from standard input, as in `nbhd audit < FILE`"
-        }
-        b"refute" => {
-            "nbhd: a refutation is read from standard input, as in `nbhd refute --ids 3 --rounds 0 --channels 2 < FILE`"
-        }
-        _ => "nbhd: a text is read from standard input, as in `nbhd judge --ids 8 < FILE`",
+    if is_one_of("formula", command) {
+        return "nbhd: `nbhd formula` reads no file";
     }
+    if is_one_of("audit apply migrate", command) {
+        return "nbhd: a table is read from standard input, as in `nbhd audit < FILE`";
+    }
+    if is_one_of("refute", command) {
+        return "nbhd: a refutation is read from standard input, as in `nbhd refute --ids 3 --rounds 0 --channels 2 < FILE`";
+    }
+    "nbhd: a text is read from standard input, as in `nbhd judge --ids 8 < FILE`"
 }

@@ -1,6 +1,6 @@
 //! Advice on a word that `clap` refuses, which its text names. It promises nothing.
 
-use crate::foreign_names::{COMMANDS, Foreign, LABELLING, OPTIONS, file_line};
+use crate::foreign_names::{COMMANDS, Foreign, LABELLING, OPTIONS, file_line, is_one_of};
 
 const NO_COMMAND: &str = "nbhd: the name of a command comes first, as in `nbhd check --ids 8`";
 
@@ -13,35 +13,35 @@ const TWO_MINUSES: &str =
     "nbhd: the name of an option has two minus signs before it, as in `--ids 8`";
 
 // The options, and the commands that have each.
-const OF_COMMANDS: [(&[u8], &str); 9] = [
+const OF_COMMANDS: [(&str, &str); 9] = [
     (
-        b"--ring",
+        "--ring",
         "nbhd: `--ring` is an option of `run`, `trace`, `explain`, `plan` and `apply`",
     ),
     (
-        b"--rounds",
+        "--rounds",
         "nbhd: `--rounds` is an option of `formula` and `refute`; a program says its own",
     ),
     (
-        b"--channels",
+        "--channels",
         "nbhd: `--channels` is an option of `formula` and `refute`; a program says its own",
     ),
     (
-        b"--near",
+        "--near",
         "nbhd: `--near` is an option of `table`, `judge`, `formula` and `refute`",
     ),
     (
-        b"--far",
+        "--far",
         "nbhd: `--far` is an option of `table`, `judge`, `formula` and `refute`",
     ),
     (
-        b"--workers",
+        "--workers",
         "nbhd: `--workers` is an option of `table`, `judge` and `plan`",
     ),
-    (b"--segments", "nbhd: `--segments` is an option of `run`"),
-    (b"--place", "nbhd: `--place` is an option of `explain`"),
+    ("--segments", "nbhd: `--segments` is an option of `run`"),
+    ("--place", "nbhd: `--place` is an option of `explain`"),
     (
-        b"--base",
+        "--base",
         "nbhd: `--base` is an option of `trace` and `explain`",
     ),
 ];
@@ -52,28 +52,26 @@ fn quoted_after<'a>(text: &'a str, beginning: &str) -> Option<&'a str> {
     Some(word)
 }
 
-// Returns the bytes of a word before `=`.
-fn name_of(word: &str) -> &[u8] {
-    match word.split_once('=') {
-        Some((name, _)) => name.as_bytes(),
-        None => word.as_bytes(),
-    }
+// Returns the bytes of a word before the first that is `end`.
+fn part_before(word: &[u8], end: u8) -> &[u8] {
+    let len = word.iter().take_while(|byte| **byte != end).count();
+    &word[..len.min(word.len())]
 }
 
 // Returns the advice on a name in a table.
-fn advice_in(table: &[(&[u8], &'static str)], name: &[u8]) -> Option<&'static str> {
+fn advice_in(table: &[(&str, &'static str)], name: &[u8]) -> Option<&'static str> {
     for (other, advice) in table {
-        if *other == name {
+        if other.as_bytes() == name {
             return Some(advice);
         }
     }
     None
 }
 
-// Returns the first of these names of other programs that is this one.
-fn foreign_in(table: &[(&[u8], Foreign)], name: &[u8]) -> Option<Foreign> {
-    for (other, foreign) in table {
-        if *other == name {
+// Returns what this name of other programs is for.
+fn foreign_in(table: &[(&str, Foreign)], name: &[u8]) -> Option<Foreign> {
+    for (names, foreign) in table {
+        if is_one_of(names, name) {
             return Some(*foreign);
         }
     }
@@ -82,22 +80,9 @@ fn foreign_in(table: &[(&[u8], Foreign)], name: &[u8]) -> Option<Foreign> {
 
 // Returns whether a word is the name of a command.
 fn is_command(word: &[u8]) -> bool {
-    matches!(
+    is_one_of(
+        "check print table judge run trace explain plan audit apply migrate formula refute help",
         word,
-        b"check"
-            | b"print"
-            | b"table"
-            | b"judge"
-            | b"run"
-            | b"trace"
-            | b"explain"
-            | b"plan"
-            | b"audit"
-            | b"apply"
-            | b"migrate"
-            | b"formula"
-            | b"refute"
-            | b"help"
     )
 }
 
@@ -106,88 +91,112 @@ fn is_command_in_capitals(word: &str, lower: &str) -> bool {
     !is_command(word.as_bytes()) && is_command(lower.as_bytes())
 }
 
+// Returns whether a word can be no name: it begins with a digit or a minus sign, or is empty.
+fn is_no_name(word: &[u8]) -> bool {
+    matches!(word, [b'0'..=b'9' | b'-', ..] | [])
+}
+
 // Returns advice on a word in place of a command; `lower` is the word in small letters.
 fn command_advice(word: &str, lower: &str) -> Option<&'static str> {
     if is_command_in_capitals(word, lower) {
         return Some("nbhd: the names of commands have small letters");
     }
-    match word.as_bytes() {
-        b"nbhd" | b"./nbhd" => Some("nbhd: the name of the program stands twice"),
-        [b'0'..=b'9' | b'-', ..] | [] => Some(NO_COMMAND),
-        name => Some(foreign_in(&COMMANDS, name)?.line(b"")),
+    let name = word.as_bytes();
+    if is_one_of("nbhd ./nbhd", name) {
+        return Some("nbhd: the name of the program stands twice");
     }
+    if is_no_name(name) {
+        return Some(NO_COMMAND);
+    }
+    Some(foreign_in(&COMMANDS, name)?.line(b""))
+}
+
+// Returns the line on a word that asks for the version, at the command with this name.
+fn version_line(command: &[u8], name: &[u8]) -> &'static str {
+    if is_one_of("migrate", command) && is_one_of("--version", name) {
+        return "nbhd: `nbhd migrate` prints a table in the newest version";
+    }
+    "nbhd: the first line of `nbhd --help` has the version"
 }
 
 // Returns advice on a word that is no option of a command.
 fn argument_advice(command: &[u8], word: &str) -> Option<&'static str> {
-    let name = name_of(word);
-    match (command, name) {
-        (b"migrate", b"--version") => Some(
-            "nbhd: `nbhd migrate` prints a table in the newest version",
-        ),
-        (_, b"--version" | b"-V") => Some("nbhd: the first line of `nbhd --help` has the version"),
-        ([b'-', ..] | [], _) => Some(NO_COMMAND),
-        (b"audit" | b"apply" | b"migrate", [b'-', b'-', b'a'..=b'z', ..])
-            if is_option_of_numbers(name) => Some(NO_OPTION),
-        (b"print", [b'-', b'-', b'a'..=b'z', ..]) if is_option(name) => Some(PRINTS),
-        (_, [b'-', _, ..]) => {
-            let foreign = foreign_in(&OPTIONS, name).map(|it| it.line(command));
-            foreign.or(advice_in(&OF_COMMANDS, name))
-        }
-        _ => Some(stray_advice(command, name)),
+    let name = part_before(word.as_bytes(), b'=');
+    if is_one_of("--version -V", name) {
+        return Some(version_line(command, name));
+    }
+    if matches!(command, [b'-', ..] | []) {
+        return Some(NO_COMMAND);
+    }
+    if is_one_of("audit apply migrate", command) && is_option_of_numbers(name) {
+        return Some(NO_OPTION);
+    }
+    if is_one_of("print", command) && is_option(name) {
+        return Some(PRINTS);
+    }
+    if matches!(name, [b'-', _, ..]) {
+        return option_advice(command, name);
+    }
+    Some(stray_advice(command, name))
+}
+
+// Returns advice on the name of an option that the command does not have.
+fn option_advice(command: &[u8], name: &[u8]) -> Option<&'static str> {
+    match foreign_in(&OPTIONS, name) {
+        Some(foreign) => Some(foreign.line(command)),
+        None => advice_in(&OF_COMMANDS, name),
     }
 }
 
 // Returns whether this is the name of an option of some command.
 fn is_option(name: &[u8]) -> bool {
-    name == b"--ids".as_slice() || advice_in(&OF_COMMANDS, name).is_some()
+    is_one_of("--ids", name) || advice_in(&OF_COMMANDS, name).is_some()
 }
 
 // Returns whether this is the name of an option of some command, which takes numbers.
 fn is_option_of_numbers(name: &[u8]) -> bool {
-    is_option(name) && name != b"--ring".as_slice()
+    is_option(name) && !is_one_of("--ring", name)
 }
 
 // Returns whether this is the name of an option without its minus signs.
 fn is_bare_option(word: &[u8]) -> bool {
-    matches!(
+    is_one_of(
+        "ids ring rounds channels near far workers segments place base",
         word,
-        b"ids"
-            | b"ring"
-            | b"rounds"
-            | b"channels"
-            | b"near"
-            | b"far"
-            | b"workers"
-            | b"segments"
-            | b"place"
-            | b"base"
     )
-}
-
-// Returns the bytes of a word before the first colon.
-fn before_colon(word: &[u8]) -> &[u8] {
-    let len = word.iter().take_while(|byte| **byte != b':').count();
-    &word[..len.min(word.len())]
 }
 
 // Returns advice on a word that is no option and not the value of one.
 fn stray_advice(command: &[u8], word: &[u8]) -> &'static str {
-    match (command, word) {
-        (_, word) if is_command(word) => "nbhd: one command is given at a time",
-        (_, word) if is_bare_option(word) => TWO_MINUSES,
-        (b"run" | b"trace" | b"explain" | b"plan" | b"apply", [b'0'..=b'9', ..])
-            if word.contains(&b',') => {
-            "nbhd: a ring is given by `--ring`, as in `--ring 5,1,3,7`"
-        }
-        (_, [b'0'..=b'9', ..] | []) =>
-            "nbhd: each number is the value of an option, as in `--ids 8`",
-        (_, [b'<' | b'>', ..]) => "nbhd: `<` and `>` are read by the shell, outside of quotes",
-        (_, [b'L', b'(', ..]) => LABELLING,
-        (b"explain", [b'A'..=b'Z', b'0'..=b'9']) => "nbhd: docs/FAULTS.md explains faults",
-        (_, [b'/', rest @ ..]) if is_bare_option(before_colon(rest)) => TWO_MINUSES,
-        _ => file_line(command),
+    if is_command(word) {
+        return "nbhd: one command is given at a time";
     }
+    if is_bare_option(word) {
+        return TWO_MINUSES;
+    }
+    match word {
+        [b'0'..=b'9', ..] | [] => number_advice(command, word),
+        [b'<' | b'>', ..] => "nbhd: `<` and `>` are read by the shell, outside of quotes",
+        [b'L', b'(', ..] => LABELLING,
+        [b'/', rest @ ..] if is_bare_option(part_before(rest, b':')) => TWO_MINUSES,
+        _ => text_advice(command, word),
+    }
+}
+
+// Returns advice on a word that is empty or begins with a digit.
+fn number_advice(command: &[u8], word: &[u8]) -> &'static str {
+    if is_one_of("run trace explain plan apply", command) && word.contains(&b',') {
+        return "nbhd: a ring is given by `--ring`, as in `--ring 5,1,3,7`";
+    }
+    "nbhd: each number is the value of an option, as in `--ids 8`"
+}
+
+// Returns advice on a word that may be a place of the text of an explanation, or the name of a file.
+fn text_advice(command: &[u8], word: &[u8]) -> &'static str {
+    if is_one_of("explain", command) && matches!(word, [b'A'..=b'Z', b'0'..=b'9']) {
+        return "nbhd: docs/FAULTS.md explains faults";
+    }
+    file_line(command)
 }
 
 /// Returns advice on the word that the text of `clap` on refused words names; `lower` is this text in
