@@ -52,7 +52,6 @@ pub(crate) struct Reached<'s> {
 }
 
 // Starts the run of the window at an index of an upper block, from its first two parts.
-#[tactic(auto, using(crate::proofs::Known::asked_both))]
 pub(crate) fn start_run<'s, S: Source<'s>>(
     upper: UpperBlock<'_>,
     source: &mut S,

@@ -1,11 +1,17 @@
 use Rattle.std.proofs.Common.{rules, ◌+◌, ◌*◌, take, refl, ◌∙◌, arith}
 use Rattle.unroll.specs.Below.{part, IsPartNumber}
 use Rattle.unroll.specs.Parts.{window_in}
-use Rattle.unroll.proofs.Known.{own_entry, part_known, state_held}
+use Rattle.unroll.proofs.Known.{asked_both, own_entry, part_known, state_held}
 use Rattle.win_index.proofs.Positions.{number_of_is}
 use Rattle.unroll.proofs.NextRuns.{middle_at, rest_of_prefix}
 use Rattle.unroll.proofs.SameRun.{first_grows}
 use Rattle.unroll.proofs.run.start_run.Goals as goal
+
+pub returns-in_err-middle-clause-asked : goal.returns-in_err-middle-clause-asked
+returns-in_err-middle-clause-asked g c = asked_both c.in_ok-first.ensures.asked c.in_err-middle.ensures.asked
+
+pub returns-clause-asked : goal.returns-clause-asked
+returns-clause-asked g c = asked_both c.in_ok-first.ensures.asked c.in_ok-middle.ensures.asked
 
 pub part_block-requires : goal.part_block-requires
 part_block-requires g c κs =
