@@ -1,13 +1,19 @@
 -- The window that an odometer shows.
-use Rattle.std.proofs.Common.{◌≡◌, ℕ, ◌+◌, ◌-◌, ◌<◌, ◌≤◌, List, length, length-take, take, get_or, All, subst, arith}
+use Rattle.std.proofs.Common.{◌≡◌, ℕ, ◌+◌, ◌-◌, ◌*◌, ◌<◌, ◌≤◌, List, [], ◌∷◌, ◌++◌, length, length-take, length-take-le, take, take_all, get_or, All, ap, sym, subst, ◌∙◌, arith}
 use Rattle.std.proofs.lemmas.List.{take-take, get_or-take, length_push}
 use Rattle.std.proofs.lemmas.List.Elements.{All-push}
 use Rattle.win_index.proofs.Kept.{kept_is}
+use Rattle.win_index.specs.Windows.{unused, IsWindow}
+use Rattle.win_index.specs.declared.limits.TheConstants.{MAX_IDS, MAX_WINDOW_LEN}
 use Rattle.win_index.proofs.Unused.{lacks}
 use Rattle.table_text.specs.Orders.{IsOrder, IsFollowedBy}
 use Rattle.table_text.specs.Odometers.{IsOdometer, front_of, last_of, window_of}
 use Rattle.table_text.specs.declared.odometer.Odometer.{Odometer}
-use Rattle.table_text.proofs.Orders.{lacked_in_turn}
+use Rattle.table_text.specs.declared.line_prefix.LinePrefix.{LinePrefix}
+use Rattle.table_text.specs.Pieces.{prefix_text}
+use Rattle.table_text.specs.Prefixes.{HasTexts}
+use Rattle.table_text.specs.TableText.{ids_then}
+use Rattle.table_text.proofs.Orders.{lacked_in_turn, last_place}
 
 -- the number at a place after the window
 pub later_below : (k m last : ℕ) (order : List ℕ) → IsOrder k m (take m order) → k ≤ last → last < m →
@@ -37,6 +43,23 @@ window_size o is =
       is.within,
     )
 
+-- the text of the prefix has at most 8 bytes for each identifier
+pub prefix_short : (o : Odometer) → IsOdometer o → length (prefix_text o.prefix) ≤ 8 * o.front
+prefix_short o is =
+    let size : length (front_of o) ≡ o.front =
+    length-take-le o.front o.order (omega (arith, length-take o.ids o.order, is.order.size, is.from, is.within)) in
+    let end : ℕ = get_or o.prefix.ends (length (front_of o)) 0 in
+    let text : take end o.prefix.bytes ≡ ids_then (front_of o) [] =
+    is.texts.each (length (front_of o)) (omega arith) ∙ ap (λ l. ids_then l []) (take_all _ (front_of o) (omega arith)) in
+    omega (
+      arith,
+      ap length is.text,
+      ap length text,
+      length-take end o.prefix.bytes,
+      is.texts.few (length (front_of o)) (omega arith),
+      size,
+    )
+
 -- the next window, of known sizes
 pub followed_at : (k m : ℕ) (old new : Odometer) → old.front ≡ k → old.ids ≡ m →
     IsFollowedBy (old.front + 1) old.ids (window_of old) (window_of new)
@@ -44,3 +67,27 @@ pub followed_at : (k m : ℕ) (old new : Odometer) → old.front ≡ k → old.i
 followed_at k m old new front_is ids_is next =
     subst (λ n. IsFollowedBy (k + 1) n (window_of old) (window_of new)) ids_is
     (subst (λ n. IsFollowedBy (n + 1) old.ids (window_of old) (window_of new)) front_is next)
+
+-- an odometer with the order of a window's prefix shows the window
+pub shows_window : (k m last : ℕ) (window order : List ℕ) (prefix : LinePrefix) → m ≤ MAX_IDS → k < MAX_WINDOW_LEN
+    → IsWindow (k + 1) m window → IsOrder k m (take m order) → take k (take m order) ≡ take k window →
+    last ≡ k + length (unused (get_or window k 0) (take k window))
+    → HasTexts prefix.bytes prefix.ends (take k window) → prefix_text prefix ≡ ids_then (take k window) []
+    → IsOdometer (record { order = order; ids = m; front = k; last = last; prefix = prefix })
+    × (take k order ++ get_or order last 0 ∷ [] ≡ window)
+shows_window k m last window order prefix few short is ordered same place texts text =
+    let at' = last_place k m last window (take m order) is ordered same place in
+    let front : take k order ≡ take k window =
+    sym (take-take k m order (omega (arith, at'.0, place))) ∙ same in
+    let item : get_or (take m order) last 0 ≡ get_or order last 0 = get_or-take m order last 0 at'.0 in (
+      record {
+        few = few;
+        short = short;
+        order = ordered;
+        from = omega (arith, place);
+        within = at'.0;
+        texts = rw front texts;
+        text = rw front text;
+      },
+      rw front (rw (same, item) at at'.1),
+    )

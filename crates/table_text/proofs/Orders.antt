@@ -1,16 +1,15 @@
 -- Orders of numbers: what a window with one more number lacks, and the window that follows.
-use Rattle.std.proofs.Common.{◌≡◌, ◌≢◌, ◌⊎◌, ℕ, zero, suc, ◌+◌, ◌-◌, ◌*◌, ◌<◌, ◌≤◌, true, false, eqb, List, [], ◌∷◌, ◌++◌, length, get_or, take, drop, set, filter, slice_get, Some, refl, sym, ap, subst, ◌∙◌, arith, add-one, append_assoc, length-append, ⊎_elim, inl, inr}
+use Rattle.std.proofs.Common.{◌≡◌, ◌≢◌, ◌⊎◌, ℕ, zero, suc, ◌+◌, ◌-◌, ◌*◌, ◌<◌, ◌≤◌, true, false, cond, not, eqb, List, [], ◌∷◌, ◌++◌, length, get_or, take, drop, set, filter, slice_get, Some, refl, sym, ap, subst, ◌∙◌, arith, add-one, append_assoc, length-append, ⊎_elim, inl, inr}
 use Rattle.std.specs.List.{range_with_len, remove}
-use Rattle.std.proofs.lemmas.List.FromFn.{length-range_with_len}
 use Rattle.std.proofs.lemmas.Bool.{not-true, not_from_false, eq-eqb, ne_eqb, cases_lt}
 use Rattle.std.proofs.Math.Nat.{suc-mul}
-use Rattle.std.proofs.lemmas.List.{take_at, drop_at, set_at, take_more, take-take, take-append-drop, drop_more, get_or-take, take-append-le, same_from_push, length-take, length-drop, append_cancel_left, append-nil, get_or-drop, get_or_at, nil_from_length}
+use Rattle.std.proofs.lemmas.List.{take_at, drop_at, set_at, take_more, take_more_set, take_all, take-take, take-append-drop, drop_more, get_or-take, take-append-le, same_from_push, length-take, length-drop, append_cancel_left, append-nil, get_or-drop, get_or_at, nil_from_length}
 use Rattle.std.proofs.lemmas.List.Folds.{list_any-append}
-use Rattle.std.proofs.lemmas.Option.{slice_get-get_or, slice_get_within}
+use Rattle.std.proofs.lemmas.Option.{slice_get-get_or, slice_get_within, same_Some}
 use Rattle.win_index.specs.Windows.{is_used, unused, windows, IsWindow}
-use Rattle.win_index.proofs.Kept.{kept, kept_split, kept_is, slice_get-append_right}
-use Rattle.win_index.proofs.Unused.{lacks, length-unused}
-use Rattle.win_index.proofs.Numbers.{windows-zero, push_window, window_parts, window_from_parts, windows_all, length-windows}
+use Rattle.win_index.proofs.Kept.{kept, kept_split, kept_suc, kept_is, slice_get-append_right}
+use Rattle.win_index.proofs.Unused.{lacks, length-unused, unused_at}
+use Rattle.win_index.proofs.Numbers.{push_window, window_parts, window_from_parts, length-windows}
 use Rattle.win_index.proofs.Positions.{free_at}
 use Rattle.win_index.proofs.Successors.{shorter_window}
 use Rattle.table_text.specs.Orders.{IsOrder, IsFollowedBy, IsStep, place_of}
@@ -119,6 +118,20 @@ grown k m order lt is =
     let whole : take k order ++ z ∷ drop (k + 1) order ≡ order = ap (λ l. take k order ++ l) (sym rest)
     ∙ take-append-drop k order in
     (rw whole at with_z, take_more order k 0 long, all)
+
+-- a window, followed by the numbers that it lacks
+pub order_of : (k m : ℕ) (front order : List ℕ) → IsWindow k m front → order ≡ front ++ unused m front →
+    IsOrder k m order × (take k order ≡ front)
+order_of k m front order window whole =
+    let first : take k order ≡ front = ap (take k) whole ∙ take_at front (unused m front) k window.size in
+    let free = length-unused front m window.distinct window.below in (
+      record {
+        size = omega (arith, ap length whole, length-append front (unused m front), free);
+        window = rw first window;
+        rest = ap (drop k) whole ∙ drop_at front (unused m front) k window.size ∙ ap (unused m) (sym first);
+      },
+      first,
+    )
 
 -- ---- the parts of an order
 
@@ -291,15 +304,7 @@ rotated k m old new is full moved =
     ∙ sym of.all in
     let whole = moved ∙ ap (λ l. l ++ x ∷ []) (remove_is old k)
     ∙ append_assoc front (drop (k + 1) old) (x ∷ []) ∙ ap (λ l. front ++ l) rest in
-    let first : take k new ≡ front = ap (take k) whole ∙ take_at front (unused m front) k of.window.size in
-    let free = length-unused front m of.window.distinct of.window.below in (
-      record {
-        size = omega (arith, ap length whole, length-append front (unused m front));
-        window = rw first of.window;
-        rest = ap (drop k) whole ∙ drop_at front (unused m front) k of.window.size ∙ ap (unused m) (sym first);
-      },
-      first,
-    )
+    order_of k m front new of.window whole
 
 -- the next prefix is followed by the least number that it lacks
 pub later : (k m : ℕ) (old new : List ℕ) → IsOrder (k + 1) m old → length old ≤ place_of k old →
@@ -328,34 +333,7 @@ only_window m order is =
           absurd (omega arith);
     }
 
--- ---- the first order
-
--- the empty list lacks all numbers
-lacked_by_none : (a n : ℕ) → filter (lacks []) (range_with_len a n) ≡ range_with_len a n
-lacked_by_none a zero = refl
-lacked_by_none a (suc n) = ap (λ l. a ∷ l) (lacked_by_none (a + 1) n)
-
-pub rising_order : (m : ℕ) → IsOrder 0 m (range_with_len 0 m)
-rising_order m =
-    record {
-      size = length-range_with_len 0 m;
-      window = windows_all 0 m 0 [] (rw (windows-zero m) refl);
-      rest = sym (lacked_by_none 0 m);
-    }
-
--- the numbers in rising order begin with the first window
-pub first_order : (k m : ℕ) (order : List ℕ) → k ≤ m → IsOrder 0 m order →
-    IsOrder k m order × (slice_get (windows k m) 0 ≡ Some (take k order))
-first_order zero m order le is = (is, rw (windows-zero m) refl)
-first_order (suc k) m order le is =
-    let before = first_order k m order (omega arith) is in
-    let more = grown k m order (omega arith) before.0 in
-    let step : k + 1 ≡ suc k = omega arith in
-    let number : 0 * (m - k) + 0 ≡ 0 = omega arith in
-    let first = window_from_parts k m 0 0 (get_or order k 0) (take k order) before.1 (ap (λ l. slice_get l 0) more.2) in
-    (rw step at more.0, rw number at first ∙ ap Some (rw step at (sym more.1)))
-
--- ---- the windows of a run
+-- ---- the order of a window
 
 -- the numbers after the window are those that it lacks, in turn
 pub lacked_in_turn : (k m i : ℕ) (order : List ℕ) → IsOrder k m order → k + i < m →
@@ -364,6 +342,72 @@ lacked_in_turn k m i order is lt =
     ap (λ l. slice_get l i) (sym is.rest)
     ∙ slice_get-get_or (drop k order) i 0 (omega (arith, length-drop k order, is.size))
     ∙ ap Some (get_or-drop k order i 0)
+
+-- a window is no longer than there are numbers
+pub window_fits : (k m : ℕ) (window : List ℕ) → IsWindow k m window → k ≤ m
+window_fits k m window is = omega (arith, length-unused window m is.distinct is.below, is.size)
+
+-- the next number is lacked or not
+pub unused_more : (id : ℕ) (list : List ℕ) → is_used list id ≡ false →
+    unused (id + 1) list ≡ unused id list ++ id ∷ []
+unused_more id list free =
+    let next : id + 1 ≡ suc id = omega arith in
+    ap (λ n. unused n list) next ∙ kept_suc (lacks list) id
+    ∙ ap (λ b. kept (lacks list) id ++ cond b (id ∷ []) []) (not_from_false (is_used list id) free)
+
+pub unused_same : (id : ℕ) (list : List ℕ) → is_used list id ≡ true → unused (id + 1) list ≡ unused id list
+unused_same id list used =
+    let next : id + 1 ≡ suc id = omega arith in
+    ap (λ n. unused n list) next ∙ kept_suc (lacks list) id
+    ∙ ap (λ b. kept (lacks list) id ++ cond (not b) (id ∷ []) []) used ∙ append-nil (kept (lacks list) id)
+
+-- the first numbers of an order that is being filled
+pub first_filled : (k filled : ℕ) (front rest order : List ℕ) → length front ≡ k → k ≤ filled →
+    take filled order ≡ front ++ rest → take k order ≡ front
+first_filled k filled front rest order size le is =
+    sym (take-take k filled order le) ∙ ap (take k) is ∙ take_at front rest k size
+
+-- one more number of it
+pub filled_more : (id filled : ℕ) (front order : List ℕ) → filled < length order → is_used front id ≡ false →
+    take filled order ≡ front ++ unused id front →
+    take (filled + 1) (set order filled id) ≡ front ++ unused (id + 1) front
+filled_more id filled front order lt free is =
+    take_more_set order filled id lt ∙ ap (λ l. l ++ id ∷ []) is ∙ append_assoc front (unused id front) (id ∷ [])
+    ∙ ap (λ l. front ++ l) (sym (unused_more id front free))
+
+-- a window and the numbers that it lacks below one more that it lacks are fewer than all
+pub unused_fit : (k m id : ℕ) (front : List ℕ) → IsWindow k m front → id < m → is_used front id ≡ false →
+    k + length (unused id front) < m
+unused_fit k m id front window lt free =
+    omega (
+      arith,
+      length-unused front m window.distinct window.below,
+      window.size,
+      slice_get_within (unused m front) (length (unused id front)) id (unused_at front m id lt free),
+    )
+
+-- the last number of a window stands at its position among those that its prefix lacks
+pub last_place : (k m last : ℕ) (window order : List ℕ) → IsWindow (k + 1) m window → IsOrder k m order →
+    take k order ≡ take k window
+    → last ≡ k + length (unused (get_or window k 0) (take k window)) →
+    (last < m) × (take k order ++ get_or order last 0 ∷ [] ≡ window)
+last_place k m last window order is ordered same place =
+    let x : ℕ = get_or window k 0 in
+    let long : k < length window = omega (arith, is.size) in
+    let free : is_used (take k window) x ≡ false = free_at window k is.distinct long in
+    let below : x < m = is.below k 0 long in
+    let at' = unused_at (take k window) m x below free in
+    let i : ℕ = length (unused x (take k window)) in
+    let within = slice_get_within (unused m (take k window)) i x at' in
+    let size = length-unused (take k order) m ordered.window.distinct ordered.window.below in
+    let fits : k + i < m = omega (arith, within, size, ordered.window.size, ap (λ l. length (unused m l)) same) in
+    let item = sym (lacked_in_turn k m i order ordered fits) ∙ ap (λ l. slice_get (unused m l) i) same ∙ at' in
+    let own : get_or order last 0 ≡ x = ap (λ n. get_or order n 0) place ∙ same_Some _ _ item in (
+      omega (arith, place, fits),
+      rw (same, own) (sym (take_more window k 0 long) ∙ take_all (k + 1) window (omega (arith, is.size))),
+    )
+
+-- ---- the windows of a run
 
 -- the next number after the window ends the next window of the run
 pub next_of_run : (k m last : ℕ) (order : List ℕ) → IsOrder k m (take m order) → k ≤ last → last + 1 < m

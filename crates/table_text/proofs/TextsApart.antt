@@ -26,7 +26,7 @@ entry_append window channel rest more =
     ids_append window (codes ": " ++ (decimal channel ++ 10 ∷ rest)) more
     ∙ ap (λ l. ids_then window (codes ": " ++ l)) (field_append channel 10 rest more)
 
-entries_append : (windows : List (List ℕ)) (channels rest more : List ℕ)
+pub entries_append : (windows : List (List ℕ)) (channels rest more : List ℕ)
     → entries_then windows channels rest ++ more ≡ entries_then windows channels (rest ++ more)
 entries_append windows [] rest more = refl
 entries_append [] (c ∷ channels) rest more = refl
@@ -57,7 +57,7 @@ title_append : (version : Version) (rest more : List ℕ) →
 title_append One rest more = refl
 title_append Two rest more = refl
 
-head_append : (w : Written) (rest more : List ℕ) → head_then w rest ++ more ≡ head_then w (rest ++ more)
+pub head_append : (w : Written) (rest more : List ℕ) → head_then w rest ++ more ≡ head_then w (rest ++ more)
 head_append w rest more =
     let t = w.table in
     title_append w.version (sizes_then w.version t.rounds t.ids t.channels w.separation rest) more

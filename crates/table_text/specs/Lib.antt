@@ -10,3 +10,4 @@ pub mod Pieces
 pub mod Orders
 pub mod Prefixes
 pub mod Odometers
+pub mod Sections

@@ -8,9 +8,11 @@ mod line_prefix;
 mod lines;
 mod numbers;
 mod odometer;
+mod parallel;
 mod piece;
 mod pieces;
 mod reading;
+mod sections;
 mod storing;
 mod version;
 mod writing;
@@ -20,5 +22,6 @@ pub use laws::{
     one_table_fault, table_texts_are_apart, table_texts_are_read, table_texts_are_short,
 };
 pub use limits::LONGEST_TABLE_TEXT;
+pub use parallel::write_table_with_workers;
 pub use reading::read_table;
 pub use writing::write_table;

@@ -2,13 +2,13 @@
 //! use.
 
 ghost use Rattle.std.specs.Prelude.{◌≡◌, ◌+◌, ◌≤◌, length, take};
-ghost use Rattle.std.specs.List.{range_with_len};
+ghost use Rattle.win_index.specs.Windows.{IsWindow};
 ghost use Rattle.win_index.specs.declared.limits.TheConstants.{MAX_IDS};
 ghost use Rattle.table_text.specs.Orders.{IsOrder, IsStep, place_of};
 
 use crate::line_prefix::LinePrefix;
 use crate::piece::Piece;
-use win_index::{MAX_IDS, MAX_WINDOW_LEN, place_among_unused};
+use win_index::{MAX_IDS, MAX_WINDOW_LEN, Shape, place_among_unused};
 
 // Moves the last identifier of the first `last + 1`, the largest that those before it lack, to the
 // end.
@@ -43,16 +43,33 @@ fn next_front(order: &mut [u32], len: usize) -> usize
     next_front(order, last)
 }
 
-// Returns the numbers below `ids` in rising order, in the first cells.
-fn rising(ids: u32) -> [u32; MAX_IDS as usize]
-    requires { ids ≤ MAX_IDS }
-    ensures { take ids result ≡ range_with_len 0 ids }
+// Writes the identifiers that the first `front` lack behind them, in rising order.
+fn append_unused(order: &mut [u32], front: usize)
+    requires ids { length order.old ≤ MAX_IDS }
+    requires front { IsWindow front (length order.old) (take front order.old) }
+    ensures order { IsOrder front (length order.old) order.new }
+    ensures kept { take front order.new ≡ take front order.old }
 {
-    let mut order = [0; MAX_IDS as usize];
+    let ids = order.len() as u32;
+    let mut filled = front;
     for id in 0..ids {
-        order[id as usize] = id;
+        if !order[..front].contains(&id) {
+            order[filled] = id;
+            filled += 1;
+        }
     }
-    order
+}
+
+// Writes an order of `ids` identifiers that begins with a window, in the first cells.
+fn write_order(order: &mut [u32], ids: usize, window: &[u32])
+    requires ids { (ids ≤ length order.old) × (ids ≤ MAX_IDS) }
+    requires window { IsWindow (length window.now) ids window.now }
+    ensures order { IsOrder (length window.now) ids (take ids order.new) }
+    ensures window { take (length window.now) (take ids order.new) ≡ window.now }
+{
+    let order = &mut order[..ids];
+    order[..window.len()].copy_from_slice(window);
+    append_unused(order, window.len());
 }
 
 // A window, as an odometer shows it, and the text of its prefix, all identifiers but the last.
@@ -69,30 +86,49 @@ pub(crate) struct Odometer {
 }
 
 impl Odometer {
-    ghost use Rattle.std.specs.Prelude.{◌≡◌, ◌+◌, ◌<◌, ◌≤◌, Some, length, slice_get};
+    ghost use Rattle.std.specs.Prelude.{◌≡◌, ◌+◌, ◌*◌, ◌<◌, ◌≤◌, Some, length, slice_get};
     ghost use Rattle.win_index.specs.declared.limits.TheConstants.{MAX_IDS, MAX_WINDOW_LEN};
-    ghost use Rattle.win_index.specs.Windows.{windows};
+    ghost use Rattle.win_index.specs.Windows.{windows, IsWindow};
     ghost use Rattle.table_text.specs.Pieces.{id_text, AreTexts};
     ghost use Rattle.table_text.specs.Orders.{IsFollowedBy};
     ghost use Rattle.table_text.specs.Odometers.{IsOdometer, window_of, last_of};
 
-    // Shows the first window of `front` identifiers and one more.
-    pub(crate) fn first(ids: u32, front: usize, pieces: &[Piece]) -> Odometer
-        requires ids { ids ≤ MAX_IDS }
-        requires front { (front < MAX_WINDOW_LEN) × (front < ids) }
-        requires pieces { AreTexts id_text pieces.now × (length pieces.now ≡ ids) }
+    // Shows the window of the last level with this number.
+    pub(crate) fn at(shape: Shape, number: u32, pieces: &[Piece]) -> Odometer
+        requires number { number < length (windows (2 * shape.rounds + 1) shape.ids) }
+        requires pieces { AreTexts id_text pieces.now × (length pieces.now ≡ shape.ids) }
         ensures is { IsOdometer result }
-        ensures of { (result.front ≡ front) × (result.ids ≡ ids) }
-        ensures first { slice_get (windows (front + 1) ids) 0 ≡ Some (window_of result) }
+        ensures of { (result.front ≡ 2 * shape.rounds) × (result.ids ≡ shape.ids) }
+        ensures window { slice_get (windows (2 * shape.rounds + 1) shape.ids) number ≡ Some (window_of result) }
     {
-        let order = rising(ids);
+        let level = shape.rounds();
+        let mut cells = [0; MAX_WINDOW_LEN];
+        let window = &mut cells[..2 * level as usize + 1];
+        shape.window(level, number, window);
+        Odometer::of_window(window, pieces)
+    }
+
+    // Shows a window. There is a piece for each identifier.
+    fn of_window(window: &[u32], pieces: &[Piece]) -> Odometer
+        requires len { (0 < length window.now) × (length window.now ≤ MAX_WINDOW_LEN) }
+        requires window { IsWindow (length window.now) (length pieces.now) window.now }
+        requires pieces { AreTexts id_text pieces.now × (length pieces.now ≤ MAX_IDS) }
+        ensures is { IsOdometer result }
+        ensures of { (result.front + 1 ≡ length window.now) × (result.ids ≡ length pieces.now) }
+        ensures window { window_of result ≡ window.now }
+    {
+        let front = window.len() - 1;
+        let shared = &window[..front];
+        let last = front + place_among_unused(shared, window[front]) as usize;
+        let mut order = [0; MAX_IDS as usize];
+        write_order(&mut order, pieces.len(), shared);
         let mut prefix = LinePrefix::empty();
-        prefix.show(pieces, &order[..front], 0);
+        prefix.show(pieces, shared, 0);
         Odometer {
             order,
-            ids: ids as usize,
+            ids: pieces.len(),
             front,
-            last: front,
+            last,
             prefix,
         }
     }

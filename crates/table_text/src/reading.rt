@@ -114,7 +114,7 @@ fn entries<'a>(
     let level = shape.rounds();
     let count = shape.count(level);
     let ids: &[Piece] = &pieces.ids;
-    let mut odometer = Odometer::first(shape.ids(), 2 * level as usize, ids);
+    let mut odometer = Odometer::at(shape, 0, ids);
     let mut rest = start;
     'lines: for number in 0..count {
         match line_at(&odometer, &pieces, rest) {

@@ -35,10 +35,10 @@ lines-init c =
             below = All-nil (λ (x : ℕ). x < c.args.header.channels);
           });
       count = ap (λ t. length t.entries) made;
-      shows = c.first-odometer.ensures.is;
-      front_is = c.first-odometer.ensures.of.0 ∙ ap (λ n. 2 * n) c.rounds-level.ensures;
-      ids_is = c.first-odometer.ensures.of.1 ∙ c.ids-2.ensures;
-      next = λ _. rw (c.rounds-level.ensures, c.ids-2.ensures) at c.first-odometer.ensures.first;
+      shows = c.at-odometer.ensures.is;
+      front_is = c.at-odometer.ensures.of.0;
+      ids_is = c.at-odometer.ensures.of.1;
+      next = λ _. c.at-odometer.ensures.window;
       read =
           c.requires.header ∙ ap (λ t. lines_then (written c.args.version t c.args.header.separation) c.args.start.now)
           (sym made);

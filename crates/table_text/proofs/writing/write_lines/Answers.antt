@@ -1,19 +1,18 @@
-use Rattle.std.proofs.Common.{◌≡◌, ℕ, ◌+◌, ◌*◌, ◌<◌, ◌≤◌, List, Option, [], ◌++◌, length, take, refl, ap, ◌∙◌, subst, arith, rules, append-nil}
+use Rattle.std.proofs.Common.{◌≡◌, ℕ, ◌+◌, ◌*◌, ◌≤◌, List, Option, [], ◌++◌, length, take, refl, sym, ap, ◌∙◌, subst, arith, rules, add-one, append-nil}
+use Rattle.std.proofs.Math.Nat.{suc-mul}
 use Rattle.std.proofs.lemmas.Result.{on_err_weaker, on_ok_weaker}
 use Rattle.std.proofs.lemmas.List.{take_all}
 use Rattle.std.proofs.KnownBytes.{Appends-nil}
-use Rattle.win_index.specs.Windows.{windows}
 use Rattle.channel_tables.specs.Tables.{ChannelTable, windows_of}
 use Rattle.channel_tables.specs.declared.separation.Separation.{Separation}
 use Rattle.devices.specs.declared.chunk.TheConstants.{CHUNK_LEN}
 use Rattle.table_text.specs.declared.version.Version.TheVariants.{Two}
-use Rattle.table_text.specs.declared.writing.TheConstants.{LINE_LEN}
-use Rattle.table_text.specs.TableText.{Written, written, lines_then, entry_then, end_then, text_of}
-use Rattle.table_text.specs.Pieces.{id_text, channel_text}
-use Rattle.table_text.specs.Odometers.{front_of, last_of, window_of}
-use Rattle.table_text.proofs.Odometers.{followed_at}
+use Rattle.table_text.specs.declared.sections.TheConstants.{LINE_LEN}
+use Rattle.table_text.specs.declared.sections.Lines.{Lines}
+use Rattle.table_text.specs.TableText.{Written, written, head_then, lines_then, end_then, text_of}
+use Rattle.table_text.specs.Sections.{lines_from}
 use Rattle.table_text.proofs.TextsApart.{lines_append}
-use Rattle.table_text.proofs.WrittenLines.{front_more, lines_front, line_of_run}
+use Rattle.table_text.proofs.WrittenLines.{front_of, section_more, sections_all, lines_front}
 use Rattle.devices.specs.Output.{IsWrittenSoFar}
 use Rattle.devices.proofs.Known.{on_err}
 use Rattle.devices.proofs.WrittenChunks.{tells_more, tells_moved, tells_all, tells_front}
@@ -22,86 +21,58 @@ use Rattle.table_text.proofs.writing.write_lines.Given.{Over}
 use Rattle.table_text.proofs.writing.write_lines.Goals.{After-send}
 use Rattle.table_text.proofs.writing.write_lines.Goals as goal
 
+full : (t : ChannelTable) (lines : Lines) → lines.table.now ≡ t → length t.entries ≡ length (windows_of t)
+full t lines is = subst (λ u. length u.entries ≡ length (windows_of u)) is lines.full
+
 le_same : {a b : ℕ} → a ≡ b → a ≤ b
 le_same same = omega arith
-
--- as many windows are counted as the table has
-counted : (t : ChannelTable) (level ids count : ℕ) → level ≡ t.rounds → ids ≡ t.ids
-    → count ≡ length (windows (2 * level + 1) ids) → count ≡ length (windows_of t)
-counted t level ids count level_is ids_is is = is ∙ (λ i. length (windows (2 * level_is i + 1) (ids_is i)))
-
-below_count : (n count windows entries : ℕ) → n < count → count ≡ windows → entries ≡ windows → n < entries
-below_count n count windows entries lt count_is full = omega arith
-
-all_lines : (n count windows entries : ℕ) → count ≤ n → count ≡ windows → entries ≡ windows → entries ≤ n
-all_lines n count windows entries le count_is full = omega arith
 
 room_left : (filled : ℕ) → filled + LINE_LEN ≤ CHUNK_LEN → filled + 8 ≤ CHUNK_LEN
 room_left filled fits = omega arith
 
-pub loop-number-init : goal.loop-number-init
+-- Of no section there are the first two lines.
+none_told : (t : ChannelTable) (s : Separation) (size : ℕ) → head_then (written Two t s) []
+    ≡ lines_then (written Two (record t { entries = take (0 * size) t.entries }) s) []
 unfolding lines_then
-loop-number-init g c =
-    let shape = c.shape-shape.ensures in
-    let level_is : c.rounds-level.result ≡ c.args.table.now.rounds = c.rounds-level.ensures ∙ shape.rounds in
-    let ids_is = c.ids.ensures ∙ shape.ids in
+none_told t s size =
+    let none : 0 * size ≡ 0 = omega arith in
+    rw none refl
+
+pub loop-section-init : goal.loop-section-init
+loop-section-init g c =
     record {
-      shows = c.first-odometer.ensures.is;
-      front = c.first-odometer.ensures.of.0 ∙ ap (λ n. 2 * n) level_is;
-      ids = c.first-odometer.ensures.of.1 ∙ ids_is;
-      next = λ _. rw (level_is, ids_is) at c.first-odometer.ensures.first;
       working = c.requires.working;
-      told = ([], Appends-nil _, c.requires.first);
+      told = (
+        [],
+        Appends-nil _,
+        c.requires.first ∙ none_told c.args.table.now c.args.separation c.new-lines.result.size,
+      );
     }
 
-pub entry-requires : goal.entry-requires
-entry-requires g c =
-    let t = c.args.table.now in
-    let shape = c.shape-shape.ensures in
-    let count_is = counted t _ _ _ (c.rounds-level.ensures ∙ shape.rounds) shape.ids c.count-count.ensures.value in
-    below_count c.loop-number.number _ _ (length t.entries) c.loop-number-test.true count_is shape.table.size
+pub make_room-requires-clause-working : goal.make_room-requires-clause-working
+make_room-requires-clause-working g c = c.loop-section.invariant.working
 
-pub store_entry-requires-clause-channel : goal.store_entry-requires-clause-channel
-store_entry-requires-clause-channel g c =
-    let t = c.args.table.now in
-    let shape = c.shape-shape.ensures in
-    let count_is = counted t _ _ _ (c.rounds-level.ensures ∙ shape.rounds) shape.ids c.count-count.ensures.value in
-    let within = below_count c.loop-number.number _ _ (length t.entries) c.loop-number-test.true count_is
-    shape.table.size in
-    rw (c.requires.pieces.all_channels, c.entry.ensures.value) (shape.table.begun.below c.loop-number.number 0 within)
+pub make_room-requires-2-clause-working : goal.make_room-requires-2-clause-working
+make_room-requires-2-clause-working g c = c.loop-section.invariant.working
 
--- One more line is in the chunk.
-pub loop-number-preserved : goal.loop-number-preserved
-loop-number-preserved g c =
+-- The lines of one more section are in the chunk.
+pub loop-section-preserved : goal.loop-section-preserved
+loop-section-preserved g c =
     let t = c.args.table.now in
-    let n = c.loop-number.number in
-    let shape = c.shape-shape.ensures in
-    let inv = c.loop-number.invariant in
-    let count : c.count-count.result ≡ length (windows_of t) =
-    counted t _ _ _ (c.rounds-level.ensures ∙ shape.rounds) shape.ids c.count-count.ensures.value in
-    let within : n < length (windows_of t) = rw (← count) c.loop-number-test.true in
-    let odometer = c.loop-number.odometer in
-    let window = window_of odometer in
-    let channel = c.entry.result in
-    let line = entry_then window channel [] in
-    let stored : c.store_entry.new.chunk ≡ c.make_room.new.self ++ line =
-    c.store_entry.ensures ∙ ap (λ text. c.make_room.new.self ++ text)
-    ((λ i. inv.shows.text i ++ (id_text (c.last_id-last.ensures.last i) ++ channel_text channel))
-    ∙ line_of_run (front_of odometer) (last_of odometer) channel) in
-    let before = tells_moved _ _ _ c.loop-number.chunk _ _ inv.told c.in_ok-make_room.ensures.ok in
-    let more = tells_more _ _ _ c.store_entry.new.chunk line _ before stored in
-    let own : n < length t.entries = rw shape.table.size within in
-    let lines = front_more t c.args.separation n c.entry.result window _ line own (inv.next within) refl
-    c.entry.ensures.value refl in
-    let advanced = c.advance.ensures in
+    let s = c.args.separation in
+    let lines = c.new-lines.result in
+    let first : ℕ = c.loop-section.section * lines.size in
+    let moved = tells_moved _ _ _ c.loop-section.chunk _ _ c.loop-section.invariant.told c.in_ok-make_room.ensures.ok in
+    let stored : c.store.new.chunk ≡ c.make_room.new.self ++ lines_from t first lines.size =
+    c.store.ensures ∙ ap (λ u. c.make_room.new.self ++ lines_from u first lines.size) c.new-lines.ensures.table in
+    let more = tells_more _ _ _ c.store.new.chunk (lines_from t first lines.size) _ moved stored in
+    let enough = le_same (full c.args.table.now c.new-lines.result c.new-lines.ensures.table) in
+    let next : first + lines.size ≡ (c.loop-section.section + 1) * lines.size =
+    sym (rw add-one (suc-mul c.loop-section.section lines.size)) in
     record {
-      shows = advanced.is;
-      front = advanced.same.0 ∙ inv.front;
-      ids = advanced.same.1 ∙ inv.ids;
-      next = followed_at (2 * t.rounds) t.ids odometer c.advance.new.self inv.front inv.ids advanced.next n
-          (inv.next within);
       working = search rules;
-      told = subst (IsWrittenSoFar _ _ c.store_entry.new.chunk) lines more;
+      told = subst (IsWrittenSoFar _ _ c.store.new.chunk)
+          (section_more t s first lines.size enough ∙ ap (λ n. lines_then (written Two (front_of t n) s) []) next) more;
     }
 
 -- The lines of all windows are written or in the chunk.
@@ -120,23 +91,24 @@ with_end : (w : Written) (a b : Option (List ℕ)) (chunk more end : List ℕ) �
 with_end w a b chunk more end told held is =
     tells_more a b chunk more (end_then []) (lines_then w []) told (held ∙ ap (λ piece. chunk ++ piece) is)
 
-pub store-requires : goal.store-requires
-store-requires g c = record { room = room_left (length c.make_room-2.new.self) c.in_ok-make_room-2.ensures.room }
-
 module _ (g : Over) (c : After-send g) where
   told : IsWrittenSoFar (g.W.Write.contents (device_of c.args.writer.now))
-      (g.W.Write.contents (device_of c.make_room-2.new.writer)) c.store.new.chunk
+      (g.W.Write.contents (device_of c.make_room-2.new.writer)) c.store-2.new.chunk
       (lines_then (written Two c.args.table.now c.args.separation) [] ++ end_then [])
   told =
       let t = c.args.table.now in
-      let shape = c.shape-shape.ensures in
-      let count_is = counted t _ _ _ (c.rounds-level.ensures ∙ shape.rounds) shape.ids c.count-count.ensures.value in
-      let all = all_lines c.loop-number.number _ _ (length t.entries) c.loop-number-test.false count_is
-      shape.table.size in
-      let lines = all_told t c.args.separation _ _ c.loop-number.chunk c.loop-number.number all
-      c.loop-number.invariant.told in
-      let moved = tells_moved _ _ _ c.loop-number.chunk _ _ lines c.in_ok-make_room-2.ensures.ok in
-      with_end (written Two t c.args.separation) _ _ _ c.store.new.chunk _ moved c.store.ensures.held c.piece_of.ensures
+      let all = sections_all c.loop-section.section c.new-lines.result.size c.count.result c.new-lines.result.some
+      (rw c.div_ceil-section-end.ensures at c.loop-section-test.false) in
+      let lines = all_told t c.args.separation _ _ c.loop-section.chunk (c.loop-section.section * c.new-lines.result.size)
+      (omega (
+        arith,
+        all,
+        (full c.args.table.now c.new-lines.result c.new-lines.ensures.table),
+        c.count.ensures.value,
+        ap (λ u. length (windows_of u)) c.new-lines.ensures.table,
+      )) c.loop-section.invariant.told in
+      let moved = tells_moved _ _ _ c.loop-section.chunk _ _ lines c.in_ok-make_room-2.ensures.ok in
+      with_end (written Two t c.args.separation) _ _ _ c.store-2.new.chunk _ moved c.store-2.ensures.held c.piece_of.ensures
 
 pub returns-clause-ok : goal.returns-clause-ok
 unfolding text_of
@@ -144,29 +116,31 @@ returns-clause-ok g c =
     let w = written Two c.args.table.now c.args.separation in
     on_ok_weaker c.send.result
     (λ sent. tells_all _ _ _ _ _
-    (subst (IsWrittenSoFar _ _ c.store.new.chunk) (lines_append w [] (end_then [])) (told g c)) sent) c.send.ensures.ok
+    (subst (IsWrittenSoFar _ _ c.store-2.new.chunk) (lines_append w [] (end_then [])) (told g c)) sent) c.send.ensures.ok
 
 pub returns-clause-err : goal.returns-clause-err
 unfolding text_of
 returns-clause-err g c =
     let w = written Two c.args.table.now c.args.separation in
     on_err_weaker c.send.result
-    (λ failed. tells_front _ _ _ c.store.new.chunk _ _ [] (told g c) failed
+    (λ failed. tells_front _ _ _ c.store-2.new.chunk _ _ [] (told g c) failed
     (append-nil (lines_then w [] ++ end_then []) ∙ lines_append w [] (end_then [])))
     c.send.ensures.err
 
 pub returns-in_err-make_room-clause-err : goal.returns-in_err-make_room-clause-err
 returns-in_err-make_room-clause-err g c =
     let t = c.args.table.now in
-    let front = lines_front t c.args.separation c.loop-number.number (le_same c.shape-shape.ensures.table.size) in
+    let front = lines_front t c.args.separation (c.loop-section.section * c.new-lines.result.size)
+    (le_same (full c.args.table.now c.new-lines.result c.new-lines.ensures.table)) in
     on_err c.from_residual.result
-    (tells_front _ _ _ c.loop-number.chunk _ _ front.0 c.loop-number.invariant.told
+    (tells_front _ _ _ c.loop-section.chunk _ _ front.0 c.loop-section.invariant.told
     c.in_err-make_room.ensures.err front.1)
 
 pub returns-in_err-make_room-2-clause-err : goal.returns-in_err-make_room-2-clause-err
 returns-in_err-make_room-2-clause-err g c =
     let t = c.args.table.now in
-    let front = lines_front t c.args.separation c.loop-number.number (le_same c.shape-shape.ensures.table.size) in
+    let front = lines_front t c.args.separation (c.loop-section.section * c.new-lines.result.size)
+    (le_same (full c.args.table.now c.new-lines.result c.new-lines.ensures.table)) in
     on_err c.from_residual-in_err-make_room-2.result
-    (tells_front _ _ _ c.loop-number.chunk _ _ front.0 c.loop-number.invariant.told
+    (tells_front _ _ _ c.loop-section.chunk _ _ front.0 c.loop-section.invariant.told
     c.in_err-make_room-2.ensures.err front.1)

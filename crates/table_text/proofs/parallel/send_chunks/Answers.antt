@@ -1,0 +1,30 @@
+use Rattle.std.proofs.Common.{◌≡◌, ℕ, ◌+◌, ◌<◌, List, ◌∷◌, ◌++◌, length, take, drop, get_or, refl, sym, ap, ◌∙◌, append_assoc, take-append-drop, arith, rules}
+use Rattle.std.specs.Prelude.{flat_map}
+use Rattle.std.proofs.lemmas.List.{drop_more}
+use Rattle.std.proofs.lemmas.List.Concat.{flat_map-append}
+use Rattle.devices.proofs.Known.{on_err}
+use Rattle.devices.proofs.WrittenChunks.{tells_front}
+use Rattle.table_text.proofs.parallel.send_chunks.Goals as goal
+
+-- the bytes of the first chunks, of one more, and of the others
+parts : (i : ℕ) (chunks : List (List ℕ)) (d : List ℕ) → i < length chunks
+    → (flat_map (λ c. c) (take i chunks) ++ get_or chunks i d) ++ flat_map (λ c. c) (drop (i + 1) chunks)
+    ≡ flat_map (λ c. c) chunks
+parts i chunks d lt =
+    append_assoc (flat_map (λ c. c) (take i chunks)) (get_or chunks i d) (flat_map (λ c. c) (drop (i + 1) chunks))
+    ∙ sym (flat_map-append (λ (c : List ℕ). c) (take i chunks) (get_or chunks i d ∷ drop (i + 1) chunks))
+    ∙ ap (λ l. flat_map (λ c. c) (take i chunks ++ l)) (sym (drop_more chunks i d lt))
+    ∙ ap (flat_map (λ c. c)) (take-append-drop i chunks)
+
+pub returns-in_err-send-clause-err : goal.returns-in_err-send-clause-err
+returns-in_err-send-clause-err g c =
+    let inv = c.loop-index.invariant in
+    let i = c.loop-index.index in
+    let chunks = c.args.chunks.now in
+    let lt : i < length chunks = search rules in
+    let own = inv.left i c.index-chunks-index.result (omega arith) (omega (arith, lt, inv.size)) in
+    let rest = flat_map (λ c. c) (drop (i + 1) chunks) in
+    on_err c.from_residual.result
+    (tells_front _ _ _ _ _ _ rest (flat_map (λ c. c) (take i chunks), inv.sent, refl) c.in_err-send.ensures.err
+    (ap (λ chunk. (flat_map (λ c. c) (take i chunks) ++ chunk) ++ rest) own
+    ∙ parts i chunks c.index-chunks-index.result lt))

@@ -1,0 +1,17 @@
+-- Sections of the lines of a table. No public contract cites this file.
+use Rattle.std.specs.Prelude.{◌≡◌, ℕ, ◌+◌, ◌*◌, ◌<◌, List, [], length, take, drop, slice_index_or}
+use Rattle.channel_tables.specs.Tables.{ChannelTable, windows_of}
+use Rattle.table_text.specs.TableText.{entries_then}
+
+-- the lines of this many windows from a number on, as far as there are so many
+abbrev pub lines_from : ChannelTable → ℕ → ℕ → List ℕ
+lines_from t first count = entries_then (drop first (windows_of t)) (take count (drop first t.entries)) []
+
+-- the chunks have no bytes
+abbrev pub AreEmpty : List (List ℕ) → Type 0
+AreEmpty chunks = (k : ℕ) (d : List ℕ) → k < length chunks → slice_index_or chunks k d ≡ []
+
+-- chunk k has the lines of section k, if sections have this many windows and the first one begins with this window
+abbrev pub AreFilled : ChannelTable → ℕ → ℕ → List (List ℕ) → Type 0
+AreFilled t first size chunks =
+    (k : ℕ) (d : List ℕ) → k < length chunks → slice_index_or chunks k d ≡ lines_from t (first + k * size) size

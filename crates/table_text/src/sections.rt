@@ -1,0 +1,121 @@
+//! Sections of the lines of a table: those of consecutive windows, as many as a chunk has space for.
+
+ghost use Rattle.std.specs.Prelude.{◌≡◌, ◌+◌, ◌*◌, ◌<◌, ◌≤◌, ◌++◌, length};
+ghost use Rattle.devices.specs.declared.chunk.TheConstants.{CHUNK_LEN};
+ghost use Rattle.win_index.specs.declared.limits.TheConstants.{MAX_ROUNDS, MAX_WINDOWS};
+ghost use Rattle.channel_tables.specs.Tables.{windows_of};
+ghost use Rattle.table_text.specs.declared.sections.TheConstants.{LINES_LEN};
+ghost use Rattle.table_text.specs.Sections.{lines_from};
+ghost use Rattle.table_text.specs.Pieces.{prefix_text, piece_text, id_text, channel_text, AreTexts, ArePieces};
+
+use crate::line_prefix::{LinePrefix, PREFIX_LEN};
+use crate::odometer::Odometer;
+use crate::piece::{Piece, Pieces};
+use crate::storing::{store, store_prefix};
+use channel_tables::Table;
+use devices::chunk::Chunk;
+
+/// The space for a line: a prefix, the piece of an identifier and that of a channel.
+pub(crate) const LINE_LEN: usize = PREFIX_LEN + 16;
+
+// The maximum number of bytes of a section.
+const LINES_LEN: u32 = 64_000;
+
+/// The space for a section. The last line is stored from buffers that are longer than its text.
+pub(crate) const SECTION_LEN: usize = LINES_LEN as usize + LINE_LEN;
+
+// Returns the number of windows of a section, if there are so many rounds. A line has at most 8 bytes
+// for each identifier and 8 for the channel.
+fn section_windows(rounds: u32) -> u32
+    requires { rounds ≤ MAX_ROUNDS }
+    ensures some { 0 < result }
+    ensures fits { result * (16 * rounds + 16) ≤ LINES_LEN }
+{
+    LINES_LEN / (16 * rounds + 16)
+}
+
+/// The lines of a table, and what they are made from.
+#[derive(Clone, Copy)]
+pub(crate) struct Lines<'a> {
+    table: &'a Table,
+    pieces: &'a Pieces,
+    /// The number of windows of a section.
+    pub(crate) size: u32,
+    pub(crate) ghost pieces_are: { ArePieces table.now.ids table.now.channels pieces.now },
+    pub(crate) ghost full: { length table.now.entries ≡ length (windows_of table.now) },
+    pub(crate) ghost some: { 0 < size },
+    pub(crate) ghost fits: { size * (16 * table.now.rounds + 16) ≤ LINES_LEN },
+}
+
+impl<'a> Lines<'a> {
+    /// Returns the lines of a table that are made from these pieces.
+    pub(crate) fn new(table: &'a Table, pieces: &'a Pieces) -> Lines<'a>
+        requires { ArePieces table.now.ids table.now.channels pieces.now }
+        ensures table { result.table.now ≡ table.now }
+    {
+        let size = section_windows(table.shape().rounds());
+        Lines {
+            table,
+            pieces,
+            size,
+        }
+    }
+}
+
+impl Lines<'_> {
+    /// Returns the number of lines.
+    pub(crate) fn count(self) -> u32
+        ensures value { result ≡ length (windows_of self.entry.table.now) }
+        ensures few { result ≤ MAX_WINDOWS }
+    {
+        let shape = self.table.shape();
+        shape.count(shape.rounds())
+    }
+
+    /// Appends to a chunk the lines of the section that begins with this window, as far as there are
+    /// windows.
+    pub(crate) fn store(self, chunk: &mut Chunk, first: u32)
+        requires { length chunk.old + SECTION_LEN ≤ CHUNK_LEN }
+        ensures { chunk.new ≡ chunk.old ++ lines_from self.entry.table.now first self.entry.size }
+    {
+        let count = self.count();
+        if first >= count {
+            return;
+        }
+        let end = first + self.size.min(count - first);
+        let ids: &[Piece] = &self.pieces.ids;
+        let mut odometer = Odometer::at(self.table.shape(), first, ids);
+        for number in first..end {
+            let last = odometer.last_id();
+            let channel = self.table.entry(number);
+            store_entry(chunk, self.pieces, &odometer.prefix, last, channel);
+            odometer.advance(ids);
+        }
+    }
+}
+
+// Appends to a chunk the line of a window with this prefix, last identifier and channel.
+fn store_entry(chunk: &mut Chunk, pieces: &Pieces, prefix: &LinePrefix, last: u32, channel: u32)
+    requires room { length chunk.old + LINE_LEN ≤ CHUNK_LEN }
+    requires texts { AreTexts id_text pieces.now.ids.items × AreTexts channel_text pieces.now.channels.items }
+    requires last { last < length pieces.now.ids.items }
+    requires channel { channel < length pieces.now.channels.items }
+    ensures line { chunk.new ≡ chunk.old ++ (prefix_text prefix.now ++ (id_text last ++ channel_text channel)) }
+    ensures filled { length chunk.new ≤ length chunk.old + length (prefix_text prefix.now) + 16 }
+{
+    let ids: &[Piece] = &pieces.ids;
+    let ends: &[Piece] = &pieces.channels;
+    store_line(chunk, prefix, ids[last as usize], ends[channel as usize]);
+}
+
+// Appends a line to a chunk: the prefix of a window, the piece of its last identifier and that of
+// its channel.
+fn store_line(chunk: &mut Chunk, prefix: &LinePrefix, last: Piece, end: Piece)
+    requires room { length chunk.old + LINE_LEN ≤ CHUNK_LEN }
+    ensures line { chunk.new ≡ chunk.old ++ (prefix_text prefix.now ++ (piece_text last ++ piece_text end)) }
+    ensures filled { length chunk.new ≤ length chunk.old + length (prefix_text prefix.now) + 16 }
+{
+    store_prefix(chunk, prefix);
+    store(chunk, last);
+    store(chunk, end);
+}
