@@ -81,7 +81,7 @@ pub fn engine_with_note<T: Threads + Wait + Sync, R: Read, W: Write>(
     one_witness();
     let input = read_input(alloc, reader, max_read(&task))?;
     let answer = report_of(rt, alloc, task, &input)?;
-    let (status, cause) = write_answer(alloc, answer, writer)?;
+    let (status, cause) = write_answer(rt, alloc, answer, writer)?;
     let note = note_of(alloc, &input, cause);
     Ok(Reported { status, note })
 }

@@ -107,7 +107,11 @@ fn program_answer<T: Threads + Wait + Sync>(
         } => {
             let table = filled_table(rt, alloc, plan, workers)?;
             let separation = Separation { near, far };
-            Ok(Answer::Table(TableReport { table, separation }))
+            Ok(Answer::Table(TableReport {
+                table,
+                separation,
+                workers,
+            }))
         }
         Task::Judge {
             workers,

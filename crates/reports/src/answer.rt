@@ -8,11 +8,13 @@ use channel_tables::Table;
 use nbhd_check::Separation;
 use table_formula::Formula;
 
-/// A table and a separation that a table text can have.
+/// A table and a separation that a table text can have, and the maximum number of threads that make
+/// its lines.
 #[derive(Drop)]
 pub struct TableReport {
     pub table: Table,
     pub separation: Separation,
+    pub workers: u32,
     pub ghost in_range: { IsSeparation separation },
 }
 

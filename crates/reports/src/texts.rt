@@ -85,7 +85,11 @@ pub fn migrate_report(alloc: Global, input: &[u8]) -> Result<Answer, OutOfMemory
     ensures { IfOk result (λ r. IsTableReport IsTableText input.now (report_in r)) }
 {
     match table_in(alloc, input) {
-        Ok((table, separation)) => Ok(Answer::Table(TableReport { table, separation })),
+        Ok((table, separation)) => Ok(Answer::Table(TableReport {
+            table,
+            separation,
+            workers: 1,
+        })),
         Err(refusal) => refusal.report(),
     }
 }

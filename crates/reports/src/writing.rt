@@ -15,14 +15,16 @@ use devices::output::send;
 use devices::watched::Watched;
 use std::alloc::Global;
 use std::io::Write;
+use std::thread::Threads;
 use table_formula::write_formula;
-use table_text::write_table;
+use table_text::write_table_with_workers;
 
 /// Writes a report. Returns its status, and its cause if it has one.
 ///
 /// Fails with `Write` exactly if a write failed or took no byte, and a prefix of the report was
 /// written then; with `Memory` if memory was refused, and nothing was written then.
-pub fn write_answer<W: Write>(
+pub fn write_answer<R: Threads + Sync, W: Write>(
+    rt: &R,
     alloc: Global,
     answer: Answer,
     writer: &mut Watched<W>,
@@ -44,8 +46,15 @@ pub fn write_answer<W: Write>(
             send(writer, text.as_bytes())?;
             Ok((status, Some(cause)))
         }
-        Answer::Table(TableReport { table, separation }) => {
-            result_of(write_table(alloc, &table, separation, writer))?;
+        Answer::Table(
+            TableReport {
+                table,
+                separation,
+                workers,
+            },
+        ) => {
+            let written = write_table_with_workers(rt, alloc, &table, separation, workers, writer);
+            result_of(written)?;
             Ok((Status::Done, None))
         }
         Answer::Formula(formula) => {
