@@ -8,6 +8,7 @@ PAGES = (b"<!doctype", b"<html", b"<head", b"<body", b"<pre", b"<div", b"<?xml")
 REPORTS = re.compile(
     rb"(accepted ids|yes:|no: ring|(text|check|ring|segments|table|formula|refutation) fault|refuted:|nbhd:) "
 )
+PLACES = re.compile(rb"   0[0-9 ]{10}\n   1")
 PROGRAM, TABLE = re.compile(rb"rounds [0-9]+(?! ids )"), re.compile(rb"nbhd-table|rounds [0-9]+ ids ")
 COMMENTS = re.compile(rb"(?:\s+|c(?: [^\n]*)?(?:\n|$)|#[^\n]*(?:\n|$))*")
 STEP = re.compile(rb"[1-9][0-9]* (?:d |[icm] )?(?:-?[0-9]+ )*0 (?:[0-9]+ )*0\r?$|[1-9][0-9]* d (?:[0-9]+ )+0\r?$")
@@ -40,6 +41,8 @@ def kind_of(data):
         return "picture"
     if data.lstrip().lower().startswith(PAGES):
         return "page"
+    if PLACES.match(data):
+        return "report"
     return kind_of_line(data[COMMENTS.match(data).end() :].split(b"\n", 1)[0])
 
 

@@ -6,7 +6,7 @@ use Rattle.source_places.specs.Kinds.{text_kind}
 
 -- what a text of a kind is, and what takes it
 abbrev pub advice_of : TextKind → List ℕ
-advice_of kind.Program = codes "; this looks like a program: `nbhd judge` takes one"
+advice_of kind.Program = codes "; this looks like a program: `nbhd judge`, `nbhd table` and `nbhd run` take one"
 advice_of kind.Table = codes "; the text of a table is for `nbhd audit`, `nbhd apply` and `nbhd migrate`"
 advice_of kind.Formula = codes "; this is a formula for a solver, as in `cadical --no-binary FORMULA PROOF`"
 advice_of kind.Refutation = codes "; this looks like a refutation: `nbhd refute` takes one"
@@ -19,7 +19,7 @@ advice_of kind.Command = codes "; this is a command of the shell, not a text"
 advice_of kind.FileName = codes "; this looks like the name of a file: `< FILE` gives its text"
 advice_of kind.Gzip = codes "; the file is packed: `gunzip` unpacks it"
 advice_of kind.Xz = codes "; the file is packed: `unxz` unpacks it"
-advice_of kind.Zip = codes "; the file is packed, as a document of an office program is: `unzip` unpacks it"
+advice_of kind.Zip = codes "; the file is packed: `unzip` unpacks it, and a document of an office program has to be saved as plain text"
 advice_of kind.Zstandard = codes "; the file is packed: `unzstd` unpacks it"
 advice_of kind.Bzip2 = codes "; the file is packed: `bunzip2` unpacks it"
 advice_of kind.Pdf = codes "; this is a PDF: save its text alone"

@@ -118,9 +118,18 @@ is_name word = nat_le (length word) LONGEST_NAME && list_all is_printable word
 unfoldable pub is_file_name : List ℕ → Bool
 is_file_name text = nat_le (length text) (length (first_line text) + 1) && is_name (without_return (first_line text))
 
+abbrev pub is_digit_or_blank : ℕ → Bool
+is_digit_or_blank b = (nat_le 48 b && nat_le b 57) || (b == 32)
+
+-- whether a text begins with the lines of the places 0 and 1, three numbers that are right-aligned in 4 places each, with blanks between them
+unfoldable pub begins_places : List ℕ → Bool
+begins_places text = (length (first_line text) == 14) && list_all is_digit_or_blank (first_line text)
+    && begins (first_line text) (codes "   0") && begins (after_line text) (codes "   1")
+
 -- the kind of a text with this line, behind the comments, at the start of `rest`
 unfoldable pub kind_of_rest : List ℕ → List ℕ → Option TextKind
-kind_of_rest text rest = if begins_program (first_line rest) then Some kind.Program
+kind_of_rest text rest = if begins_places text then Some kind.Report
+    else if begins_program (first_line rest) then Some kind.Program
     else if is_file_name text then Some kind.FileName
     else if is_call (first_line rest) then Some kind.Command
     else option_or (by_beginning (map (λ row. (row.0.now, row.1)) BEGINNINGS) rest) (line_kind (first_line rest))

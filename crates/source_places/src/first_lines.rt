@@ -192,6 +192,26 @@ fn is_file_name(text: &[u8]) -> bool
     text.len() <= line.len().saturating_add(1) && is_name(without_return(line))
 }
 
+// Returns whether all bytes are digits and blanks.
+fn are_digits_and_blanks(line: &[u8]) -> bool
+    ensures { result ≡ list_all texts.is_digit_or_blank line.now }
+{
+    line.iter().all(|byte| matches!(*byte, b'0'..=b'9' | b' '))
+}
+
+// Returns whether a text begins with the lines of the places 0 and 1 of a ring, as `nbhd plan` and
+// `nbhd apply` print them: three numbers that are right-aligned in 4 places each, with blanks between them.
+#[tactic(auto, unfolding(crate::specs::Kinds::begins_places))]
+fn begins_places(text: &[u8]) -> bool
+    ensures { result ≡ texts.begins_places text.now }
+{
+    let line = first_line(text);
+    line.len() == 14
+        && are_digits_and_blanks(line)
+        && line.starts_with(b"   0")
+        && after_line(text).starts_with(b"   1")
+}
+
 // Returns the kind of a text by what stands behind the comments at its start.
 #[tactic(auto, unfolding(crate::specs::Kinds::kind_by_line))]
 pub(crate) fn kind_by_line(text: &[u8]) -> Option<TextKind>
@@ -206,6 +226,9 @@ fn kind_of_rest(text: &[u8], rest: &[u8]) -> Option<TextKind>
     ensures { result ≡ texts.kind_of_rest text.now rest.now }
 {
     let line = first_line(rest);
+    if begins_places(text) {
+        return Some(TextKind::Report);
+    }
     if begins_program(line) {
         return Some(TextKind::Program);
     }

@@ -77,7 +77,8 @@ fn advice_on(kind: TextKind) -> &'static str
     ensures { result.now ≡ advice_of kind }
 {
     match kind {
-        TextKind::Program => "; this looks like a program: `nbhd judge` takes one",
+        TextKind::Program =>
+            "; this looks like a program: `nbhd judge`, `nbhd table` and `nbhd run` take one",
         TextKind::Table =>
             "; the text of a table is for `nbhd audit`, `nbhd apply` and `nbhd migrate`",
         TextKind::Formula =>
@@ -98,7 +99,7 @@ fn advice_on(kind: TextKind) -> &'static str
         TextKind::Gzip => "; the file is packed: `gunzip` unpacks it",
         TextKind::Xz => "; the file is packed: `unxz` unpacks it",
         TextKind::Zip =>
-            "; the file is packed, as a document of an office program is: `unzip` unpacks it",
+            "; the file is packed: `unzip` unpacks it, and a document of an office program has to be saved as plain text",
         TextKind::Zstandard => "; the file is packed: `unzstd` unpacks it",
         TextKind::Bzip2 => "; the file is packed: `bunzip2` unpacks it",
         TextKind::Pdf => "; this is a PDF: save its text alone",
