@@ -60,6 +60,17 @@ class Place:
     def is_operand(self):
         return bool(OPERAND.fullmatch(self.token()))
 
+    def begins_expression(self):
+        return self.is_operand() or self.token() in OPERANDS and self.token(1) == "("
+
+    def is_read(self, *words):
+        """Whether the place is `=` after a register that follows one of these tokens."""
+        return self.token() == "=" and bool(re.fullmatch("r[0-7]", self.last())) and self.before[-2] in words
+
+    def follows_first_word(self):
+        """Whether only the token before the place stands between the start of the line and the place."""
+        return self.text[: self.at].split("\n")[-1].split() == [self.last()]
+
     def begins_line(self):
         """Whether only blanks stand between the start of the line and the place."""
         return not self.text[: self.at].split("\n")[-1].strip()
@@ -109,6 +120,18 @@ ROWS = [
     (r"a bracket is open", lambda place: bool(place.open_operations())),
     (r"this bracket closes nothing", lambda place: not place.open_operations() and place.token() == ")"),
     (r"commas only separate operands", lambda place: not place.open_operations() and place.token() == ","),
+    (
+        r"commas only separate operands, and one value is sent to each side",
+        lambda place: place.token() == "," and not place.open_operations() and place.before[-2] in ("left", "right"),
+    ),
+    (
+        r"an assignment is written `r0 = ..`, without brackets",
+        lambda place: place.wanted.startswith("the assignment of r") and place.token() == "(" and place.begins_line(),
+    ),
+    (
+        r"only registers are assigned(?:, as in `r0 = id`|: a value is sent by `send left` and `send right`)",
+        lambda place: place.is_operand() and not re.fullmatch("r[0-9]", place.token()) and place.token(1) == "=",
+    ),
     (r"operands are separated by commas", lambda place: place.is_in("`,`")),
     (r"a comma is missing before it", is_comma_missing),
     (r"the same word stands right before it", lambda place: place.token() == place.last()),
@@ -129,22 +152,37 @@ ROWS = [
     (r"`=` is only written after the register of an assignment", lambda place: place.token() == "="),
     (r"write `eq\(a, b\)` to compare", lambda place: place.token() == "=" and place.ends_expression()),
     (r"an assignment is written with one `=`", lambda place: place.token() == place.last() == "="),
-    (r"each assignment has one register", lambda place: place.token() == "=" and re.fullmatch("r[0-7]", place.last())),
+    (r"each assignment has one register: write `eq\(a, b\)` to compare", lambda place: place.token() == "=" and re.fullmatch("r[0-7]", place.last())),
     (r"an assignment is written `r0 = ..`", lambda place: place.is_in("`=`")),
     (
+        r"the register before it was read as the expression that is (missing|sent)",
+        lambda place, what: place.is_read(*["left", "right", "=" if what == "missing" else "left"])
+        and (what == "sent" or place.follows_first_word()),
+    ),
+    (r"an expression follows `finish`, and no assignment", lambda place: place.is_read("finish") and place.follows_first_word()),
+    (r"an expression follows `finish`, and no assignment: write `eq\(a, b\)` to compare", lambda place: place.is_read("finish")),
+    (
+        r"a branch of `if` is a value, not an assignment: write `eq\(a, b\)` to compare",
+        lambda place: place.is_read(",") and place.open_operations()[-1] == "if",
+    ),
+    (
         r"one expression is written here: an operation is written before its operands, as in `add\(a, b\)`",
-        lambda place: place.ends_expression() and place.is_operand() and not place.begins_line(),
+        lambda place: place.ends_expression() and place.begins_expression() and not place.begins_line(),
+    ),
+    (
+        r"one expression is written here, and a number has no blanks",
+        lambda place: is_number(place.last()) and is_number(place.token()) and not place.begins_line(),
     ),
     (
         r"one expression is written here: twice x is `shl\(x, 1\)`",
-        lambda place: is_number(place.last()) and place.is_operand() and not place.begins_line(),
+        lambda place: is_number(place.last()) and place.begins_expression() and not place.begins_line(),
     ),
     (
         r"an operation is written before its operands, as in `if\(c, a, b\)`",
         lambda place: place.token() == "if" and place.ends_expression() and not place.begins_line(),
     ),
     (r"the side comes before the expression, as in `send left 0`", lambda place: place.is_in("`left`", "`right`") and place.is_operand()),
-    (r"an expression is assigned to a register, as in `r0 = if\(c, a, b\)`", lambda place: place.token() in OPERANDS),
+    (r"one expression is assigned to each register, as in `r0 = if\(c, a, b\)`", lambda place: place.token() in OPERANDS),
     (r"an expression is missing here", lambda place: place.is_in("an expression")),
     (r"write a number in digits", lambda place: place.is_in("a number")),
     (
@@ -152,12 +190,12 @@ ROWS = [
         lambda place: not place.before and is_number(place.token()) and place.token(1) == "rounds" and is_number(place.token(2)),
     ),
     (r"`registers` says how many registers there are, from r0 on", lambda place: int(place.token()[1:]) >= place.registers()),
-    (r"the message from the left is `L`", lambda place: place.is_in("an expression") and place.token() in ("left", "l")),
+    (r"the message from the left is `L`(?:, and the digit is `1`)?", lambda place: place.is_in("an expression") and place.token() in ("left", "l")),
     (
         r"the message from the right is `R`(?:, and registers are `r0` to `r7`)?",
         lambda place: place.is_in("an expression") and place.token() in ("right", "r"),
     ),
-    (r"`(\w+)` is written with (?:small letters|a small letter)", small),
+    (r"`(\w+)` is written with (?:small letters|a small letter)(?:, and the message from the right is `R`)?", small),
     (r"there is no operation of this name: they are .*", lambda place: place.token() not in OPERANDS and place.token(1) == "("),
     # Sentences on the language, where what they speak of is expected.
     (r"a program begins with `rounds`, `channels` and `registers`", lambda place: place.is_in("`rounds`", "`channels`", "`registers`")),
@@ -167,10 +205,14 @@ ROWS = [
     (r"`send left` is followed by `send right`", lambda place: place.is_in("`right`")),
     (r"each register is assigned, in order", lambda place: place.wanted.startswith("the assignment of r")),
     (r"each register is assigned once, then comes (`round`|`finish`)", lambda place, then: place.is_in(then)),
+    (
+        r"one expression is assigned to each register, then comes (`round`|`finish`)",
+        lambda place, then: place.is_in(then) and place.token() in OPERANDS,
+    ),
     (r"there are as many rounds as `rounds` says", lambda place: {place.token(), place.wanted} & {"round", "finish"}),
     (r"the expression of `finish` ends the program", lambda place: place.is_in("the end of the text")),
-    (r"registers are `r0` to `r7`(?:, and have no other names)?", lambda place: not re.fullmatch("r[0-7]", place.token())),
-    (r"a number has only digits", lambda place: place.token()[0].isdecimal() and not is_number(place.token())),
+    (r"(?:`registers` is at most 8, and )?registers are `r0` to `r7`(?:, and have no other names)?", lambda place: not re.fullmatch("r[0-7]", place.token())),
+    (r"a number has only digits(?:, and there is no product: twice x is `shl\(x, 1\)`)?", lambda place: place.token()[0].isdecimal() and not is_number(place.token())),
 ]
 
 

@@ -144,6 +144,12 @@ def after_register(place):
     return assigned(place) if place.wanted.startswith("the assignment") else [leave_out(place)]
 
 
+def before_register(place):
+    """An expression is written before the register that was read as one."""
+    start = place.text.rindex(place.last(), 0, place.at)
+    return [f"{place.text[:start]} 0 {place.text[start:]}"]
+
+
 def assigned_once(place, then):
     """An assignment is left out, or the word after the assignments is written."""
     if place.token(1) == "=" and OPERAND.fullmatch(place.token()):
@@ -202,7 +208,7 @@ ROWS = [
     (r"`(\w+)` takes (\d) operands?", operands),
     (r"a bracket is open", closed),
     (r"this bracket closes nothing", lambda place: [leave_out(place)]),
-    (r"commas only separate operands", lambda place: [leave_out(place)]),
+    (r"commas only separate operands(?:, and one value is sent to each side)?", lambda place: [leave_out(place)]),
     (r"a comma is missing before it", lambda place: [put(place, ",")]),
     (r"the same word stands right before it", lambda place: [leave_out(place)]),
     (r"the same line stands right before it", without_line),
@@ -214,12 +220,13 @@ ROWS = [
     (r"write `eq\(a, b\)` to compare", compared),
     (r"an assignment is written with one `=`", lambda place: [leave_out(place)]),
     (r"an assignment is written `r0 = ..`", with_sign),
-    (r"an expression is assigned to a register, as in `r0 = if\(c, a, b\)`", assigned),
+    (r"one expression is assigned to each register, as in `r0 = if\(c, a, b\)`", assigned),
+    (r"the register before it was read as the expression that is (?:missing|sent)", before_register),
     (r"an expression is missing here", lambda place: [put(place, "0")]),
     (r"write a number in digits", number),
-    (r"the message from the left is `(L)`", instead),
+    (r"the message from the left is `(L)`(?:, and the digit is `1`)?", instead),
     (r"the message from the right is `(R)`(?:, and registers are `r0` to `r7`)?", instead),
-    (r"`(\w+)` is written with (?:small letters|a small letter)", instead),
+    (r"`(\w+)` is written with (?:small letters|a small letter)(?:, and the message from the right is `R`)?", instead),
     (r"a program begins with `rounds`, `channels` and `registers`", in_header),
     (r"a round begins with the word `round`", lambda place: [put(place, "round")]),
     (r"a round begins with `send left` and `send right`", sent),
@@ -227,6 +234,7 @@ ROWS = [
     (r"`send left` is followed by `send right`", right_next),
     (r"each register is assigned, in order", assigned),
     (r"each register is assigned once, then comes `(round|finish)`", assigned_once),
+    (r"one expression is assigned to each register, then comes `(finish)`", lambda place, then: [put(place, then)]),
 ]
 
 

@@ -50,6 +50,7 @@ TEXTS = [
     ("report", b"check fault C4 bound 7\n", REPORT),
     ("report", b"refuted: ids 3 rounds 0 channels 2 near 1 far 0\n", REPORT),
     ("report", b"nbhd: line 7, column 6: unknown word `lift`; expected `left`\n", REPORT),
+    ("report", b"   0    5    2\n   1    1    4\n   2    3    3\n   3    7    5\n", REPORT),
     ("page", b"<!DOCTYPE html>\n<html><body>rounds 1</body></html>\n", PAGE),
     ("page", b"\n<html>\n<pre>rounds 1</pre>\n</html>\n", PAGE),
     ("page", b"<!doctype html><title>caf\xc3\xa9</title>\n", PAGE),

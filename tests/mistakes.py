@@ -202,7 +202,7 @@ INFIX = [
     (
         "finish r0",
         "finish if(r0, 1, r0 = 1)",
-        "line 10, column 21: unexpected `=`; expected `)`; write `eq(a, b)` to compare",
+        "line 10, column 21: unexpected `=`; expected `)`; a branch of `if` is a value, not an assignment: write `eq(a, b)` to compare",
     ),
     (
         "finish r0",
@@ -347,7 +347,7 @@ COPIED = [
         "r0 = id",
         "if(id, r0, 0)",
         "line 5, column 1: unexpected `if`; expected the assignment of r0"
-        "; an expression is assigned to a register, as in `r0 = if(c, a, b)`",
+        "; one expression is assigned to each register, as in `r0 = if(c, a, b)`",
     ),
     (
         "r0 = id",

@@ -167,7 +167,7 @@ OTHER_FILES = [
         "nbhd: line 1, column 7: a byte over 127; a program text is ASCII, in its comments too"
         "; this is a blank that does not break",
     ),
-    (b"", "nbhd: line 1, column 1: unexpected end of the text; expected `rounds`; the text is empty, so no file was given"),
+    (b"", "nbhd: line 1, column 1: unexpected end of the text; expected `rounds`; the text is empty, so no file was given, or an empty one"),
     (b" " * 65_530 + b"start", "nbhd: line 1, column 65531: unexpected `start`; expected `rounds`"),
     (
         b"# Pighvani\n\nPighvani compiles",
@@ -222,13 +222,13 @@ RINGS = [
 
 # Texts that are no tables, the lines at fault, and the advice.
 TABLE_TEXTS = [
-    (b"rounds 1\n", "1", "; this looks like a program: `nbhd judge` takes one"),
+    (b"rounds 1\n", "1", "; this looks like a program: `nbhd judge`, `nbhd table` and `nbhd run` take one"),
     (b"check fault C4 bound 7\n", "1", "; this is output of `nbhd`, not a text that it reads"),
     (b"yes: 1680 tuples\n", "1", "; this is output of `nbhd`, not a text that it reads"),
-    (b"", "1", "; the text is empty, so no file was given"),
+    (b"", "1", "; the text is empty, so no file was given, or an empty one"),
     (b"\xef\xbb\xbfnbhd-table 1\n", "1", "; this is a byte order mark: save the file without one"),
     (b"nbhd-table 1\r\n", "1", "; lines end with a carriage return"),
-    (b"nbhd-table\t1\n", "1", "; its first line is `nbhd-table` and the version"),
+    (b"nbhd-table\t1\n", "1", "; words are parted by single blanks, and this line has a tab"),
     (b"nbhd-table 1\nrounds 2 ids 4 channels 6\n", "2", "; the numbers of this line do not fit one another"),
     (b"nbhd-table 1\nrounds 0 ids 2 channels 2\n# mine\n", "3", "; there are no comments in tables"),
     (b"nbhd-table 1\nrounds 0 ids 2 channels 2\n0 : 0 \n", "3", "; it ends with a blank"),
@@ -241,12 +241,12 @@ TABLE_TEXTS = [
 
 # Texts that are no tables, and the notes.
 WINDOWS_AND_CHANNELS = [
-    (b"nbhd-table 1\nrounds 0 ids 2 channels 2\n1 : 1\n0 : 0\nend\n", "nbhd: line 3 is not the line of window 0\n"),
-    (b"nbhd-table 1\nrounds 1 ids 4 channels 6\n0 1 2 : 0\n0 2 1 : 3\n", "nbhd: line 4 is not the line of window 0 1 3\n"),
-    (b"nbhd-table 1\nrounds 1 ids 4 channels 6\n0 0 1 : 2\n", "nbhd: line 3 is not the line of window 0 1 2\n"),
+    (b"nbhd-table 1\nrounds 0 ids 2 channels 2\n1 : 1\n0 : 0\nend\n", "nbhd: line 3 is not the line of window 0, which comes there by line 2; windows stand in lexicographic order\n"),
+    (b"nbhd-table 1\nrounds 1 ids 4 channels 6\n0 1 2 : 0\n0 2 1 : 3\n", "nbhd: line 4 is not the line of window 0 1 3, which comes there by line 2; windows stand in lexicographic order\n"),
+    (b"nbhd-table 1\nrounds 1 ids 4 channels 6\n0 0 1 : 2\n", "nbhd: line 3 is not the line of window 0 1 2, which comes there by line 2; windows stand in lexicographic order\n"),
     (
         b"nbhd-table 1\nrounds 1 ids 5 channels 6\n0 1 2 : 0\n0 1 3 : 3\n0 2 1 : 3\n",
-        "nbhd: line 5 is not the line of window 0 1 4\n",
+        "nbhd: line 5 is not the line of window 0 1 4, which comes there by line 2; windows stand in lexicographic order\n",
     ),
     (
         b"nbhd-table 1\nrounds 0 ids 2 channels 2\n0 : 2\n",

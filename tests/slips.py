@@ -23,10 +23,11 @@ IN_BRACKETS = "the operands of an operation are written in brackets, as in `if\\
 BRACKETS = "brackets are only written after the name of an operation"
 ASSIGNED = "an assignment is written `r0 = ..`"
 ONLY_ASSIGNED = "`=` is only written after the register of an assignment"
+READ = "the register before it was read as the expression that is (?:missing|sent)"
 SAME = "the same word stands right before it"
 SAME_LINE = "the same line stands right before it"
-SMALL = r"`\w+` is written with (?:small letters|a small letter)"
-MESSAGE = r"the message from the (?:left is `L`|right is `R`, and registers are `r0` to `r7`)"
+SMALL = r"`\w+` is written with (?:small letters|a small letter)(?:, and the message from the right is `R`)?"
+MESSAGE = r"the message from the (?:left is `L`, and the digit is `1`|right is `R`, and registers are `r0` to `r7`)"
 SIDE = "the side comes before the expression, as in `send left 0`"
 JOINED = "a blank is missing in it"
 WORD = re.compile("[A-Za-z0-9]+")
@@ -34,7 +35,7 @@ WORD = re.compile("[A-Za-z0-9]+")
 # The advice that does not mislead where this token was left out.
 LEFT_OUT = {
     "operation": [BRACKETS, "the name of an operation is missing before it"],
-    "operand": [TAKES, MISSING, "write a number in digits", ONLY_ASSIGNED],
+    "operand": [TAKES, MISSING, "write a number in digits", ONLY_ASSIGNED, READ],
     "(": [IN_BRACKETS, "a `\\(` is missing in it", "there is no operation of this name", SAME],
     ")": [TAKES, "a bracket is open"],
     ",": ["a comma is missing before it", SAME, "a blank is missing in it"],
@@ -47,7 +48,7 @@ LEFT_OUT = {
     "send": ["a round begins with `send left` and `send right`"],
     "left": ["`send left` comes first, then `send right`", SIDE],
     "right": ["`send left` is followed by `send right`", SIDE],
-    "finish": ["each register is assigned once, then comes `finish`"],
+    "finish": ["(?:each register is assigned once|one expression is assigned to each register), then comes `finish`"],
 }
 # And where it was written twice, for all others `SAME`.
 TWICE = {

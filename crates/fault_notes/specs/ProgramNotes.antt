@@ -42,7 +42,7 @@ abbrev pub id_cause : List ℕ
 id_cause = codes "`id` can be read in `start` alone; keep it in a register"
 
 abbrev pub message_cause : List ℕ
-message_cause = codes "`L` and `R` can be read in the assignments of a round alone"
+message_cause = codes "`L` and `R` can be read in the assignments of a round alone; keep them in registers there"
 
 -- the bound of the channels, and the number of channels that it requires
 abbrev pub bound_note : ℕ → List ℕ

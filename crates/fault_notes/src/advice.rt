@@ -1,24 +1,20 @@
 //! Advice on words that are not of the language: replacements for those of other languages, and other
 //! common mistakes.
 
-use crate::around::{Place, is_joined};
-use crate::operands::{bracket_advice, operands_advice};
-use crate::signs::mark_advice;
+ghost use Rattle.std.specs.Prelude.{◌≤◌, length};
+
+use crate::around::{Place, is_joined, is_operand, last_line};
+use crate::operands::{bracket_advice, is_operation, operands_advice};
+use crate::signs::{has_one, mark_advice};
+use crate::wanted::{ASSIGNED, missing_word};
 use crate::words::{advice_in, is_word_byte};
 use node_lang::{Expected, Token};
 
 const UNEQUAL: &str = "; write `ne(a, b)`, or `eq(x, 0)` where x is to be 0";
 
-const ASSIGNED: &str = "; an assignment is written `r0 = ..`";
-
-const DIGITS: &str = "; write a number in digits";
-
-pub(crate) const BRACKETED: &str =
-    "; the operands of an operation are written in brackets, as in `if(c, a, b)`";
-
 pub(crate) const OPEN: &str = "; a bracket is open";
 
-const ENDED: &str = "; the expression of `finish` ends the program";
+const HIDDEN: &str = "; a comment goes up to the end of its line";
 
 const NO_NAMES: &str = "; registers are `r0` to `r7`, and have no other names";
 
@@ -29,7 +25,7 @@ const RECEIVED: &str =
 
 // Words of other languages for operations, and those between operands, each with what stands for
 // it.
-const OPERATIONS: [(&[u8], &str); 37] = [
+const OPERATIONS: [(&[u8], &str); 38] = [
     (
         b"mul times mult multiply product",
         "; there is no product: twice x is `shl(x, 1)`",
@@ -67,7 +63,8 @@ const OPERATIONS: [(&[u8], &str); 37] = [
     (b"maximum", "; write `max(a, b)`"),
     (b"minimum", "; write `min(a, b)`"),
     (b"then else elif elsif elseif endif fi", IF),
-    (b"ite iff cond case switch select choose mux when", IF),
+    (b"ite cond case switch select choose mux when", IF),
+    (b"iff xnor", "; for 0 and 1, write `eq(a, b)`"),
     (b"lsh lshift sll", "; write `shl(a, k)`"),
     (b"rsh rshift srl", "; write `shr(a, k)`"),
     (b"nand", "; write `not(and(a, b))`"),
@@ -109,7 +106,7 @@ const FUNCTIONS: [(&[u8], &str); 2] = [
 ];
 
 // Words where an expression is expected.
-const EXPRESSIONS: [(&[u8], &str); 7] = [
+const EXPRESSIONS: [(&[u8], &str); 9] = [
     (b"null nil none None NULL nothing", "; write 0"),
     (
         b"message messages msg neighbor neighbour neighbors neighbours",
@@ -117,7 +114,10 @@ const EXPRESSIONS: [(&[u8], &str); 7] = [
     ),
     (b"true True TRUE", "; write 1"),
     (b"false False FALSE", "; write 0"),
-    (b"l", "; the message from the left is `L`"),
+    (
+        b"l",
+        "; the message from the left is `L`, and the digit is `1`",
+    ),
     (
         b"r",
         "; the message from the right is `R`, and registers are `r0` to `r7`",
@@ -126,16 +126,37 @@ const EXPRESSIONS: [(&[u8], &str); 7] = [
         b"self me my uid ident identifier ids myid node",
         "; the identifier is `id`",
     ),
+    (
+        b"inf Inf infinity Infinity infty maxint MAXINT",
+        "; the greatest number is 4294967295",
+    ),
+    (
+        b"m n M N",
+        "; there is no word for the number of nodes or for the number of identifiers, and registers are `r0` to `r7`",
+    ),
 ];
 
 // Words where a line can begin.
-const LINES: [(&[u8], &str); 2] = [
+const LINES: [(&[u8], &str); 3] = [
     (
         b"return output result yield",
         "; the last line is `finish` and an expression",
     ),
-    (b"let var set int uint const mut local", ASSIGNED),
+    (
+        b"let var set int uint const mut local mov assign val auto unsigned",
+        ASSIGNED,
+    ),
+    (
+        b"pass skip nop",
+        "; each register is assigned, as in `r0 = r0` where it is to stay",
+    ),
 ];
+
+// Words where the messages of a round can begin.
+const MESSAGES: [(&[u8], &str); 1] = [(
+    b"broadcast",
+    "; write `send left` and `send right`, each with an expression",
+)];
 
 // The words of the language that have small letters.
 const SMALL: [(&[u8], &str); 35] = [
@@ -210,7 +231,8 @@ fn letters_advice(place: Place) -> &'static str {
     }
 }
 
-// Returns advice on `left` or `right` in capitals where an expression can follow.
+// Returns advice on `left`, `right` or a register in capitals, and on `=` in the code of a mail, where
+// an expression can follow.
 fn side_in_expression(place: Place) -> Option<&'static str> {
     if place.wanted != Expected::Expression {
         return None;
@@ -221,8 +243,47 @@ fn side_in_expression(place: Place) -> Option<&'static str> {
     if place.word.eq_ignore_ascii_case(b"right") {
         return Some("; the message from the right is `R`");
     }
-    None
+    if place.word.starts_with(b"3D") && place.before.ends_with(b"=") {
+        return Some("; `=3D` is `=` in the code of mails, quoted-printable: write `=`");
+    }
+    advice_in(&CAPITALS, place.word)
 }
+
+// The registers in capitals where an expression can follow.
+const CAPITALS: [(&[u8], &str); 8] = [
+    (
+        b"R0",
+        "; `r0` is written with a small letter, and the message from the right is `R`",
+    ),
+    (
+        b"R1",
+        "; `r1` is written with a small letter, and the message from the right is `R`",
+    ),
+    (
+        b"R2",
+        "; `r2` is written with a small letter, and the message from the right is `R`",
+    ),
+    (
+        b"R3",
+        "; `r3` is written with a small letter, and the message from the right is `R`",
+    ),
+    (
+        b"R4",
+        "; `r4` is written with a small letter, and the message from the right is `R`",
+    ),
+    (
+        b"R5",
+        "; `r5` is written with a small letter, and the message from the right is `R`",
+    ),
+    (
+        b"R6",
+        "; `r6` is written with a small letter, and the message from the right is `R`",
+    ),
+    (
+        b"R7",
+        "; `r7` is written with a small letter, and the message from the right is `R`",
+    ),
+];
 
 // Returns whether a keyword is the one that can follow, or no keyword.
 fn can_follow(name: &[u8], wanted: Expected) -> bool {
@@ -258,6 +319,8 @@ fn capital_advice(place: Place) -> Option<&'static str> {
 fn header_advice(place: Place) -> &'static str {
     match (place.wanted, place.word) {
         (Expected::This(Token::Rounds), b"REM" | b"dnl") => "; a comment begins with `#`",
+        (Expected::This(Token::Rounds), word) if word.starts_with(b"cm91bmRz") =>
+            "; this is a program in base64: `base64 -d` decodes it",
         (Expected::Number, [b'0', b'x' | b'X' | b'b' | b'B' | b'o', ..]) => "; numbers are decimal",
         (Expected::This(Token::Open) | Expected::This(Token::Equals), _) => missing_word(
             place.wanted,
@@ -278,14 +341,58 @@ fn side_advice(word: &[u8]) -> &'static str {
 
 // Returns advice on an unknown word where an expression can follow.
 fn expression_advice(place: Place) -> &'static str {
-    let known = advice_in(&EXPRESSIONS, place.word).or(advice_in(&OPERATIONS, place.word));
-    match (known, place.next) {
+    if let Some(advice) = advice_in(&OPERATIONS, place.word) {
+        return advice;
+    }
+    if stands_before_expression(place) {
+        return match place.last {
+            b"finish" => "; `finish` is followed by an expression alone",
+            _ => "; the side is followed by an expression alone, as in `send left 0`",
+        };
+    }
+    match (advice_in(&EXPRESSIONS, place.word), place.next) {
         (Some(advice), _) => advice,
         (None, b"(") => advice_in(&FUNCTIONS, place.word).unwrap_or(
             "; there is no operation of this name: they are `not`, `and`, `or`, `xor`, `shl`, `shr`, `add`, `sub`, `min`, `max`, `ldb`, `bit`, `eq`, `ne`, `lt`, `le` and `if`",
         ),
-        _ => bracket_advice(place.word).unwrap_or(spelling_advice(place.word)),
+        _ => name_advice(place.word),
     }
+}
+
+// Returns whether a word of two letters or more stands between `finish` or a side and an
+// expression.
+fn stands_before_expression(place: Place) -> bool {
+    matches!(place.last, b"finish" | b"left" | b"right")
+        && matches!(place.word, [b'A'..=b'Z' | b'a'..=b'z', _, ..])
+        && bracket_advice(place.word).is_none()
+        && (is_operand(place.next) || is_operation(place.next))
+}
+
+// Returns whether a word is a name for what comes from the left.
+fn is_of_left(word: &[u8]) -> bool {
+    matches!(word, [b'L', b'0'..=b'9', ..])
+        || word.starts_with(b"left")
+        || word.ends_with(b"Left")
+        || word.ends_with(b"left")
+}
+
+// Returns whether a word is a name for what comes from the right.
+fn is_of_right(word: &[u8]) -> bool {
+    word.starts_with(b"right") || word.ends_with(b"Right") || word.ends_with(b"right")
+}
+
+// Returns advice on a word in the place of an expression, of which nothing else is known.
+fn name_advice(word: &[u8]) -> &'static str {
+    if let Some(advice) = bracket_advice(word) {
+        return advice;
+    }
+    if is_of_left(word) {
+        return "; the message from the left is `L`";
+    }
+    if is_of_right(word) {
+        return "; the message from the right is `R`";
+    }
+    spelling_advice(word)
 }
 
 // Returns advice on an unknown word where a line can begin, or a comma or a bracket can follow.
@@ -299,6 +406,7 @@ fn line_advice(place: Place) -> &'static str {
     let operation = advice_in(&OPERATIONS, place.word);
     let known = operation.or(match place.wanted {
         Expected::This(Token::Comma) | Expected::This(Token::Close) => None,
+        Expected::This(Token::Send) => advice_in(&MESSAGES, place.word),
         _ => advice_in(&LINES, place.word),
     });
     known.unwrap_or(between_advice(place))
@@ -314,6 +422,14 @@ fn between_advice(place: Place) -> &'static str {
     }
 }
 
+// Returns advice on a number that is not in its range: others may follow it.
+pub(crate) fn range_advice(place: Place) -> &'static str {
+    match (place.next, place.second) {
+        (b".", b".") => "; one number is written here, not a range",
+        _ => "",
+    }
+}
+
 // Returns advice on a number that is too large, by the word before it.
 pub(crate) fn large_advice(place: Place) -> &'static str {
     match place.last {
@@ -324,23 +440,15 @@ pub(crate) fn large_advice(place: Place) -> &'static str {
     }
 }
 
-// Returns advice on what can follow.
-pub(crate) fn missing_word(wanted: Expected) -> &'static str {
-    match wanted {
-        Expected::This(Token::Open) => BRACKETED,
-        Expected::This(Token::Equals) => ASSIGNED,
-        Expected::Number => DIGITS,
-        Expected::End => ENDED,
-        _ => "",
-    }
-}
-
 // Returns advice on a word by its first letters.
 fn spelling_advice(word: &[u8]) -> &'static str {
     match word {
         [b'0', b'x' | b'X' | b'b' | b'B' | b'o', ..] => "; numbers are decimal",
+        [b'0'..=b'9', .., b'r', b'0'..=b'7'] =>
+            "; a number has only digits, and there is no product: twice x is `shl(x, 1)`",
         [b'0'..=b'9', ..] => "; a number has only digits",
         [b'r' | b'R', b'0'..=b'9', ..] => "; registers are `r0` to `r7`",
+        [b'r', b'o' | b'O'] => "; `r0` is written with the digit 0, not with a letter",
         _ => NO_NAMES,
     }
 }
@@ -353,17 +461,38 @@ fn is_hidden(text: &[u8]) -> bool {
     }
 }
 
+// Returns the comment in the last line that has a byte, an empty text if there is none.
+fn last_comment(text: &[u8]) -> &[u8] {
+    let lines = text.strip_suffix(b"\n").unwrap_or(text);
+    after_sign(last_line(lines))
+}
+
+// Returns the text after the first `#`, an empty one if there is none.
+fn after_sign(line: &[u8]) -> &[u8] {
+    &line[before_sign_len(line)..]
+}
+
+// Returns the number of bytes before the first `#`.
+fn before_sign_len(line: &[u8]) -> usize
+    ensures { result ≤ length line.now }
+{
+    line.iter().take_while(|byte| **byte != b'#').count()
+}
+
 // Returns advice on a text that ends where `wanted` can follow.
 pub(crate) fn end_advice(text: &[u8], wanted: Option<Expected>) -> &'static str {
     if text.is_empty() {
-        return "; the text is empty, so no file was given";
+        return "; the text is empty, so no file was given, or an empty one";
     }
     if text.contains(&b'\r') && is_hidden(text) {
         return "; a comment goes up to a line feed, and this text has none";
     }
     match wanted {
+        Some(Expected::This(Token::Rounds)) if is_hidden(text) && has_one(text, &[b"rounds "]) =>
+            HIDDEN,
         Some(Expected::This(Token::Rounds)) => "; the text has only blanks and comments",
-        Some(_) if is_hidden(text) => "; a comment goes up to the end of its line",
+        Some(_) if is_hidden(text) => HIDDEN,
+        Some(Expected::This(Token::Finish)) if has_one(last_comment(text), &[b"finish "]) => HIDDEN,
         Some(Expected::This(Token::Comma)) => operands_advice(text),
         Some(Expected::This(Token::Close)) => OPEN,
         _ => "",

@@ -9,12 +9,13 @@ use source_places::first_line_len;
 // The length of the longest words that are tried in two parts.
 const LONGEST_JOINED: usize = 32;
 
-// A place of a text: the text before it and from it on, the token there, the one before it and the
+// A place of a text: the text before it and from it on, the token there, the two before it and the
 // two after it, which are empty where there is none, and what can follow the text before it.
 #[derive(Clone, Copy)]
 pub(crate) struct Place<'a> {
     pub(crate) before: &'a [u8],
     pub(crate) rest: &'a [u8],
+    pub(crate) previous: &'a [u8],
     pub(crate) last: &'a [u8],
     pub(crate) word: &'a [u8],
     pub(crate) next: &'a [u8],
@@ -27,10 +28,12 @@ pub(crate) fn place_in<'a>(before: &'a [u8], rest: &'a [u8], wanted: Expected) -
     let (word, end) = token_after(rest, 0);
     let (next, end) = token_after(rest, end);
     let (second, _) = token_after(rest, end);
+    let (previous, last) = last_words(before);
     Place {
         before,
         rest,
-        last: last_word(before),
+        previous,
+        last,
         word,
         next,
         second,
@@ -50,15 +53,17 @@ fn token_after(text: &[u8], at: usize) -> (&[u8], usize)
     }
 }
 
-// Returns the last token of a text, an empty text if there is none.
-fn last_word(text: &[u8]) -> &[u8] {
-    let mut last = &text[..0];
+// Returns the last two tokens of a text, an empty text for each that there is not.
+fn last_words(text: &[u8]) -> (&[u8], &[u8]) {
+    let mut previous = &text[..0];
+    let mut last = previous;
     let mut at = 0;
     'tokens: while let Some(placed) = token_from(text, at) {
+        previous = last;
         last = &text[placed.start..placed.end];
         at = placed.end;
     }
-    last
+    (previous, last)
 }
 
 // Returns the number of registers that the header of a program says.
@@ -150,15 +155,41 @@ fn last_line_len(text: &[u8]) -> usize
 }
 
 // Returns the last line of a text.
-fn last_line(text: &[u8]) -> &[u8] {
+pub(crate) fn last_line(text: &[u8]) -> &[u8] {
     &text[text.len() - last_line_len(text)..]
+}
+
+// Returns whether a line has only blanks.
+fn is_blank(line: &[u8]) -> bool {
+    line.iter()
+        .all(|byte| matches!(*byte, b' ' | b'\t' | b'\r'))
+}
+
+// Returns the number of blanks at the start.
+fn blanks_len(text: &[u8]) -> usize
+    ensures { result ≤ length text.now }
+{
+    text.iter()
+        .take_while(|byte| matches!(**byte, b' ' | b'\t'))
+        .count()
+}
+
+// Returns the text after the blanks at its start.
+pub(crate) fn after_blanks(text: &[u8]) -> &[u8] {
+    &text[blanks_len(text)..]
 }
 
 // Returns whether only blanks stand between a place and the start of its line.
 pub(crate) fn begins_line(place: Place) -> bool {
-    last_line(place.before)
-        .iter()
-        .all(|byte| matches!(*byte, b' ' | b'\t' | b'\r'))
+    is_blank(last_line(place.before))
+}
+
+// Returns whether the token before a place is on its line, and the first one there.
+pub(crate) fn follows_first_word(place: Place) -> bool {
+    match after_blanks(last_line(place.before)).strip_prefix(place.last) {
+        Some(blanks) => is_blank(blanks),
+        None => false,
+    }
 }
 
 // Returns whether an expression can end with this token.
@@ -199,8 +230,18 @@ pub(crate) fn is_token(bytes: &[u8]) -> bool {
     }
 }
 
+// Returns whether a token is a register.
+pub(crate) fn is_register(token: &[u8]) -> bool {
+    matches!(token, [b'r', b'0'..=b'9'])
+}
+
+// Returns whether a token is a number.
+pub(crate) fn is_number(token: &[u8]) -> bool {
+    matches!(token, [b'0'..=b'9', ..])
+}
+
 // Returns whether a word begins a line of a program, or stands at the start of one behind `send`.
-fn is_keyword(word: &[u8]) -> bool {
+pub(crate) fn is_keyword(word: &[u8]) -> bool {
     matches!(
         word,
         b"rounds"

@@ -11,7 +11,9 @@ mod placed;
 mod programs;
 mod scanning;
 mod signs;
+mod tex;
 mod texts;
+mod wanted;
 mod words;
 
 pub use programs::{check_note, ids_note};

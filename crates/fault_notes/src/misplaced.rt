@@ -2,14 +2,16 @@
 //! advice has a condition under which it is true of the text; where none holds, there is no advice.
 //! That is tried on slips of programs, and nothing proves it.
 
-use crate::advice::{BRACKETED, OPEN, missing_word};
+use crate::advice::OPEN;
 use crate::around::{
-    Place, follows_expression, has_comma, has_operands, is_end, is_operand, is_repeated,
-    open_operation, registers_in,
+    Place, begins_line, follows_expression, follows_first_word, has_comma, has_operands, is_end,
+    is_operand, is_register, is_repeated, open_operation, registers_in,
 };
 use crate::operands::{is_operation, operands_advice};
 use crate::signs::comment_advice;
+use crate::wanted::{BRACKETED, missing_word, wanted_advice};
 use node_lang::{Expected, Token};
+use source_places::by_beginning;
 
 const DOUBLED: &str = "; the same word stands right before it";
 
@@ -19,7 +21,26 @@ const COMMA: &str = "; a comma is missing before it";
 
 const INFIX: &str = "; an operation is written before its operands, as in `add(a, b)`";
 
+const EQUAL: &str = "; write `eq(a, b)` to compare";
+
+const UNEQUAL: &str = "; write `ne(a, b)` to compare";
+
+const IF_FIRST: &str = "; an operation is written before its operands, as in `if(c, a, b)`";
+
 const ROUNDS: &str = "; there are as many rounds as `rounds` says";
+
+const ONLY_ASSIGNED: &str = "; `=` is only written after the register of an assignment";
+
+// Marks that begin with `=` and stand between operands that are compared.
+const COMPARED: [(&[u8], &str); 7] = [
+    (b"=/=", UNEQUAL),
+    (b"=\\=", UNEQUAL),
+    (b"=!=", UNEQUAL),
+    (b"=:=", EQUAL),
+    (b"==", EQUAL),
+    (b"=<", "; write `le(a, b)` for a <= b"),
+    (b"=>", "; write `le(b, a)` for a >= b"),
+];
 
 const REGISTERS: &str = "; `registers` says how many registers there are, from r0 on";
 
@@ -32,7 +53,7 @@ pub(crate) fn place_advice(place: Place) -> &'static str {
         b"=" => equals_advice(place),
         b"(" => open_advice(place),
         b")" => close_advice(place),
-        b"," => comma_advice(place.before),
+        b"," => comma_advice(place),
         _ if is_doubled(place) => DOUBLED,
         word if is_operation(word) => operation_advice(place),
         _ => known_advice(place),
@@ -49,38 +70,70 @@ fn is_doubled(place: Place) -> bool {
         Expected::This(Token::Start) => matches!(place.next, b"start"),
         Expected::This(Token::Round) => matches!(place.next, b"round"),
         Expected::This(Token::Send) => matches!(place.next, b"send"),
+        Expected::This(Token::Left) => matches!(place.next, b"left"),
+        Expected::This(Token::Right) => matches!(place.next, b"right"),
         Expected::This(Token::Finish) => matches!(place.next, b"finish"),
         Expected::This(Token::Register(_)) => matches!(place.next, [b'r', _]),
         Expected::This(Token::Comma) => matches!(place.next, b","),
+        Expected::End => place.next != b"=".as_slice(),
         _ => true,
     };
     place.last == place.word && is_followed
 }
 
-// Returns advice on a `=` after an operand, where it is meant to compare.
-fn compared_advice(rest: &[u8]) -> &'static str {
-    if rest.starts_with(b"=<") {
-        return "; write `le(a, b)` for a <= b";
+// Returns whether a register before `=` begins an operand of `if` that is not the condition.
+fn begins_branch(place: Place) -> bool {
+    is_register(place.last)
+        && place.previous == b",".as_slice()
+        && open_operation(place.before) == b"if".as_slice()
+}
+
+// Returns advice on a `=` after an operand of an operation, or after the expression of `finish`.
+fn compared_advice(place: Place) -> &'static str {
+    if begins_branch(place) {
+        return "; a branch of `if` is a value, not an assignment: write `eq(a, b)` to compare";
     }
-    if rest.starts_with(b"=>") {
-        return "; write `le(b, a)` for a >= b";
+    if place.previous != b"finish".as_slice() || !is_register(place.last) {
+        return EQUAL;
     }
-    "; write `eq(a, b)` to compare"
+    if follows_first_word(place) {
+        return "; an expression follows `finish`, and no assignment";
+    }
+    "; an expression follows `finish`, and no assignment: write `eq(a, b)` to compare"
+}
+
+// Returns advice on a `=` after a register that was read as an expression: the one that is sent, or
+// that is assigned to the register before.
+fn register_advice(place: Place) -> &'static str {
+    let is_sent = matches!(place.previous, b"left" | b"right");
+    let is_assigned = matches!(place.previous, b"=");
+    if begins_line(place) || !(is_sent || is_assigned) {
+        return ONLY_ASSIGNED;
+    }
+    if follows_first_word(place) {
+        return "; the register before it was read as the expression that is missing";
+    }
+    if is_sent {
+        return "; the register before it was read as the expression that is sent";
+    }
+    "; each assignment has one register: write `eq(a, b)` to compare"
 }
 
 // Returns advice on a `=`.
 fn equals_advice(place: Place) -> &'static str {
-    let is_doubled = place.rest.starts_with(b"==");
-    match place.wanted {
-        Expected::This(Token::Comma) | Expected::This(Token::Close) | Expected::End => {
-            compared_advice(place.rest)
-        }
-        Expected::Expression if matches!(place.last, b"=") =>
+    let marks = if is_end(place.last) {
+        by_beginning(&COMPARED, place.rest)
+    } else {
+        None
+    };
+    match (place.wanted, marks) {
+        (Expected::Expression, _) if matches!(place.last, b"=") =>
             "; an assignment is written with one `=`",
-        _ if is_doubled && is_end(place.last) => compared_advice(place.rest),
-        Expected::This(Token::Round) | Expected::This(Token::Finish)
-            if matches!(place.last, [b'r', _]) => "; each assignment has one register",
-        _ => "; `=` is only written after the register of an assignment",
+        (_, Some(advice)) => advice,
+        (Expected::This(Token::Comma) | Expected::This(Token::Close) | Expected::End, None) =>
+            compared_advice(place),
+        _ if is_register(place.last) => register_advice(place),
+        _ => ONLY_ASSIGNED,
     }
 }
 
@@ -94,6 +147,9 @@ fn open_advice(place: Place) -> &'static str {
         }
         Expected::Expression => "; brackets are only written after the name of an operation",
         Expected::Number => "; write a number in digits, without brackets",
+        Expected::This(Token::Register(_)) if begins_line(place) => {
+            "; an assignment is written `r0 = ..`, without brackets"
+        }
         Expected::This(Token::Left) => "; write `send left ..`, without brackets",
         Expected::This(Token::Right) => "; write `send right ..`, without brackets",
         Expected::End => {
@@ -112,12 +168,15 @@ fn close_advice(place: Place) -> &'static str {
     }
 }
 
-// Returns advice on a `,` after a text.
-fn comma_advice(before: &[u8]) -> &'static str {
-    if open_operation(before).is_empty() {
-        return "; commas only separate operands";
+// Returns advice on a `,`.
+fn comma_advice(place: Place) -> &'static str {
+    if !open_operation(place.before).is_empty() {
+        return operands_advice(place.before);
     }
-    operands_advice(before)
+    if is_operand(place.last) && matches!(place.previous, b"left" | b"right") {
+        return "; commas only separate operands, and one value is sent to each side";
+    }
+    "; commas only separate operands"
 }
 
 // Returns whether the operation of a place stands between its operands: an expression ends before
@@ -153,13 +212,25 @@ fn operation_advice(place: Place) -> &'static str {
         | Expected::This(Token::Registers)
         | Expected::This(Token::Start) => wanted_advice(place.wanted),
         _ if is_infix(place) => INFIX,
-        _ if matches!(place.word, b"if") && ends_line_of(place) => {
-            "; an operation is written before its operands, as in `if(c, a, b)`"
-        }
+        _ if matches!(place.word, b"if") && ends_line_of(place) => IF_FIRST,
+        Expected::End if matches!(place.word, b"if") && follows_expression(place) => IF_FIRST,
         Expected::This(Token::Comma) if has_bracket => COMMA,
-        Expected::This(Token::Register(_)) if has_bracket || matches!(place.word, b"if") =>
-            "; an expression is assigned to a register, as in `r0 = if(c, a, b)`",
+        _ if has_bracket && ends_line_of(place) => second_advice(place),
         Expected::This(Token::Comma) => "",
+        _ if has_bracket || matches!(place.word, b"if") => statement_advice(place),
+        _ => known_advice(place),
+    }
+}
+
+// Returns advice on an expression where a line can begin.
+fn statement_advice(place: Place) -> &'static str {
+    match place.wanted {
+        Expected::This(Token::Register(_)) =>
+            "; one expression is assigned to each register, as in `r0 = if(c, a, b)`",
+        Expected::This(Token::Round) =>
+            "; one expression is assigned to each register, then comes `round`",
+        Expected::This(Token::Finish) =>
+            "; one expression is assigned to each register, then comes `finish`",
         _ => known_advice(place),
     }
 }
@@ -170,6 +241,29 @@ fn is_no_register(place: Place) -> bool {
         ([b'r', digit], Some(registers)) => u32::from(*digit)
             >= u32::from(b'0').saturating_add(registers),
         _ => false,
+    }
+}
+
+// Returns advice on a register that the header does not have.
+fn no_register_advice(place: Place) -> &'static str {
+    match place.word {
+        [b'r', b'8' | b'9'] => "; `registers` is at most 8, and registers are `r0` to `r7`",
+        _ => REGISTERS,
+    }
+}
+
+// Returns whether a place is that of an operand which is no register and stands before `=`.
+fn is_wrong_target(place: Place) -> bool {
+    is_operand(place.word) && !is_register(place.word) && matches!(place.next, b"=")
+}
+
+// Returns advice on an operand before `=`.
+fn target_advice(word: &[u8]) -> &'static str {
+    match word {
+        b"L" | b"R" => {
+            "; only registers are assigned: a value is sent by `send left` and `send right`"
+        }
+        _ => "; only registers are assigned, as in `r0 = id`",
     }
 }
 
@@ -193,10 +287,13 @@ fn is_second_operand(place: Place) -> bool {
     is_operand(place.word) && !matches!(place.next, b"=") && ends_line_of(place)
 }
 
-// Returns advice on an expression that follows another one, which ends with this token.
-fn second_advice(last: &[u8]) -> &'static str {
-    match last {
-        [b'0'..=b'9', ..] => "; one expression is written here: twice x is `shl(x, 1)`",
+// Returns advice on an expression that follows another one on its line. Two numbers may be one that is
+// written with a blank.
+fn second_advice(place: Place) -> &'static str {
+    match (place.last, place.word) {
+        ([b'0'..=b'9', ..], [b'0'..=b'9', ..]) =>
+            "; one expression is written here, and a number has no blanks",
+        ([b'0'..=b'9', ..], _) => "; one expression is written here: twice x is `shl(x, 1)`",
         _ => {
             "; one expression is written here: an operation is written before its operands, as in `add(a, b)`"
         }
@@ -226,7 +323,11 @@ fn known_advice(place: Place) -> &'static str {
             operands_advice(place.before)
         }
         Expected::This(Token::Close) => OPEN,
-        _ if is_second_operand(place) => second_advice(place.last),
+        Expected::This(Token::Register(_))
+        | Expected::This(Token::Round)
+        | Expected::This(Token::Finish)
+            if is_wrong_target(place) => target_advice(place.word),
+        _ if is_second_operand(place) => second_advice(place),
         Expected::This(Token::Rounds) if has_numbers(place) =>
             "; leave out the numbers of the lines",
         Expected::This(Token::Round) => round_advice(place),
@@ -235,7 +336,7 @@ fn known_advice(place: Place) -> &'static str {
         }
         Expected::This(Token::Finish) if matches!(place.word, b"round") => ROUNDS,
         Expected::This(Token::Finish) | Expected::This(Token::Register(_))
-            if is_no_register(place) => REGISTERS,
+            if is_no_register(place) => no_register_advice(place),
         Expected::Expression if matches!(place.last, b"(" | b"," | b"=") => {
             in_expression_advice(place)
         }
@@ -246,9 +347,9 @@ fn known_advice(place: Place) -> &'static str {
 // Returns advice on a word inside an expression.
 fn in_expression_advice(place: Place) -> &'static str {
     match (place.word, place.next) {
-        (b"left", b"(" | b")" | b"," | b"." | b"send" | b"finish") =>
+        (b"left", b"(" | b")" | b"," | b"." | b"_" | b"send" | b"finish") =>
             "; the message from the left is `L`",
-        (b"right", b"(" | b")" | b"," | b"." | b"send" | b"finish") =>
+        (b"right", b"(" | b")" | b"," | b"." | b"_" | b"send" | b"finish") =>
             "; the message from the right is `R`",
         _ => wanted_advice(place.wanted),
     }
@@ -259,32 +360,10 @@ fn round_advice(place: Place) -> &'static str {
     match place.word {
         b"finish" => ROUNDS,
         b"send" => "; a round begins with the word `round`",
-        _ if is_no_register(place) => REGISTERS,
+        _ if is_no_register(place) => no_register_advice(place),
         [b'r', b'0'..=b'9', ..] if matches!(place.next, b"=") => {
             "; each register is assigned once, then comes `round`"
         }
-        _ => "",
-    }
-}
-
-// Returns advice on the words that can follow at a place.
-fn wanted_advice(wanted: Expected) -> &'static str {
-    match wanted {
-        Expected::This(Token::Rounds)
-        | Expected::This(Token::Channels)
-        | Expected::This(Token::Registers) => {
-            "; a program begins with `rounds`, `channels` and `registers`"
-        }
-        Expected::This(Token::Send) => "; a round begins with `send left` and `send right`",
-        Expected::This(Token::Left) => "; `send left` comes first, then `send right`",
-        Expected::This(Token::Right) => "; `send left` is followed by `send right`",
-        Expected::This(Token::Register(_)) => "; each register is assigned, in order",
-        Expected::This(Token::Finish) => "; each register is assigned once, then comes `finish`",
-        Expected::Expression => "; an expression is missing here",
-        Expected::This(Token::Open)
-        | Expected::This(Token::Equals)
-        | Expected::Number
-        | Expected::End => missing_word(wanted),
         _ => "",
     }
 }

@@ -41,7 +41,8 @@ pub fn check_note(
             placed_note(alloc, text, CheckFault::IdOutsideStart, cause)
         }
         CheckFault::MessageOutsideStep => {
-            let cause = "`L` and `R` can be read in the assignments of a round alone";
+            let cause =
+                "`L` and `R` can be read in the assignments of a round alone; keep them in registers there";
             placed_note(alloc, text, CheckFault::MessageOutsideStep, cause)
         }
         CheckFault::ChannelBound(bound) => bound_note(alloc, program, ids, bound),

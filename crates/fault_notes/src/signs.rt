@@ -2,7 +2,12 @@
 
 ghost use Rattle.std.specs.Prelude.{◌≤◌, length};
 
-use crate::around::{Place, ends_in_comment, follows_expression, is_operand};
+use crate::around::{
+    Place, after_blanks, ends_in_comment, follows_expression, is_end, is_number, is_operand,
+    is_register, is_token, open_operation,
+};
+use crate::tex::backslash_advice;
+use crate::wanted::{ASSIGNED, wanted_advice};
 use crate::words::is_word_byte;
 use node_lang::{Expected, Token};
 use source_places::by_beginning;
@@ -10,8 +15,6 @@ use source_places::by_beginning;
 const COMMENT: &str = "; a comment begins with `#`";
 
 const PRODUCT: &str = "; there is no product: twice x is `shl(x, 1)`";
-
-const ASSIGNED: &str = "; an assignment is written `r0 = ..`";
 
 const PATCH: &str = "; this is a patch, not a program";
 
@@ -46,13 +49,23 @@ const LINK: &str =
 
 const SHELL: &str = "; this is a command of the shell: leave it out";
 
-const TEX: &str = "; leave out the commands of TeX";
-
 const NO_MARK_BEFORE: &str = "; an expression has no mark before it";
 
 const NO_REGISTER_MARK: &str = "; registers are `r0` to `r7`, without a mark before them";
 
 const DECREMENT: &str = "; write `sub(a, 1)`, which stops at 0";
+
+const DIFFERENCE: &str = "; write `sub(a, b)`, which stops at 0; numbers are 0 to 4294967295";
+
+const NO_ARROW: &str = "; a program has no arrows";
+
+const NO_PARTS: &str = "; a message is one number, without parts";
+
+const BULLET: &str = "; this is a bullet: leave it out";
+
+const SEPARATED: &str = "; operands are separated by commas";
+
+const BIT: &str = "; bit i of a is `bit(a, i)`";
 
 const HALF: &str = "; a comment begins with `#`, and half of x is `shr(x, 1)`";
 
@@ -75,8 +88,6 @@ const ENTITY: &str =
 
 const TAG: &str = "; this is a mark of HTML: leave it out";
 
-const NO_FEED: &str = "; this stands for a line feed only in other texts: begin a new line";
-
 const QUOTATION: &str = "; this is a typographic quotation mark: write a plain one";
 
 const NO_QUOTATION: &str =
@@ -96,16 +107,17 @@ const OTHER_ALPHABET: &str =
     "; this is a letter of another alphabet, which may look like a plain one";
 
 // Marks at the start of a text.
-const FIRST: [(&[u8], &str); 25] = [
+const FIRST: [(&[u8], &str); 26] = [
+    (b"//", COMMENT),
+    (b"/*", COMMENT),
     (b"{-", COMMENT),
-    (b"\\begin", TEX),
-    (b"\\document", TEX),
     (b"* rounds", MARKDOWN),
     (b"- ", MARKDOWN),
     (b"| ", MARKDOWN),
     (b"|", MARKDOWN),
     (b"**", MARKDOWN),
     (b"---", PATCH),
+    (b"--", COMMENT),
     (b"+", PATCH),
     (b"@@", PATCH),
     (b"$", SHELL),
@@ -198,8 +210,8 @@ const AFTER_NUMBERS: [(&[u8], &str); 23] = [
     (b"\"", NO_TEXTS),
     (b"'", NO_TEXTS),
     (b"_", "; numbers and registers have no `_`"),
+    (b"..", "; one number is written here, not a range"),
     (b".", WHOLE),
-    (b"\\", "; lines go on without a mark"),
 ];
 
 // Characters in HTML for the marks of operations.
@@ -214,12 +226,13 @@ const ENTITIES: [(&[u8], &str); 7] = [
 ];
 
 // Marks where a comma or a closing bracket is wanted.
-const BETWEEN_OPERANDS: [(&[u8], &str); 7] = [
+const BETWEEN_OPERANDS: [(&[u8], &str); 8] = [
     (b":=", ""),
     (b"->", ""),
     (b"<-", ""),
-    (b":", "; operands are separated by commas"),
-    (b";", "; operands are separated by commas"),
+    (b":", SEPARATED),
+    (b";", SEPARATED),
+    (b". ", SEPARATED),
     (b"]", OPERANDS),
     (b"}", OPERANDS),
 ];
@@ -238,18 +251,13 @@ const ASSIGNMENTS: [(&[u8], &str); 7] = [
     (b"-", ASSIGNED),
 ];
 
-// Marks at the other places.
-const MARKS: [(&[u8], &str); 42] = [
+// Marks between the operands of an operation.
+const INFIX: [(&[u8], &str); 23] = [
+    (b"->", NO_ARROW),
+    (b"<-", NO_ARROW),
     (b"~=", UNEQUAL),
     (b"/=", UNEQUAL),
-    (b"//", COMMENT),
-    (b"/*", COMMENT),
-    (b"--", COMMENT),
-    (b"<!--", COMMENT),
-    (b";;", COMMENT),
-    (b"\"\"\"", COMMENT),
-    (b"'''", COMMENT),
-    (b"```", MARKDOWN),
+    (b"!=", UNEQUAL),
     (b"**", "; there is no power: that of 2 is `shl(1, k)`"),
     (b"<<", "; write `shl(a, k)`"),
     (b">>", "; write `shr(a, k)`"),
@@ -264,29 +272,45 @@ const MARKS: [(&[u8], &str); 42] = [
         "; a comment begins with `#`, and there is no remainder: that of 2 is `and(x, 1)`",
     ),
     (b"/", HALF),
-    (b"!", UNEQUAL),
     (b"+", "; write `add(a, b)`"),
-    (
-        b"-",
-        "; write `sub(a, b)`, which stops at 0; numbers are 0 to 4294967295",
-    ),
+    (b"-", DIFFERENCE),
     (b"&", "; write `and(a, b)`"),
     (b"|", "; write `or(a, b)`"),
     (b"^", "; write `xor(a, b)`"),
-    (b"~", "; write `not(a)`"),
     (b"?", "; write `if(c, a, b)`"),
+    (
+        b".",
+        "; numbers are whole, and an operation is written before its operands, as in `bit(a, i)`",
+    ),
+];
+
+// The mark of a power, which is another operation here.
+const POWER: [(&[u8], &str); 1] = [(b"^", "; write `xor(a, b)`, or `shl(1, k)` for a power of 2")];
+
+// Marks before the operand of an operation.
+const PREFIX: [(&[u8], &str); 3] = [
+    (b"!", UNEQUAL),
+    (b"~", "; write `not(a)`"),
+    (b"-", DIFFERENCE),
+];
+
+// Marks at the other places.
+const MARKS: [(&[u8], &str); 19] = [
+    (b"//", COMMENT),
+    (b"/*", COMMENT),
+    (b"--", COMMENT),
+    (b"<!--", COMMENT),
+    (b";;", COMMENT),
+    (b"\"\"\"", COMMENT),
+    (b"'''", COMMENT),
+    (b"```", MARKDOWN),
     (b":", NO_MARK),
     (b";", NO_MARK),
     (b"\"", NO_TEXTS),
     (b"'", NO_TEXTS),
     (b"_", "; numbers and registers have no `_`"),
-    (
-        b".",
-        "; numbers are whole, and an operation is written before its operands, as in `bit(a, i)`",
-    ),
     (b"$", NO_NAMES),
     (b"@", NO_NAMES),
-    (b"\\", "; lines go on without a mark"),
     (b"[", "; a program has no such brackets"),
     (b"]", "; a program has no such brackets"),
     (b"{", "; a program has no such brackets"),
@@ -294,7 +318,11 @@ const MARKS: [(&[u8], &str); 42] = [
 ];
 
 // Bytes above 127 at the start of a text, each with advice that holds in comments too.
-const BYTES: [(&[u8], &str); 38] = [
+const BYTES: [(&[u8], &str); 42] = [
+    (&[0xe2, 0x80, 0xa2], BULLET),
+    (&[0xe2, 0x97, 0x8f], BULLET),
+    (&[0xe2, 0x96, 0xaa], BULLET),
+    (&[0xc2, 0xb7], BULLET),
     (
         &[0xef, 0xbb, 0xbf],
         "; this is a byte order mark: save the file without one",
@@ -357,7 +385,7 @@ const BYTES: [(&[u8], &str); 38] = [
 const SIGNS: [(&[u8], &str); 21] = [
     (
         &[0xe2, 0x88, 0x92],
-        "; this is a minus sign that is not ASCII: a difference is `sub(a, b)`",
+        "; this is a minus sign that is not ASCII: a difference is `sub(a, b)`, and numbers have no sign",
     ),
     (
         &[0xef, 0xbc, 0x8c],
@@ -406,7 +434,7 @@ const TAGS: [&[u8]; 12] = [
 const LINKED: [&[u8]; 5] = [b"%0A", b"%0a", b"%0D", b"%3D", b"%3d"];
 
 // Returns whether a part of a text is one of these.
-fn has_one(text: &[u8], parts: &[&[u8]]) -> bool {
+pub(crate) fn has_one(text: &[u8], parts: &[&[u8]]) -> bool {
     for start in 0..text.len() {
         if parts.iter().any(|part| text[start..].starts_with(part)) {
             return true;
@@ -461,25 +489,13 @@ fn entity_advice(place: Place) -> &'static str {
     }
 }
 
-// Returns the number of blanks at the start.
-fn blanks_len(text: &[u8]) -> usize
-    ensures { result ≤ length text.now }
-{
-    text.iter().take_while(|byte| **byte == b' ').count()
-}
-
-// Returns the text after the blanks at its start.
-fn after_blanks(text: &[u8]) -> &[u8] {
-    &text[blanks_len(text)..]
-}
-
 // Returns advice on two marks after an expression, where they are no comment.
 fn doubled_advice(place: Place) -> Option<&'static str> {
     if !follows_expression(place) {
         return None;
     }
     match place.rest {
-        [b'[', ..] if is_operand(place.last) => Some("; bit i of a is `bit(a, i)`"),
+        [b'[', ..] if is_operand(place.last) => Some(BIT),
         [b'-', b'-'] | [b'-', b'-', b'\n' | b'\r' | b')' | b',', ..] => Some(DECREMENT),
         [b'/', b'/', rest @ ..] => match after_blanks(rest) {
             [b'0'..=b'9' | b'L' | b'R' | b'(', ..] | [b'r', b'0'..=b'9', ..] => Some(HALF),
@@ -503,6 +519,24 @@ fn prompt_advice(place: Place) -> Option<&'static str> {
     None
 }
 
+// Returns advice on a mark right behind an operand.
+fn behind_operand(place: Place) -> Option<&'static str> {
+    if !is_operand(place.last) || !place.before.ends_with(place.last) {
+        return None;
+    }
+    match place.rest {
+        [b'\'', b'b' | b'd' | b'h' | b'o', ..] if is_number(place.last) => Some(
+            "; numbers are decimal",
+        ),
+        [b'\'', ..] if is_register(place.last) => Some(
+            "; registers are `r0` to `r7`, and have no marks",
+        ),
+        [b'.', b'0'..=b'9', ..] if !is_number(place.last) => Some(BIT),
+        [b'-', b'>', ..] if matches!(place.last, b"L" | b"R") => Some(NO_PARTS),
+        _ => None,
+    }
+}
+
 // Returns the advice on a mark that is of a link, of HTML, or a quotation mark around the program.
 fn copied_advice(place: Place) -> Option<&'static str> {
     if is_linked(place) {
@@ -524,28 +558,46 @@ fn copied_advice(place: Place) -> Option<&'static str> {
         (Expected::End, [b'"' | b'\'' | b'`', ..]) => Some(
             "; nothing follows the expression of `finish`",
         ),
-        (_, [b'\\', b'n' | b'r' | b't', ..]) => Some(NO_FEED),
-        (_, [b'.'] | [b'.', b'\n' | b'\r' | b' ', ..]) => Some(NO_MARK),
         (Expected::Expression, [b'>', ..]) if place.before.ends_with(b"=") => Some(ASSIGNED),
-        (_, [b'.', ..]) if matches!(place.last, b"L" | b"R") => Some(
-            "; a message is one number, without parts",
+        (Expected::Expression, [b'"' | b'\'', ..]) if !is_token(place.next) => Some(
+            "; there are no texts in programs: write a number",
         ),
+        (Expected::Expression, [b'-', b'0'..=b'9', ..]) if is_distance(place) => Some(
+            "; numbers have no sign: `shl(a, k)` and `shr(a, k)` shift to either side",
+        ),
+        (Expected::Expression, [b'-' | b'_' | b'.', rest @ ..])
+            if is_nothing_sent(place.last, rest) => Some("; write 0 where nothing is sent"),
+        (_, [b'.', rest @ ..]) if place.wanted != Expected::Expression && ends_line(rest) => Some(
+            NO_MARK,
+        ),
+        (_, [b'.', b'A'..=b'Z' | b'_' | b'a'..=b'z', ..]) if matches!(place.last, b"L" | b"R") =>
+            Some(NO_PARTS),
         (Expected::This(Token::Left) | Expected::This(Token::Right), [b'_', ..]) => Some(
             "; write a blank, as in `send left 0`",
         ),
         (Expected::End, [b';', b' ', ..]) => Some(
             "; lines end without a mark, and a comment begins with `#`",
         ),
-        (_, [b'\'', b'b' | b'd' | b'h' | b'o', ..]) if is_number(place.last) => Some(
-            "; numbers are decimal",
-        ),
-        _ => doubled_advice(place).or(prompt_advice(place)),
+        _ => behind_operand(place)
+            .or(backslash_advice(place))
+            .or(doubled_advice(place))
+            .or(prompt_advice(place)),
     }
 }
 
-// Returns whether a token is a number.
-fn is_number(token: &[u8]) -> bool {
-    matches!(token, [b'0'..=b'9', ..])
+// Returns whether a place begins the second operand of a shift.
+fn is_distance(place: Place) -> bool {
+    place.last == b",".as_slice() && matches!(open_operation(place.before), b"shl" | b"shr")
+}
+
+// Returns whether only blanks and a comment stand before the end of the line.
+fn ends_line(rest: &[u8]) -> bool {
+    matches!(after_blanks(rest), [] | [b'\n' | b'\r' | b'#', ..])
+}
+
+// Returns whether a mark stands in the place of a message, and nothing follows it on its line.
+fn is_nothing_sent(last: &[u8], rest: &[u8]) -> bool {
+    ends_line(rest) && matches!(last, b"left" | b"right")
 }
 
 // Returns advice on the mark of a place that is not of the language.
@@ -553,16 +605,37 @@ pub(crate) fn mark_advice(place: Place) -> &'static str {
     let placed = copied_advice(place).or(placed_advice(place.rest, place.wanted));
     match (place.rest, placed) {
         ([0..=31 | 127, ..], _) => "; this byte does not belong in a text",
-        ([b'.', b'0'..=b'9', ..], _) => WHOLE,
         (_, Some(advice)) => advice,
-        _ => by_beginning(&MARKS, place.rest).unwrap_or(""),
+        ([b'.', b'0'..=b'9', ..], _) => WHOLE,
+        _ => by_beginning(&MARKS, place.rest).unwrap_or(operation_advice(place)),
+    }
+}
+
+// Returns advice on a mark that is of an operation where an expression ends before it or can begin
+// there, and else on what can follow.
+fn operation_advice(place: Place) -> &'static str {
+    if is_end(place.last) {
+        let power = if is_number(place.last) {
+            by_beginning(&POWER, place.rest)
+        } else {
+            None
+        };
+        return power
+            .or(by_beginning(&INFIX, place.rest))
+            .unwrap_or(wanted_advice(place.wanted));
+    }
+    match place.wanted {
+        Expected::Expression => by_beginning(&PREFIX, place.rest).unwrap_or(""),
+        _ => wanted_advice(place.wanted),
     }
 }
 
 // Returns the advice on a mark that it has at this place alone.
 fn placed_advice(rest: &[u8], wanted: Expected) -> Option<&'static str> {
     match wanted {
-        Expected::This(Token::Rounds) => by_beginning(&FIRST, rest),
+        Expected::This(Token::Rounds) => by_beginning(&FIRST, rest).or(Some(wanted_advice(wanted))),
+        Expected::This(Token::Left) => Some("; write `send left` and an expression"),
+        Expected::This(Token::Right) => Some("; write `send right` and an expression"),
         Expected::Number => by_beginning(&BEFORE_NUMBERS, rest).or(Some(DIGITS)),
         Expected::Expression => by_beginning(&BEFORE_EXPRESSIONS, rest),
         Expected::This(Token::Comma) | Expected::This(Token::Close) => by_beginning(

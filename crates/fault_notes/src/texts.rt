@@ -9,7 +9,7 @@ ghost use Rattle.source_places.specs.Heads.{place_head};
 ghost use Rattle.source_places.specs.Shown.{marked_line};
 ghost use Rattle.fault_notes.specs.TextNotes.{quoted, cause_of, IsTextNote, too_long_note};
 
-use crate::advice::{end_advice, large_advice, word_advice};
+use crate::advice::{end_advice, large_advice, range_advice, word_advice};
 use crate::around::place_in;
 use crate::misplaced::place_advice;
 use crate::signs::byte_advice;
@@ -144,6 +144,7 @@ fn advice_on(text: &[u8], fault: TextFault, wanted: Option<Expected>) -> &'stati
         (FaultKind::BadWord, Some(wanted)) => word_advice(place_in(before, rest, wanted)),
         (FaultKind::Unexpected, Some(wanted)) => place_advice(place_in(before, rest, wanted)),
         (FaultKind::EndOfText, wanted) => end_advice(text, wanted),
+        (FaultKind::HeaderRange, _) => range_advice(place_in(before, rest, Expected::Number)),
         (FaultKind::NumberTooLarge, _) => large_advice(place_in(before, rest, Expected::Number)),
         _ => "",
     }

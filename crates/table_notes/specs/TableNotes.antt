@@ -20,7 +20,7 @@ pub record IsFormNote (text : List ℕ) (offset : ℕ) (note : List ℕ) : Type 
 -- a line that should have this window
 abbrev pub line_note : ℕ → List ℕ → List ℕ
 line_note line window = codes "nbhd: line "
-    ++ (decimal line ++ (codes " is not the line of window " ++ (joined (codes " ") window ++ codes "\n")))
+    ++ (decimal line ++ (codes " is not the line of window " ++ (joined (codes " ") window ++ codes ", which comes there by line 2; windows stand in lexicographic order\n")))
 
 -- a line with another window than it is to have; a line that is to have none has a note of its own
 pub data IsWindowNote (text : List ℕ) (line : ℕ) (note : List ℕ) : Type 0 where

@@ -47,7 +47,7 @@ fn form_advice(text: &[u8], offset: usize) -> &'static str
     requires { offset ≤ length text.now }
 {
     if text.is_empty() {
-        return "; the text is empty, so no file was given";
+        return "; the text is empty, so no file was given, or an empty one";
     }
     if text.contains(&b'\r') && is_table_of_lines(text) {
         return return_advice(text);
@@ -107,6 +107,9 @@ fn other_advice(text: &[u8]) -> &'static str {
     if text.starts_with(b" ") {
         return "; it begins with a blank";
     }
+    if text[..first_line_len(text)].contains(&b'\t') {
+        return "; words are parted by single blanks, and this line has a tab";
+    }
     if text[..first_line_len(text)].contains(&b'\\') {
         return "; `\\n` stands for a line feed only in other texts: begin a new line";
     }
@@ -163,10 +166,24 @@ fn line_advice(shape: Option<Shape>, rest: &[u8]) -> &'static str {
     if line.len() == rest.len() {
         return STOPPED;
     }
-    if shape.is_some_and(|shape| has_window(line, 2 * u64::from(shape.rounds()) + 1)) {
-        return "; after the line of the last window comes the line `end`";
+    match (shape, window_of(line)) {
+        (Some(shape), Some(window)) => window_advice(shape.rounds(), window),
+        _ => bytes_advice(line),
     }
-    bytes_advice(line)
+}
+
+// Returns advice on a line of a window and a channel in a table of this many rounds. If the window has
+// as many identifiers as it is to have, the line is one too many.
+fn window_advice(rounds: u32, window: &[u8]) -> &'static str {
+    match (rounds, words_in(window)) {
+        (0, 1) | (1, 3) | (2, 5) | (3, 7) | (4, 9) =>
+            "; after the line of the last window comes the line `end`",
+        (0, _) => "; with `rounds 0`, as line 2 has, a window has 1 identifier",
+        (1, _) => "; with `rounds 1`, as line 2 has, a window has 3 identifiers",
+        (2, _) => "; with `rounds 2`, as line 2 has, a window has 5 identifiers",
+        (3, _) => "; with `rounds 3`, as line 2 has, a window has 7 identifiers",
+        _ => "; with `rounds 4`, as line 2 has, a window has 9 identifiers",
+    }
 }
 
 // Returns the number of words of a text that are not empty.
@@ -198,13 +215,24 @@ fn has_long_number(line: &[u8]) -> bool {
     false
 }
 
-// Returns whether a line is that of a window of this number of identifiers.
-fn has_window(line: &[u8], count: u64) -> bool {
-    is_of_window(line)
-        && !has_long_number(line)
-        && blanks_advice(line).is_none()
-        && words_in(line) == count.saturating_add(2)
-        && matches!(line, [b'0'..=b'9', .., b'0'..=b'9'])
+// Returns the number of digits at the end.
+fn last_digits_len(line: &[u8]) -> usize
+    ensures { result ≤ length line.now }
+{
+    line.iter()
+        .rev()
+        .take_while(|byte| byte.is_ascii_digit())
+        .count()
+}
+
+// Returns the identifiers of a line, if it has the form of a window and a channel.
+fn window_of(line: &[u8]) -> Option<&[u8]> {
+    let window = line[..line.len() - last_digits_len(line)].strip_suffix(b" : ")?;
+    let has_numbers = is_of_window(line) && !has_long_number(line) && blanks_advice(line).is_none();
+    if has_numbers && !window.contains(&b':') && matches!(line, [b'0'..=b'9', .., b'0'..=b'9']) {
+        return Some(window);
+    }
+    None
 }
 
 // Returns advice on the bytes of a line that does not have its form.
@@ -222,6 +250,25 @@ fn bytes_advice(line: &[u8]) -> &'static str {
     }
 }
 
+// Returns the number of digits and blanks at the start.
+fn numbers_len(line: &[u8]) -> usize
+    ensures { result ≤ length line.now }
+{
+    line.iter()
+        .take_while(|byte| matches!(**byte, b'0'..=b'9' | b' '))
+        .count()
+}
+
+// Returns whether one word that is no number stands in the place of a channel.
+fn has_no_channel(line: &[u8]) -> bool {
+    match &line[numbers_len(line)..] {
+        [b':', b' ', rest @ ..] => !rest
+            .iter()
+            .any(|byte| matches!(*byte, b'0'..=b'9' | b' ' | b':')),
+        _ => false,
+    }
+}
+
 // Returns advice on the numbers of a line with a colon.
 fn numbers_advice(line: &[u8]) -> &'static str {
     if line.contains(&b',') {
@@ -232,6 +279,9 @@ fn numbers_advice(line: &[u8]) -> &'static str {
     }
     if let Some(advice) = blanks_advice(line) {
         return advice;
+    }
+    if has_no_channel(line) {
+        return "; a channel is a number in digits";
     }
     if has_long_number(line) {
         return "; numbers are at most 4294967295";
@@ -288,7 +338,7 @@ fn line_note(alloc: Global, line: u32, window: &[u32]) -> Result<String, OutOfMe
     let mut note = String::new(alloc);
     write!(note, "nbhd: line {line} is not the line of window ")?;
     write_joined(&mut note, window, " ")?;
-    note.push_str("\n")?;
+    note.push_str(", which comes there by line 2; windows stand in lexicographic order\n")?;
     Ok(note)
 }
 

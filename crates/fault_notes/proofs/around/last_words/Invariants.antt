@@ -1,5 +1,5 @@
 use Rattle.std.proofs.Common.{◌≤◌, ◌-◌, length}
-use Rattle.fault_notes.proofs.around.last_word.Given as goal
+use Rattle.fault_notes.proofs.around.last_words.Given as goal
 
 abbrev pub invariant-tokens : goal.invariant-tokens
 invariant-tokens l = l.at ≤ length l.text
