@@ -4,7 +4,7 @@ ghost use Rattle.std.specs.List.{list_all};
 ghost use Rattle.std.specs.Option.{SomeIff};
 ghost use Rattle.node_program.specs.Term.{term_of};
 ghost use Rattle.node_lang.specs.Printed.{operation_name as name_of};
-ghost use Rattle.node_lang.specs.Words.{is_blank as blank, is_digit as digit, is_word_byte as word_byte, mark_token as mark, register_named, named, unary_name, binary_name, word_of, read_on, word_token};
+ghost use Rattle.node_lang.specs.Words.{is_blank as blank, is_digit as digit, is_word_byte as word_byte, mark_token as mark, register_named, named, keywords, operations, read_on, word_token};
 
 use crate::token::Token;
 use node_program::{BinOp, Expr, UnOp};
@@ -33,117 +33,108 @@ fn is_number(word: &[u8]) -> bool
     word.iter().all(|byte| is_digit(*byte))
 }
 
-// The words that are not names of operations.
-const KEYWORDS: [Token; 12] = [
-    Token::Rounds,
-    Token::Channels,
-    Token::Registers,
-    Token::Start,
-    Token::Round,
-    Token::Send,
-    Token::Left,
-    Token::Right,
-    Token::Finish,
-    Token::Id,
-    Token::FromLeft,
-    Token::FromRight,
-];
+// The token of a word, one line per word.
+macro_rules! words {
+    ($word:expr; $($name:literal => $token:expr,)*) => {
+        match $word {
+            $(word if word == $name.as_slice() => Some($token),)*
+            _ => None,
+        }
+    };
+}
 
-// The operations of the language.
-const OPERATIONS: [Token; 17] = [
-    Token::One(UnOp::Not),
-    Token::Two(BinOp::And),
-    Token::Two(BinOp::Or),
-    Token::Two(BinOp::Xor),
-    Token::Two(BinOp::Shl),
-    Token::Two(BinOp::Shr),
-    Token::Two(BinOp::Add),
-    Token::Two(BinOp::Sub),
-    Token::Two(BinOp::Min),
-    Token::Two(BinOp::Max),
-    Token::Two(BinOp::Ldb),
-    Token::Two(BinOp::Bit),
-    Token::Two(BinOp::Eq),
-    Token::Two(BinOp::Ne),
-    Token::Two(BinOp::Lt),
-    Token::Two(BinOp::Le),
-    Token::If,
-];
-
-fn unary_name(op: UnOp) -> &'static str
-    ensures { result.now ≡ unary_name op }
+// Returns the operation with this name, one line per operation of the language.
+fn operation(word: &[u8]) -> Option<Token>
+    ensures { result ≡ named operations word.now }
 {
-    match op {
-        UnOp::Not => "not",
+    words! { word;
+        b"not" => Token::One(UnOp::Not),
+        b"and" => Token::Two(BinOp::And),
+        b"or" => Token::Two(BinOp::Or),
+        b"xor" => Token::Two(BinOp::Xor),
+        b"shl" => Token::Two(BinOp::Shl),
+        b"shr" => Token::Two(BinOp::Shr),
+        b"add" => Token::Two(BinOp::Add),
+        b"sub" => Token::Two(BinOp::Sub),
+        b"min" => Token::Two(BinOp::Min),
+        b"max" => Token::Two(BinOp::Max),
+        b"ldb" => Token::Two(BinOp::Ldb),
+        b"bit" => Token::Two(BinOp::Bit),
+        b"eq" => Token::Two(BinOp::Eq),
+        b"ne" => Token::Two(BinOp::Ne),
+        b"lt" => Token::Two(BinOp::Lt),
+        b"le" => Token::Two(BinOp::Le),
+        b"if" => Token::If,
     }
 }
 
-fn binary_name(op: BinOp) -> &'static str
-    ensures { result.now ≡ binary_name op }
-{
-    match op {
-        BinOp::And => "and",
-        BinOp::Or => "or",
-        BinOp::Xor => "xor",
-        BinOp::Shl => "shl",
-        BinOp::Shr => "shr",
-        BinOp::Add => "add",
-        BinOp::Sub => "sub",
-        BinOp::Min => "min",
-        BinOp::Max => "max",
-        BinOp::Ldb => "ldb",
-        BinOp::Bit => "bit",
-        BinOp::Eq => "eq",
-        BinOp::Ne => "ne",
-        BinOp::Lt => "lt",
-        BinOp::Le => "le",
-    }
+// The name of each operation, one line each.
+macro_rules! names {
+    (
+        $expression:expr;
+        one { $($one:ident => $one_name:literal,)* }
+        two { $($two:ident => $two_name:literal,)* }
+        choose => $choose_name:literal
+    ) => {
+        match $expression {
+            Expr::One(op, _) => match op {
+                $(UnOp::$one => $one_name,)*
+            },
+            Expr::Two(op, _, _) => match op {
+                $(BinOp::$two => $two_name,)*
+            },
+            Expr::Choose(_, _, _) => $choose_name,
+            _ => "",
+        }
+    };
 }
 
 // Returns the name of the expression's operation, or an empty string if it has none.
 pub(crate) fn operation_name(expression: &Expr) -> &'static str
     ensures { result.now ≡ name_of (term_of expression.now) }
 {
-    match expression {
-        Expr::One(op, _) => unary_name(*op),
-        Expr::Two(op, _, _) => binary_name(*op),
-        Expr::Choose(_, _, _) => "if",
-        _ => "",
+    names! { expression;
+        one {
+            Not => "not",
+        }
+        two {
+            And => "and",
+            Or => "or",
+            Xor => "xor",
+            Shl => "shl",
+            Shr => "shr",
+            Add => "add",
+            Sub => "sub",
+            Min => "min",
+            Max => "max",
+            Ldb => "ldb",
+            Bit => "bit",
+            Eq => "eq",
+            Ne => "ne",
+            Lt => "lt",
+            Le => "le",
+        }
+        choose => "if"
     }
 }
 
-// Returns the spelling of a keyword or an operation, or an empty string for any other token.
-fn word_of(token: Token) -> &'static str
-    ensures { result.now ≡ word_of token }
+fn keyword(word: &[u8]) -> Option<Token>
+    ensures { result ≡ named keywords word.now }
 {
-    match token {
-        Token::Rounds => "rounds",
-        Token::Channels => "channels",
-        Token::Registers => "registers",
-        Token::Start => "start",
-        Token::Round => "round",
-        Token::Send => "send",
-        Token::Left => "left",
-        Token::Right => "right",
-        Token::Finish => "finish",
-        Token::Id => "id",
-        Token::FromLeft => "L",
-        Token::FromRight => "R",
-        Token::If => "if",
-        Token::One(op) => unary_name(op),
-        Token::Two(op) => binary_name(op),
-        _ => "",
+    words! { word;
+        b"rounds" => Token::Rounds,
+        b"channels" => Token::Channels,
+        b"registers" => Token::Registers,
+        b"start" => Token::Start,
+        b"round" => Token::Round,
+        b"send" => Token::Send,
+        b"left" => Token::Left,
+        b"right" => Token::Right,
+        b"finish" => Token::Finish,
+        b"id" => Token::Id,
+        b"L" => Token::FromLeft,
+        b"R" => Token::FromRight,
     }
-}
-
-// Returns the token among these that has this spelling.
-fn named(tokens: &[Token], word: &[u8]) -> Option<Token>
-    ensures { result ≡ named tokens.now word.now }
-{
-    tokens
-        .iter()
-        .copied()
-        .find(|token| word == word_of(*token).as_bytes())
 }
 
 // Returns a register: `r` and one digit.
@@ -181,8 +172,8 @@ pub(crate) fn token_of(word: &[u8]) -> Token
         return number(word).map_or(Token::LargeNumber, Token::Number);
     }
     register(word)
-        .or_else(|| named(&KEYWORDS, word))
-        .or_else(|| named(&OPERATIONS, word))
+        .or_else(|| keyword(word))
+        .or_else(|| operation(word))
         .unwrap_or(Token::Unknown)
 }
 
