@@ -648,6 +648,11 @@ LINES = [
     ("explain C4", "docs/FAULTS.md"),
     ("check --ids 8 '<' cv1.txt", "shell"),
     ("./nbhd judge --ids 8", "twice"),
+    ("explain --ids 8 --ring 5,1,3,7 --id 1", "--place"),
+    ("apply --ring 5,1,3,7 --place 1", "an option of `explain`"),
+    ("audit --workers 4", "an option of `table`, `judge` and `plan`"),
+    ("check -i 8", "--ids", "no short names", "standard input"),
+    ("refute --ids 7 --rounds 1 --channels 3 --proof no.lrat", "a refutation is read from standard input", "< FILE"),
 ]
 
 # A refutation of a table with three identifiers and two channels.

@@ -23,6 +23,7 @@ pub(crate) enum Foreign {
     Quiet,
     Output,
     Text,
+    Short,
     Identifiers,
     Ring,
     Rounds,
@@ -56,7 +57,7 @@ pub(crate) const COMMANDS: [(&str, Foreign); 13] = [
 ];
 
 // Names of options of other programs, with single spaces between them.
-pub(crate) const OPTIONS: [(&str, Foreign); 14] = [
+pub(crate) const OPTIONS: [(&str, Foreign); 15] = [
     (
         "-w -j --threads --jobs --parallel --cores --cpus --processes --nthreads",
         Foreign::Threads,
@@ -72,7 +73,8 @@ pub(crate) const OPTIONS: [(&str, Foreign); 14] = [
     ("--node --pos --position --index --at -p", Foreign::Node),
     ("-v -q --quiet --verbose --silent --debug", Foreign::Quiet),
     ("-o --output --out", Foreign::Output),
-    ("-f -i --table --text --stdin", Foreign::Text),
+    ("-f --table --text --stdin --proof", Foreign::Text),
+    ("-i", Foreign::Short),
     (
         "-n -m -M -N --N --M --size --max --num --count --id --number",
         Foreign::Identifiers,
@@ -122,8 +124,9 @@ impl Foreign {
             Foreign::Output =>
                 "nbhd: the answer is on the standard output, as in `nbhd table --ids 8 < FILE > OUTPUT`",
             Foreign::Text => file_line(command),
-            Foreign::Identifiers =>
-                "nbhd: the number of identifiers is given by `--ids`, as in `--ids 8`",
+            Foreign::Short =>
+                "nbhd: options have no short names, as in `--ids 8`, and a text is read from standard input",
+            Foreign::Identifiers => identifiers_line(command),
             Foreign::Ring =>
                 "nbhd: a ring is given by `--ring`, of `run`, `trace`, `explain`, `plan` and `apply`",
             Foreign::Rounds =>
@@ -140,6 +143,14 @@ impl Foreign {
 // Returns whether a word is one of some words with single spaces between them.
 pub(crate) fn is_one_of(words: &str, word: &[u8]) -> bool {
     words.split(' ').any(|it| it.as_bytes() == word)
+}
+
+// Returns the line on a number of identifiers, or on one of them, at the command with this name.
+fn identifiers_line(command: &[u8]) -> &'static str {
+    if is_one_of("explain", command) {
+        return "nbhd: the number of identifiers is given by `--ids`, and the node that is explained by its place in the ring, as in `--ids 8 --place 0`";
+    }
+    "nbhd: the number of identifiers is given by `--ids`, as in `--ids 8`"
 }
 
 // Returns the line on the number of threads of a command.

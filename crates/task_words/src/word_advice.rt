@@ -128,7 +128,7 @@ fn argument_advice(command: &[u8], word: &str) -> Option<&'static str> {
     if matches!(command, [b'-', ..] | []) {
         return Some(NO_COMMAND);
     }
-    if is_one_of("audit apply migrate", command) && is_option_of_numbers(name) {
+    if is_one_of("audit apply migrate", command) && is_in_table(name) {
         return Some(NO_OPTION);
     }
     if is_one_of("print", command) && is_option(name) {
@@ -153,9 +153,9 @@ fn is_option(name: &[u8]) -> bool {
     is_one_of("--ids", name) || advice_in(&OF_COMMANDS, name).is_some()
 }
 
-// Returns whether this is the name of an option of some command, which takes numbers.
-fn is_option_of_numbers(name: &[u8]) -> bool {
-    is_option(name) && !is_one_of("--ring", name)
+// Returns whether this is the name of an option for a number that the text of a table has.
+fn is_in_table(name: &[u8]) -> bool {
+    is_one_of("--ids --rounds --channels --near --far", name)
 }
 
 // Returns whether this is the name of an option without its minus signs.
