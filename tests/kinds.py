@@ -102,7 +102,7 @@ LINES = [
     (b"16 -1 0 4 6 2 3 11 0\n-1 2 0\n", "`tools/lrat` adds the hints that a proof in DRAT lacks"),
     (b"16 -1 0 4 6 2 3 11 0\n0\n", "`tools/lrat` adds the hints that a proof in DRAT lacks"),
     (b"# a comment\n16 -1 0 4 6 2 3 11 0\n", "a comment begins with `c`"),
-    (b"", "the text is empty, so no file was given"),
+    (b"", "the text is empty, so no file was given, or an empty one"),
     (b"5 -1 0 4 0\n", "the options may be those of another formula\n  5 -1 0 4 0\n  ^\n"),
     (b"16 -1 0 2 4 6 3 11 0\n", "the options may be those of another formula\n  16 -1 0 2 4 6 3 11 0\n  ^\n"),
 ]

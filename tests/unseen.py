@@ -554,6 +554,15 @@ REFUTATIONS = [
     ("5 0 1 2 3 0 done\n", "follows"),
     ("5 0 1 2 3 0 c done\n", "line of its own"),
     ("5 0 1 2 3 0\\n", "new line"),
+    ("5 0 1 2 3 0 7\n", "nothing follows the second list"),
+    ("", "an empty one"),
+    ("5 i 0 0 1 2 3 0\n", "two identifiers"),
+    ("5 2147483649 0 1 2 3 0\n", "2147483648"),
+    ("5 0 1 2 3 18446744073709551616 0\n", "18446744073709551615"),
+    ("step 5 0 1 2 3 0\n", "begins with the number"),
+    ("a \x03\x00\x08\x0c\x04\x00", "binary", "`cadical --no-binary`"),
+    ("pseudo-Boolean proof version 2.0\nf 15\nrup >= 1;\n", "LRAT"),
+    ("o 1 1 2 0\na 16 -1 0 l 4 6 2 3 11 0\nf 16 0\n", "LRAT"),
 ]
 
 # Words of the command line, and the words of the note.
@@ -696,6 +705,9 @@ TEXTS = [
     ("refute --ids 3 --rounds 0 --channels 2", PROOF.replace("\n", "\r\n").encode(), "carriage"),
     ("refute --ids 3 --rounds 0 --channels 2", b"-1 0\n2 0\n0\n", "hint"),
     ("refute --ids 3 --rounds 0 --channels 2", PROOF.replace("16 -1", "16 1", 1).encode(), "hint"),
+    ("refute --ids 3 --rounds 0 --channels 2", PROOF.replace("-1 0 4", "-1 4", 1).encode(), "two lists", "0"),
+    ("refute --ids 3 --rounds 0 --channels 2", PROOF.replace("17 d 16 0", "d 16 0", 1).encode(), "a deletion begins with a number"),
+    ("refute --ids 3 --rounds 0 --channels 2", PROOF.replace("11 0", "0", 1).encode(), "the options may be those of another formula"),
     ("check --ids 8", b"# one round " + CV1.replace(b"\n", b" "), "a comment goes up to"),
     ("apply --ring 5,1,3,7", CV1, "run"),
     ("migrate", CV1, "`nbhd table`"),

@@ -27,14 +27,14 @@ IsFormulaNote m t problem.TooManyClauses note = note ≡ clauses_note
 -- what is wrong with a line of a refutation
 abbrev pub line_cause : LineFault → List ℕ
 line_cause line_fault.Form =
-    codes "this line is not a step, as `5 -1 2 0 3 4 0`, a deletion, as `5 d 3 4 0`, or a comment"
+    codes "this line is not a step of LRAT, as `5 -1 2 0 3 4 0`, a deletion, as `5 d 3 4 0`, or a comment"
 line_cause line_fault.NumberNotAscending = codes "the number of this step is not above those of the formula's clauses and of the steps before it; the options may be those of another formula"
 line_cause line_fault.UnknownVariable = codes "this clause has a variable that the formula lacks; the numbers may be those of another formula"
 line_cause line_fault.Exchange =
     codes "tables need not stay right by this exchange: identifiers are below `--ids` and channels below `--channels`, and two channels are exchanged only if near and far are at most 1"
 line_cause line_fault.UnknownHint = codes "a hint names no clause: there is none of its number yet, or it was deleted"
 line_cause line_fault.HintNotUnit = codes "the clause of a hint has several literals left, or none before the last hint; the options may be those of another formula"
-line_cause line_fault.NoConflict = codes "after the last hint no clause has all its literals false"
+line_cause line_fault.NoConflict = codes "after the last hint no clause has all its literals false; the options may be those of another formula"
 line_cause line_fault.NoEmptyClause = codes "the text ends here, before the empty clause"
 
 -- the start of the note on a line: its number, counted from 1, and what is wrong with it

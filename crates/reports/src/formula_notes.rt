@@ -80,7 +80,7 @@ fn line_cause(fault: LineFault) -> &'static str
 {
     match fault {
         LineFault::Form => {
-            "this line is not a step, as `5 -1 2 0 3 4 0`, a deletion, as `5 d 3 4 0`, or a comment"
+            "this line is not a step of LRAT, as `5 -1 2 0 3 4 0`, a deletion, as `5 d 3 4 0`, or a comment"
         }
         LineFault::NumberNotAscending => {
             "the number of this step is not above those of the formula's clauses and of the steps before it; the options may be those of another formula"
@@ -97,7 +97,8 @@ fn line_cause(fault: LineFault) -> &'static str
         LineFault::HintNotUnit => {
             "the clause of a hint has several literals left, or none before the last hint; the options may be those of another formula"
         }
-        LineFault::NoConflict => "after the last hint no clause has all its literals false",
+        LineFault::NoConflict =>
+            "after the last hint no clause has all its literals false; the options may be those of another formula",
         LineFault::NoEmptyClause => "the text ends here, before the empty clause",
     }
 }

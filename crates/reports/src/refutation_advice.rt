@@ -1,10 +1,12 @@
 //! Advice on a line of a text that is no refutation. It promises nothing.
 
-ghost use Rattle.std.specs.Prelude.{◌≡◌, []};
+ghost use Rattle.std.specs.Prelude.{◌≡◌, ◌≤◌, [], length};
 ghost use Rattle.reports.specs.FormulaNotes.{MayHaveAdvice};
 
 use refutation::LineFault;
-use source_places::{TextKind, first_line_len, kind_advice, line_kind};
+use source_places::{TextKind, after_line, first_line_len, kind_advice, line_kind};
+
+const BINARY: &str = "; this may be a proof in binary: `cadical --no-binary` writes text";
 
 // Returns whether a line has a blank too many.
 fn has_wrong_blanks(line: &[u8]) -> bool {
@@ -12,31 +14,91 @@ fn has_wrong_blanks(line: &[u8]) -> bool {
     is_doubled || line.contains(&b'\t') || matches!(line, [b' ', ..] | [.., b' '])
 }
 
-// Returns whether a line has only numbers and minus signs.
-fn is_of_literals(line: &[u8]) -> bool {
-    line.iter()
+// Returns whether a text has only numbers and minus signs.
+fn is_of_literals(text: &[u8]) -> bool {
+    text.iter()
         .all(|byte| matches!(*byte, b'0'..=b'9' | b' ' | b'-'))
 }
 
-// Returns whether a line has only what steps and deletions are made of.
-fn is_of_steps(line: &[u8]) -> bool {
-    line.iter().all(|byte| matches!(*byte, b'0'..=b'9' | b' ' | b'-' | b'd' | b'i' | b'c' | b'm'))
+// Returns the number of bytes before the first blank.
+fn word_len(text: &[u8]) -> usize
+    ensures { result ≤ length text.now }
+{
+    text.iter().take_while(|byte| **byte != b' ').count()
 }
 
-// Returns the number of lists that end with 0 in a line.
-fn lists_in(line: &[u8]) -> usize {
-    let inner = (0..line.len())
-        .filter(|start| line[*start..].starts_with(b" 0 "))
+// Returns the text behind its first word, from the blank there on.
+fn after_word(text: &[u8]) -> &[u8] {
+    match text {
+        [_, rest @ ..] => &rest[word_len(rest)..],
+        [] => text,
+    }
+}
+
+// Returns the lists of a line from the blank before them on: what stands behind its number and a
+// deletion's `d` or an exchange.
+fn lists_of(line: &[u8]) -> &[u8] {
+    let rest = after_word(line);
+    match rest {
+        [b' ', b'i' | b'c', b' ', ..] => after_word(after_word(after_word(rest))),
+        [b' ', b'm' | b'd', b' ', ..] => after_word(rest),
+        _ => rest,
+    }
+}
+
+// Returns the number with one more digit, or `None` if it is not below 2^64.
+fn push_digit(value: u64, byte: u8) -> Option<u64> {
+    value
+        .checked_mul(10)?
+        .checked_add(u64::from(byte.saturating_sub(b'0')))
+}
+
+// Returns whether a number above a limit stands in a text.
+fn has_number_above(text: &[u8], limit: u64) -> bool {
+    let mut value = 0u64;
+    for byte in text {
+        value = if byte.is_ascii_digit() {
+            match push_digit(value, *byte) {
+                Some(more) => more,
+                None => return true,
+            }
+        } else {
+            0
+        };
+        if value > limit {
+            return true;
+        }
+    }
+    false
+}
+
+// Returns the number of bytes before the first 0 of lists.
+fn first_list_len(lists: &[u8]) -> usize {
+    (0..lists.len())
+        .take_while(|start| !lists[*start..].starts_with(b" 0 "))
+        .count()
+}
+
+// Returns the first list of a step.
+fn first_list(lists: &[u8]) -> &[u8] {
+    &lists[..first_list_len(lists).min(lists.len())]
+}
+
+// Returns the number of lists that end with 0.
+fn count_of_lists(lists: &[u8]) -> usize {
+    let inner = (0..lists.len())
+        .filter(|start| lists[*start..].starts_with(b" 0 "))
         .count();
-    if line.ends_with(b" 0") {
+    if lists.ends_with(b" 0") {
         return inner.saturating_add(1);
     }
     inner
 }
 
 // Returns whether a list behind the first one has a negative number.
-fn has_negative_hint(line: &[u8]) -> bool {
-    (0..line.len()).any(|start| line[start..].starts_with(b" 0 ") && line[start..].contains(&b'-'))
+fn has_negative_hint(lists: &[u8]) -> bool {
+    (0..lists.len()).any(|start| lists[start..].starts_with(b" 0 ")
+        && lists[start..].contains(&b'-'))
 }
 
 // Returns whether a part stands somewhere in a line.
@@ -44,12 +106,23 @@ fn has_part(line: &[u8], part: &[u8]) -> bool {
     (0..line.len()).any(|start| line[start..].starts_with(part))
 }
 
-// Returns advice on a line that is no step, no deletion and no comment.
-fn form_advice(line: &[u8]) -> &'static str {
+// Returns whether the first line of a text looks like one of a proof in DRAT, and the next one is a
+// step or a deletion, which no such proof has.
+fn is_step_like_proof(rest: &[u8]) -> bool {
+    let line = &rest[..first_line_len(rest)];
+    let next = after_line(rest);
+    let next_line = &next[..first_line_len(next)];
+    line_kind(line) == Some(TextKind::Proof) && line_kind(next_line) == Some(TextKind::Refutation)
+}
+
+// Returns advice on the first line of a text, which is no step, no deletion and no comment.
+fn form_advice(rest: &[u8]) -> &'static str {
+    let line = &rest[..first_line_len(rest)];
     if line.contains(&b'\r') {
         return "; lines end with a carriage return, which `tr -d '\\r'` takes out";
     }
-    if line == b"0".as_slice() || line_kind(line) == Some(TextKind::Proof) {
+    let is_of_proof = line == b"0".as_slice() || line_kind(line) == Some(TextKind::Proof);
+    if is_of_proof && !is_step_like_proof(rest) {
         return "; `tools/lrat` adds the hints that a proof in DRAT lacks";
     }
     if has_wrong_blanks(line) {
@@ -57,10 +130,12 @@ fn form_advice(line: &[u8]) -> &'static str {
     }
     match line {
         [b'#' | b'%' | b'/' | b';', ..] => "; a comment begins with `c`",
-        [b'a'] | [b'a' | b'd', 0..=31 | 127.., ..] => {
-            "; this may be a proof in binary: `cadical --no-binary` writes text"
-        }
-        [b'-', b'0'..=b'9', ..] => "; a line begins with the number of its clause",
+        [b'd', b' ', b'1'..=b'9', ..] =>
+            "; a deletion begins with a number, as in `5 d 3 4 0`, which one of DRAT lacks",
+        [b'a'] => BINARY,
+        [b'a' | b'd', bytes @ ..] if bytes.iter().any(|byte| *byte < b' ' || *byte > 126) => BINARY,
+        [b'-', b'0'..=b'9', ..] | [b'A'..=b'Z' | b'a'..=b'z', ..] =>
+            "; a line begins with the number of its clause",
         [b'+', ..] => "; numbers have no `+`",
         [b'0'..=b'9', ..] => step_advice(line),
         _ => "",
@@ -81,23 +156,42 @@ fn step_advice(line: &[u8]) -> &'static str {
     if has_part(line, b" 0 c") {
         return "; a comment is a line of its own, which begins with `c`";
     }
-    if !is_of_steps(line) {
+    let lists = lists_of(line);
+    if !is_of_literals(lists) {
         return "; nothing but numbers follows there, and behind the first one `d`, `i`, `c` or `m`";
     }
-    if !line.ends_with(b" 0") {
-        return "; each list ends with 0";
+    if has_number_above(line, u64::MAX) {
+        return "; numbers are at most 18446744073709551615";
     }
-    if !is_of_literals(line) {
-        return "";
-    }
-    lists_advice(line)
+    lists_advice(after_word(line), lists)
 }
 
-// Returns advice on a line of numbers of which the last one is 0.
-fn lists_advice(line: &[u8]) -> &'static str {
-    match lists_in(line) {
+// Returns advice on the lists of a line, which has `step` behind its number.
+fn lists_advice(step: &[u8], lists: &[u8]) -> &'static str {
+    let count = count_of_lists(lists);
+    let is_ended = lists.ends_with(b" 0");
+    match step {
+        [b' ', b'd', b' ', ..] => match count {
+            0 => "; each list ends with 0",
+            _ if is_ended => "; the numbers of a deletion end with one 0",
+            _ => "; nothing follows the 0 of a deletion",
+        },
+        _ if has_number_above(first_list(lists), 1 << 31) => "; literals are at most 2147483648",
+        _ if count > 1 && !is_ended => "; nothing follows the second list",
+        [b' ', b'i', b' ', ..] if count < 2 =>
+            "; behind `i` stand two identifiers, then two lists, and each ends with 0",
+        [b' ', b'c', b' ', ..] if count < 2 =>
+            "; behind `c` stand two channels, then two lists, and each ends with 0",
+        _ if !is_ended => "; each list ends with 0",
+        _ => ended_advice(count, lists),
+    }
+}
+
+// Returns advice on lists of numbers of which the last one is 0.
+fn ended_advice(count: usize, lists: &[u8]) -> &'static str {
+    match count {
         0 | 1 => "; a step has two lists, and each ends with 0",
-        2 if has_negative_hint(line) => "; hints have no minus sign: steps by RAT are not taken",
+        2 if has_negative_hint(lists) => "; hints have no minus sign: steps by RAT are not taken",
         2 => "",
         _ => "; a step has two lists, and each ends with one 0",
     }
@@ -109,10 +203,11 @@ pub(crate) fn line_advice(text: &[u8], rest: &[u8], fault: LineFault) -> &'stati
 {
     match fault {
         LineFault::Form => match kind_advice(text, TextKind::Refutation) {
-            Some(advice) => advice,
-            None => form_advice(&rest[..first_line_len(rest)]),
+            Some(advice) if !is_step_like_proof(rest) => advice,
+            _ => form_advice(rest),
         },
-        LineFault::NoEmptyClause if text.is_empty() => "; the text is empty, so no file was given",
+        LineFault::NoEmptyClause if text.is_empty() =>
+            "; the text is empty, so no file was given, or an empty one",
         LineFault::NoEmptyClause => kind_advice(text, TextKind::Refutation).unwrap_or(""),
         _ => "",
     }
