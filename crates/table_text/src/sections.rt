@@ -5,7 +5,7 @@ ghost use Rattle.devices.specs.declared.chunk.TheConstants.{CHUNK_LEN};
 ghost use Rattle.win_index.specs.declared.limits.TheConstants.{MAX_ROUNDS, MAX_WINDOWS};
 ghost use Rattle.channel_tables.specs.Tables.{windows_of};
 ghost use Rattle.table_text.specs.declared.sections.TheConstants.{LINES_LEN};
-ghost use Rattle.table_text.specs.Sections.{lines_from};
+ghost use Rattle.table_text.specs.Sections.{lines_from, Shows};
 ghost use Rattle.table_text.specs.Pieces.{prefix_text, piece_text, id_text, channel_text, AreTexts, ArePieces};
 
 use crate::line_prefix::{LinePrefix, PREFIX_LEN};
@@ -66,10 +66,19 @@ impl Lines<'_> {
     /// Returns the number of lines.
     pub(crate) fn count(self) -> u32
         ensures value { result ≡ length (windows_of self.entry.table.now) }
+        ensures some { 0 < result }
         ensures few { result ≤ MAX_WINDOWS }
     {
         let shape = self.table.shape();
         shape.count(shape.rounds())
+    }
+
+    /// Returns an odometer that shows the window with this number.
+    pub(crate) fn odometer_at(self, number: u32) -> Odometer
+        requires { number < length (windows_of self.table.now) }
+        ensures { Shows self.entry.table.now number result }
+    {
+        Odometer::at(self.table.shape(), number, &self.pieces.ids)
     }
 
     /// Appends to a chunk the lines of the section that begins with this window, as far as there are
@@ -78,13 +87,23 @@ impl Lines<'_> {
         requires { length chunk.old + SECTION_LEN ≤ CHUNK_LEN }
         ensures { chunk.new ≡ chunk.old ++ lines_from self.entry.table.now first self.entry.size }
     {
-        let count = self.count();
-        if first >= count {
-            return;
+        if first < self.count() {
+            let mut odometer = self.odometer_at(first);
+            self.store_next(&mut odometer, chunk, first);
         }
-        let end = first + self.size.min(count - first);
+    }
+
+    /// Appends to a chunk the lines of the section that begins with this window, which the odometer
+    /// shows. It then shows the first window behind the section, if there is one.
+    pub(crate) fn store_next(self, odometer: &mut Odometer, chunk: &mut Chunk, first: u32)
+        requires room { length chunk.old + SECTION_LEN ≤ CHUNK_LEN }
+        requires first { first < length (windows_of self.table.now) }
+        requires shows { Shows self.table.now first odometer.old }
+        ensures lines { chunk.new ≡ chunk.old ++ lines_from self.entry.table.now first self.entry.size }
+        ensures shows { Shows self.entry.table.now (first + self.entry.size) odometer.new }
+    {
+        let end = first + self.size.min(self.count() - first);
         let ids: &[Piece] = &self.pieces.ids;
-        let mut odometer = Odometer::at(self.table.shape(), first, ids);
         for number in first..end {
             let last = odometer.last_id();
             let channel = self.table.entry(number);

@@ -87,9 +87,11 @@ fn write_lines<W: Write>(
     ensures fault { FailsByWrites result (has_failed writer.new) }
 {
     let lines = Lines::new(table, pieces);
-    for section in 0..lines.count().div_ceil(lines.size) {
+    let count = lines.count();
+    let mut odometer = lines.odometer_at(0);
+    for section in 0..count.div_ceil(lines.size) {
         chunk.make_room(SECTION_LEN, writer)?;
-        lines.store(chunk, section * lines.size);
+        lines.store_next(&mut odometer, chunk, section * lines.size);
     }
     chunk.make_room(LINE_LEN, writer)?;
     store(chunk, piece_of(b"end\n"));

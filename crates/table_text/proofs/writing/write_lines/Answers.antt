@@ -10,7 +10,7 @@ use Rattle.table_text.specs.declared.version.Version.TheVariants.{Two}
 use Rattle.table_text.specs.declared.sections.TheConstants.{LINE_LEN}
 use Rattle.table_text.specs.declared.sections.Lines.{Lines}
 use Rattle.table_text.specs.TableText.{Written, written, head_then, lines_then, end_then, text_of}
-use Rattle.table_text.specs.Sections.{lines_from}
+use Rattle.table_text.specs.Sections.{lines_from, Shows}
 use Rattle.table_text.proofs.TextsApart.{lines_append}
 use Rattle.table_text.proofs.WrittenLines.{front_of, section_more, sections_all, lines_front}
 use Rattle.devices.specs.Output.{IsWrittenSoFar}
@@ -40,8 +40,11 @@ none_told t s size =
 
 pub loop-section-init : goal.loop-section-init
 loop-section-init g c =
+    let start : 0 ≡ 0 * c.new-lines.result.size = omega arith in
     record {
       working = c.requires.working;
+      shows = (λ (t : ChannelTable) (n : ℕ) (is : c.new-lines.result.table.now ≡ t) (at' : 0 ≡ n).
+          rw (is, at') at c.odometer_at-odometer.ensures) c.args.table.now _ c.new-lines.ensures.table start;
       told = (
         [],
         Appends-nil _,
@@ -63,15 +66,17 @@ loop-section-preserved g c =
     let lines = c.new-lines.result in
     let first : ℕ = c.loop-section.section * lines.size in
     let moved = tells_moved _ _ _ c.loop-section.chunk _ _ c.loop-section.invariant.told c.in_ok-make_room.ensures.ok in
-    let stored : c.store.new.chunk ≡ c.make_room.new.self ++ lines_from t first lines.size =
-    c.store.ensures ∙ ap (λ u. c.make_room.new.self ++ lines_from u first lines.size) c.new-lines.ensures.table in
-    let more = tells_more _ _ _ c.store.new.chunk (lines_from t first lines.size) _ moved stored in
+    let stored : c.store_next.new.chunk ≡ c.make_room.new.self ++ lines_from t first lines.size =
+    c.store_next.ensures.lines ∙ ap (λ u. c.make_room.new.self ++ lines_from u first lines.size) c.new-lines.ensures.table in
+    let more = tells_more _ _ _ c.store_next.new.chunk (lines_from t first lines.size) _ moved stored in
     let enough = le_same (full c.args.table.now c.new-lines.result c.new-lines.ensures.table) in
     let next : first + lines.size ≡ (c.loop-section.section + 1) * lines.size =
     sym (rw add-one (suc-mul c.loop-section.section lines.size)) in
     record {
       working = search rules;
-      told = subst (IsWrittenSoFar _ _ c.store.new.chunk)
+      shows = subst (λ u. Shows u ((c.loop-section.section + 1) * lines.size) c.store_next.new.odometer) c.new-lines.ensures.table
+          (subst (λ n. Shows lines.table.now n c.store_next.new.odometer) next c.store_next.ensures.shows);
+      told = subst (IsWrittenSoFar _ _ c.store_next.new.chunk)
           (section_more t s first lines.size enough ∙ ap (λ n. lines_then (written Two (front_of t n) s) []) next) more;
     }
 
@@ -93,22 +98,22 @@ with_end w a b chunk more end told held is =
 
 module _ (g : Over) (c : After-send g) where
   told : IsWrittenSoFar (g.W.Write.contents (device_of c.args.writer.now))
-      (g.W.Write.contents (device_of c.make_room-2.new.writer)) c.store-2.new.chunk
+      (g.W.Write.contents (device_of c.make_room-2.new.writer)) c.store.new.chunk
       (lines_then (written Two c.args.table.now c.args.separation) [] ++ end_then [])
   told =
       let t = c.args.table.now in
-      let all = sections_all c.loop-section.section c.new-lines.result.size c.count.result c.new-lines.result.some
+      let all = sections_all c.loop-section.section c.new-lines.result.size c.count-count.result c.new-lines.result.some
       (rw c.div_ceil-section-end.ensures at c.loop-section-test.false) in
       let lines = all_told t c.args.separation _ _ c.loop-section.chunk (c.loop-section.section * c.new-lines.result.size)
       (omega (
         arith,
         all,
         (full c.args.table.now c.new-lines.result c.new-lines.ensures.table),
-        c.count.ensures.value,
+        c.count-count.ensures.value,
         ap (λ u. length (windows_of u)) c.new-lines.ensures.table,
       )) c.loop-section.invariant.told in
       let moved = tells_moved _ _ _ c.loop-section.chunk _ _ lines c.in_ok-make_room-2.ensures.ok in
-      with_end (written Two t c.args.separation) _ _ _ c.store-2.new.chunk _ moved c.store-2.ensures.held c.piece_of.ensures
+      with_end (written Two t c.args.separation) _ _ _ c.store.new.chunk _ moved c.store.ensures.held c.piece_of.ensures
 
 pub returns-clause-ok : goal.returns-clause-ok
 unfolding text_of
@@ -116,14 +121,14 @@ returns-clause-ok g c =
     let w = written Two c.args.table.now c.args.separation in
     on_ok_weaker c.send.result
     (λ sent. tells_all _ _ _ _ _
-    (subst (IsWrittenSoFar _ _ c.store-2.new.chunk) (lines_append w [] (end_then [])) (told g c)) sent) c.send.ensures.ok
+    (subst (IsWrittenSoFar _ _ c.store.new.chunk) (lines_append w [] (end_then [])) (told g c)) sent) c.send.ensures.ok
 
 pub returns-clause-err : goal.returns-clause-err
 unfolding text_of
 returns-clause-err g c =
     let w = written Two c.args.table.now c.args.separation in
     on_err_weaker c.send.result
-    (λ failed. tells_front _ _ _ c.store-2.new.chunk _ _ [] (told g c) failed
+    (λ failed. tells_front _ _ _ c.store.new.chunk _ _ [] (told g c) failed
     (append-nil (lines_then w [] ++ end_then []) ∙ lines_append w [] (end_then [])))
     c.send.ensures.err
 
