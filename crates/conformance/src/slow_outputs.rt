@@ -99,15 +99,16 @@ fn table_of_24<R: Threads + Wait + Sync>(rt: &R, alloc: Global) -> Option<SlowWr
     Some(writer)
 }
 
-// The text is written in chunks of at most 65,536 bytes, so one of more than 131,072 bytes has at
-// least three. The calls for the first, the second and the third chunk fail, and one in the last byte.
+// The text is written in sections of 2,000 windows, the first one with the lines before it and the
+// last one with the line behind it. So the 12,144 windows have seven. The call for each of them
+// fails, and one in the last byte.
 #[test]
 fn a_long_table_whose_write_fails_at_each_edge_of_a_chunk(rt: HostRuntime) -> Result<(), Fail> {
     let writer = table_of_24(&rt, rt.alloc()).ok_or("a table")?;
     let text = writer.taken.as_slice();
     let last = text.len().saturating_sub(1);
     assert!(rt; text.len() > 131_072 && text.len() < 196_608);
-    assert!(rt; chunks_of(rt.alloc(), text) == Some(3));
+    assert!(rt; chunks_of(rt.alloc(), text) == Some(7));
     assert!(rt; stops_after(rt.alloc(), text, ErrorKind::Other, last..text.len()));
     Ok(())
 }
