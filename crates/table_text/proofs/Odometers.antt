@@ -6,14 +6,14 @@ use Rattle.win_index.proofs.Kept.{kept_is}
 use Rattle.win_index.specs.Windows.{unused, IsWindow}
 use Rattle.win_index.specs.declared.limits.TheConstants.{MAX_IDS, MAX_WINDOW_LEN}
 use Rattle.win_index.proofs.Unused.{lacks}
-use Rattle.table_text.specs.Orders.{IsOrder, IsFollowedBy}
+use Rattle.table_text.specs.Orders.{IsOrder, IsFollowedBy, ArePlaces}
 use Rattle.table_text.specs.Odometers.{IsOdometer, front_of, last_of, window_of}
 use Rattle.table_text.specs.declared.odometer.Odometer.{Odometer}
 use Rattle.table_text.specs.declared.line_prefix.LinePrefix.{LinePrefix}
 use Rattle.table_text.specs.Pieces.{prefix_text}
 use Rattle.table_text.specs.Prefixes.{HasTexts}
 use Rattle.table_text.specs.TableText.{ids_then}
-use Rattle.table_text.proofs.Orders.{lacked_in_turn, last_place}
+use Rattle.table_text.proofs.Orders.{lacked_in_turn, last_place, places_kept}
 
 -- the number at a place after the window
 pub later_below : (k m last : ℕ) (order : List ℕ) → IsOrder k m (take m order) → k ≤ last → last < m →
@@ -69,13 +69,15 @@ followed_at k m old new front_is ids_is next =
     (subst (λ n. IsFollowedBy (n + 1) old.ids (window_of old) (window_of new)) front_is next)
 
 -- an odometer with the order of a window's prefix shows the window
-pub shows_window : (k m last : ℕ) (window order : List ℕ) (prefix : LinePrefix) → m ≤ MAX_IDS → k < MAX_WINDOW_LEN
-    → IsWindow (k + 1) m window → IsOrder k m (take m order) → take k (take m order) ≡ take k window →
+pub shows_window : (k m last : ℕ) (window order places : List ℕ) (prefix : LinePrefix) → m ≤ MAX_IDS
+    → k < MAX_WINDOW_LEN → IsWindow (k + 1) m window → IsOrder k m (take m order) →
+    take k (take m order) ≡ take k window
+    → ArePlaces k (take k window) places →
     last ≡ k + length (unused (get_or window k 0) (take k window))
     → HasTexts prefix.bytes prefix.ends (take k window) → prefix_text prefix ≡ ids_then (take k window) []
-    → IsOdometer (record { order = order; ids = m; front = k; last = last; prefix = prefix })
+    → IsOdometer (record { order = order; ids = m; places = places; front = k; last = last; prefix = prefix })
     × (take k order ++ get_or order last 0 ∷ [] ≡ window)
-shows_window k m last window order prefix few short is ordered same place texts text =
+shows_window k m last window order places prefix few short is ordered same are place texts text =
     let at' = last_place k m last window (take m order) is ordered same place in
     let front : take k order ≡ take k window =
     sym (take-take k m order (omega (arith, at'.0, place))) ∙ same in
@@ -84,6 +86,7 @@ shows_window k m last window order prefix few short is ordered same place texts 
         few = few;
         short = short;
         order = ordered;
+        places = places_kept k (take k window) order places are (front ∙ sym (take-take k k window (omega arith)));
         from = omega (arith, place);
         within = at'.0;
         texts = rw front texts;

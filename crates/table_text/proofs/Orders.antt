@@ -3,7 +3,7 @@ use Rattle.std.proofs.Common.{◌≡◌, ◌≢◌, ◌⊎◌, ℕ, zero, suc, �
 use Rattle.std.specs.List.{range_with_len, remove}
 use Rattle.std.proofs.lemmas.Bool.{not-true, not_from_false, eq-eqb, ne_eqb, cases_lt}
 use Rattle.std.proofs.Math.Nat.{suc-mul}
-use Rattle.std.proofs.lemmas.List.{take_at, drop_at, set_at, take_more, take_more_set, take_all, take-take, take-append-drop, drop_more, get_or-take, take-append-le, same_from_push, length-take, length-drop, append_cancel_left, append-nil, get_or-drop, get_or_at, nil_from_length}
+use Rattle.std.proofs.lemmas.List.{take_at, drop_at, set_at, take_more, take_more_set, take_all, take-take, take-append-drop, drop_more, get_or-take, take-append-le, same_from_push, length-take, length-drop, append_cancel_left, append-nil, get_or-drop, get_or_at, get_or-set_same, get_or-set_other, nil_from_length}
 use Rattle.std.proofs.lemmas.List.Folds.{list_any-append}
 use Rattle.std.proofs.lemmas.Option.{slice_get-get_or, slice_get_within, same_Some}
 use Rattle.win_index.specs.Windows.{is_used, unused, windows, IsWindow}
@@ -12,7 +12,7 @@ use Rattle.win_index.proofs.Unused.{lacks, length-unused, unused_at}
 use Rattle.win_index.proofs.Numbers.{push_window, window_parts, window_from_parts, length-windows}
 use Rattle.win_index.proofs.Positions.{free_at}
 use Rattle.win_index.proofs.Successors.{shorter_window}
-use Rattle.table_text.specs.Orders.{IsOrder, IsFollowedBy, IsStep, place_of}
+use Rattle.table_text.specs.Orders.{IsOrder, IsFollowedBy, IsStep, ArePlaces, place_of}
 
 -- ---- one number more
 
@@ -63,6 +63,7 @@ unused_without m x list lt =
 pub record IsLacked (m x : ℕ) (list before after : List ℕ) : Type 0 where
   pub below : x < m
   pub free : is_used list x ≡ false
+  pub lower : before ≡ unused x list
   pub others : unused m (list ++ x ∷ []) ≡ before ++ after
 
 pub lacked : (m x : ℕ) (list before after : List ℕ) → unused m list ≡ before ++ x ∷ after →
@@ -80,6 +81,7 @@ lacked m x list before after all =
     record {
       below = own.below;
       free = not-true (is_used list x) own.passes;
+      lower = front;
       others = unused_without m x list own.below ∙ ap (λ l. l ++ above m list x) (sym front)
           ∙ ap (λ l. before ++ drop 1 l) (sym rest);
     }
@@ -247,9 +249,15 @@ followed_later k m i x z front later full at_x next least n item more =
 
 -- ---- one step
 
+-- the step to a window with the same prefix and another last number, and the place of that one
+pub record IsSwap (k m : ℕ) (old new : List ℕ) : Type 0 where
+  pub step : IsStep (k + 1) m old new
+  pub kept : take k new ≡ take k old
+  pub place : place_of k new ≡ place_of k old + 1
+
 -- the last number of the window is exchanged for the first larger one
 pub swapped : (k m : ℕ) (old new : List ℕ) → IsOrder (k + 1) m old → place_of k old < length old
-    → new ≡ set (set old k (get_or old (place_of k old) 0)) (place_of k old) (get_or old k 0) → IsStep (k + 1) m old new
+    → new ≡ set (set old k (get_or old (place_of k old) 0)) (place_of k old) (get_or old k 0) → IsSwap k m old new
 swapped k m old new is within set_is =
     let high = (parts k m old is).0 in
     let of = (parts k m old is).1 in
@@ -274,21 +282,73 @@ swapped k m old new is within set_is =
     let new_is : new ≡ front ++ y ∷ (low ++ x ∷ after) =
     set_is ∙ ap (λ z. set (set old k z) (k + 1 + place) x) larger ∙ ap (λ l. set l (k + 1 + place) x) once
     ∙ set_at (front ++ y ∷ low) y after x (k + 1 + place) far ∙ append_assoc front (y ∷ low) (x ∷ after) in
-    let made = order_with k m y front (low ++ x ∷ []) after of.window
-    (all ∙ sym (append_assoc low (x ∷ []) (y ∷ after))) in
+    let lower : unused m front ≡ (low ++ x ∷ []) ++ y ∷ after = all ∙ sym (append_assoc low (x ∷ []) (y ∷ after)) in
+    let made = order_with k m y front (low ++ x ∷ []) after of.window lower in
     let behind = append_assoc low (x ∷ []) after in
     let first : take (k + 1) new ≡ front ++ y ∷ [] =
     ap (take (k + 1)) (new_is ∙ sym (append_assoc front (y ∷ []) (low ++ x ∷ after)))
     ∙ take_at (front ++ y ∷ []) (low ++ x ∷ after) (k + 1)
     (omega (arith, length-append front (y ∷ []), of.window.size)) in
+    let kept : take k new ≡ front = ap (take k) new_is ∙ take_at front (y ∷ (low ++ x ∷ after)) k of.window.size in
+    let last : get_or new k 0 ≡ y = ap (λ l. get_or l k 0) new_is
+    ∙ get_or_at front y (low ++ x ∷ after) 0 k of.window.size in
     record {
-      order = rw new_is (rw behind at made);
-      next =
-          rw (of.first, first) (followed_here k m (length low) x y front
-          (ap (λ l. slice_get l (length low)) all ∙ item_after low (y ∷ after) x)
-          (ap (λ l. slice_get l (length low + 1)) all
-          ∙ slice_get-append_right low (x ∷ (y ∷ after)) (length low + 1) 1 (omega arith)));
+      step = record {
+        order = rw new_is (rw behind at made);
+        next =
+            rw (of.first, first) (followed_here k m (length low) x y front
+            (ap (λ l. slice_get l (length low)) all ∙ item_after low (y ∷ after) x)
+            (ap (λ l. slice_get l (length low + 1)) all
+            ∙ slice_get-append_right low (x ∷ (y ∷ after)) (length low + 1) 1 (omega arith)));
+      };
+      kept = kept;
+      place =
+          let few = ap length (lacked m y front (low ++ x ∷ []) after lower).lower in
+          rw (kept, last) (omega (arith, few, length-append low (x ∷ [])));
     }
+
+-- the same, from a window's length and the place of its last number
+pub swapped_at : (len place : ℕ) (old new : List ℕ) → 0 < len → len ≤ length old → IsOrder len (length old) old →
+    place ≡ place_of (len - 1) old → place < length old →
+    new ≡ set (set old (len - 1) (get_or old place 0)) place (get_or old (len - 1) 0)
+    → IsSwap (len - 1) (length old) old new
+swapped_at len place old new some within is own lt set_is =
+    let k = len - 1 in
+    let last : k + 1 ≡ len = omega arith in
+    swapped k (length old) old new (rw last is) (subst (λ n. n < length old) own lt)
+    (set_is ∙ ap (λ n. set (set old k (get_or old n 0)) n (get_or old k 0)) own)
+
+-- the place of a number depends on those up to it
+pub place_kept : (j k : ℕ) (a b : List ℕ) → j < k → take k a ≡ take k b → place_of j a ≡ place_of j b
+place_kept j k a b lt same =
+    let item : get_or a j 0 ≡ get_or b j 0 =
+    sym (get_or-take k a j 0 lt) ∙ ap (λ l. get_or l j 0) same ∙ get_or-take k b j 0 lt in
+    let front : take j a ≡ take j b =
+    sym (take-take j k a (omega arith)) ∙ ap (take j) same ∙ take-take j k b (omega arith) in
+    rw (item, front) refl
+
+-- the places of the first numbers of an order, if the first k stay
+pub places_kept : (k : ℕ) (old new places : List ℕ) → ArePlaces k old places → take k new ≡ take k old →
+    ArePlaces k new places
+places_kept k old new places are same j lt = are j lt ∙ place_kept j k old new lt (sym same)
+
+-- the places of one more number
+pub places_more : (k place : ℕ) (order places : List ℕ) → k < length places → ArePlaces k order places →
+    place_of k order ≡ place
+    → ArePlaces (k + 1) order (set places k place)
+places_more k place order places long are own j lt =
+    ⊎_elim
+    (λ (before : j < k). get_or-set_other places k j place 0 (λ same. absurd (omega (arith, same))) ∙ are j before)
+    (λ (from : k ≤ j).
+    let same : j ≡ k = omega arith in
+    rw same (get_or-set_same places k place 0 long ∙ sym own))
+    (cases_lt j k)
+
+-- the number right behind a window is the first one that it lacks
+pub least_place : (k m : ℕ) (order : List ℕ) → k < m → IsOrder k m order → place_of k order ≡ k + 1
+least_place k m order lt is =
+    let all = (grown k m order lt is).2 in
+    omega (arith, ap length (lacked m (get_or order k 0) (take k order) [] (drop (k + 1) order) all).lower)
 
 remove_is : (xs : List ℕ) (i : ℕ) → remove xs i ≡ take i xs ++ drop (i + 1) xs
 remove_is xs i = rw add-one refl

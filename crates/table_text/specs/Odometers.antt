@@ -2,7 +2,7 @@
 use Rattle.std.specs.Prelude.{◌≡◌, ℕ, ◌<◌, ◌≤◌, List, [], ◌∷◌, ◌++◌, length, take, slice_index}
 use Rattle.node_program.specs.declared.limits.TheConstants.{MAX_CHANNELS}
 use Rattle.win_index.specs.declared.limits.TheConstants.{MAX_IDS, MAX_WINDOW_LEN}
-use Rattle.table_text.specs.Orders.{IsOrder}
+use Rattle.table_text.specs.Orders.{IsOrder, ArePlaces}
 use Rattle.table_text.specs.Pieces.{prefix_text, id_text, channel_text, AreTexts}
 use Rattle.table_text.specs.Prefixes.{HasTexts}
 use Rattle.table_text.specs.TableText.{ids_then}
@@ -21,12 +21,13 @@ last_of o = slice_index o.order o.last
 abbrev pub window_of : Odometer → List ℕ
 window_of o = front_of o ++ last_of o ∷ []
 
--- The identifiers are an order, the last one of the window is one that its prefix lacks, and the text of the prefix is
--- written.
+-- The identifiers are an order with its places, the last one of the window is one that its prefix lacks, and the text of
+-- the prefix is written.
 pub record IsOdometer (o : Odometer) : Type 0 where
   pub few : o.ids ≤ MAX_IDS
   pub short : o.front < MAX_WINDOW_LEN
   pub order : IsOrder o.front o.ids (take o.ids o.order)
+  pub places : ArePlaces o.front o.order o.places
   pub from : o.front ≤ o.last
   pub within : o.last < o.ids
   pub texts : HasTexts o.prefix.bytes o.prefix.ends (front_of o)

@@ -24,3 +24,7 @@ pub record IsStep (k m : ℕ) (old new : List ℕ) : Type 0 where
 -- if there is none.
 abbrev pub place_of : ℕ → List ℕ → ℕ
 place_of k order = k + 1 + length (unused (slice_index order k) (take k order))
+
+-- the places for each of the first k numbers of an order
+abbrev pub ArePlaces : ℕ → List ℕ → List ℕ → Type 0
+ArePlaces k order places = (j : ℕ) → j < k → slice_index places j ≡ place_of j order

@@ -1,10 +1,10 @@
 //! The windows in order, one at a time. The next one comes from the identifiers that are not in
 //! use.
 
-ghost use Rattle.std.specs.Prelude.{◌≡◌, ◌+◌, ◌≤◌, length, take};
+ghost use Rattle.std.specs.Prelude.{◌≡◌, ℕ, ◌+◌, ◌≤◌, length, take};
 ghost use Rattle.win_index.specs.Windows.{IsWindow};
 ghost use Rattle.win_index.specs.declared.limits.TheConstants.{MAX_IDS};
-ghost use Rattle.table_text.specs.Orders.{IsOrder, IsStep, place_of};
+ghost use Rattle.table_text.specs.Orders.{IsOrder, IsStep, ArePlaces, place_of};
 
 use crate::line_prefix::LinePrefix;
 use crate::piece::Piece;
@@ -21,11 +21,14 @@ fn carry(order: &mut [u32], last: usize)
 }
 
 // Replaces the first `len` identifiers of an order by the window after them, or the last window by
-// the first. Returns the number of identifiers at its start that are the same.
-fn next_front(order: &mut [u32], len: usize) -> usize
-    requires within { len ≤ length order.old }
+// the first, and their places. Returns the number of identifiers at its start that are the same.
+fn next_front(order: &mut [u32], places: &mut [u16], len: usize) -> usize
+    requires within { (len ≤ length order.old) × (len ≤ length places.old) }
+    requires ids { length order.old ≤ MAX_IDS }
     requires order { IsOrder len (length order.old) order.old }
+    requires places { ArePlaces len order.old places.old }
     ensures step { IsStep len (length order.old) order.old order.new }
+    ensures places { ArePlaces len order.new places.new }
     ensures few { result ≤ len }
     ensures kept { take result order.new ≡ take result order.old }
 {
@@ -33,14 +36,28 @@ fn next_front(order: &mut [u32], len: usize) -> usize
         return 0;
     }
     let last = len - 1;
-    let current = order[last];
-    let place = len + place_among_unused(&order[..last], current) as usize;
-    if place < order.len() {
-        order.swap(last, place);
+    let place = places[last];
+    if (place as usize) < order.len() {
+        order.swap(last, place as usize);
+        places[last] = place + 1;
         return last;
     }
     carry(order, last);
-    next_front(order, last)
+    let kept = next_front(order, places, last);
+    places[last] = len as u16;
+    kept
+}
+
+// Writes the places of the identifiers of a window.
+fn write_places(places: &mut [u16], window: &[u32])
+    requires len { length window.now ≤ length places.old }
+    requires window { (ids : ℕ) × (ids ≤ MAX_IDS) × IsWindow (length window.now) ids window.now }
+    ensures { ArePlaces (length window.now) window.now places.new }
+{
+    for index in 0..window.len() {
+        let place = place_among_unused(&window[..index], window[index]);
+        places[index] = (index + 1) as u16 + place as u16;
+    }
 }
 
 // Writes the identifiers that the first `front` lack behind them, in rising order.
@@ -78,6 +95,9 @@ pub(crate) struct Odometer {
     // All identifiers, below `ids`: those of the prefix, and then the others, in rising order.
     order: [u32; MAX_IDS as usize],
     ids: usize,
+    // For each identifier of the prefix, the place of the next one that stands there behind the same
+    // identifiers: `ids` if there is none.
+    places: [u16; MAX_WINDOW_LEN],
     // The number of identifiers of the prefix.
     front: usize,
     // The index of the window's last identifier.
@@ -122,11 +142,14 @@ impl Odometer {
         let last = front + place_among_unused(shared, window[front]) as usize;
         let mut order = [0; MAX_IDS as usize];
         write_order(&mut order, pieces.len(), shared);
+        let mut places = [0; MAX_WINDOW_LEN];
+        write_places(&mut places, shared);
         let mut prefix = LinePrefix::empty();
         prefix.show(pieces, shared, 0);
         Odometer {
             order,
             ids: pieces.len(),
+            places,
             front,
             last,
             prefix,
@@ -160,7 +183,9 @@ impl Odometer {
     {
         let ids = self.ids;
         let front = self.front;
-        let kept = next_front(&mut self.order[..ids], front);
+        let mut places = self.places;
+        let kept = next_front(&mut self.order[..ids], &mut places, front);
+        self.places = places;
         let shared = &self.order[..front];
         self.prefix.show(pieces, shared, kept);
         self.last = front;

@@ -23,7 +23,7 @@ use std::io::Write;
 use std::thread::{Threads, for_each_mut};
 
 // The number of sections that are made before they are written.
-const CHUNKS: usize = 128;
+const CHUNKS: usize = 32;
 
 // The minimum number of lines that threads make. To start a thread costs more than fewer lines.
 const MIN_LINES: u32 = 1 << 15;

@@ -1,9 +1,8 @@
-use Rattle.std.proofs.Common.{◌≡◌, ◌<◌, ◌≤◌, ◌-◌, ◌+◌, length, take, set, get_or, sym, ap, subst, ◌∙◌, arith}
+use Rattle.std.proofs.Common.{◌≡◌, ℕ, ◌≤◌, ◌-◌, ◌+◌, length, take, get_or, sym, ap, ◌∙◌, arith}
 use Rattle.std.proofs.lemmas.List.{take-take}
 use Rattle.std.proofs.lemmas.List.Edits.{swap_is}
-use Rattle.win_index.proofs.Successors.{shorter_window}
 use Rattle.table_text.specs.Orders.{IsOrder, place_of}
-use Rattle.table_text.proofs.Orders.{swapped, later, only_window}
+use Rattle.table_text.proofs.Orders.{swapped_at, later, only_window, places_kept, places_more, least_place}
 use Rattle.table_text.proofs.odometer.+next_front.Goals as goal
 
 pub returns-then-len-eq0-clause-step : goal.returns-then-len-eq0-clause-step
@@ -11,38 +10,72 @@ returns-then-len-eq0-clause-step t c =
     let order : IsOrder 0 (length c.args.order.now) c.args.order.now = rw c.if-len-eq0.true at c.requires.order in
     rw c.if-len-eq0.true (only_window (length c.args.order.now) c.args.order.now order)
 
-pub place_among_unused-requires : goal.place_among_unused-requires
-place_among_unused-requires t c =
-    (shorter_window c.args.len (length c.args.order.now) (c.args.len - 1) c.args.order.now (omega arith)
-    c.requires.order.window).distinct
+pub overflow_add-places : goal.overflow_add-places
+overflow_add-places t c = omega (arith, c.if-place-order.true, c.requires.ids)
 
 pub returns-then-place-order-clause-step : goal.returns-then-place-order-clause-step
 returns-then-place-order-clause-step t c =
     let k = c.args.len - 1 in
     let order = c.args.order.now in
+    let place : ℕ = get_or c.args.places.now k 0 in
     let last : k + 1 ≡ c.args.len = omega arith in
-    let place : c.args.len + c.place_among_unused.result ≡ place_of k order =
-    omega (arith, c.place_among_unused.ensures) in
-    let swap = c.swap.ensures.after
-    ∙ sym (swap_is order k (c.args.len + c.place_among_unused.result) 0 (omega (arith, c.requires.within))
-    c.if-place-order.true) in
-    rw last at (swapped k (length order) order c.swap.new.self (rw last c.requires.order)
-    (subst (λ n. n < length order) place c.if-place-order.true)
-    (swap ∙ ap (λ n. set (set order k (get_or order n 0)) n (get_or order k 0)) place))
+    let is = swapped_at c.args.len place order c.swap.new.self (omega arith) c.requires.within.0 c.requires.order
+    (c.requires.places k (omega arith)) c.if-place-order.true
+    (c.swap.ensures.after ∙ sym (swap_is order k place 0 (omega (arith, c.requires.within)) c.if-place-order.true)) in
+    rw last at is.step
+
+pub returns-then-place-order-clause-places : goal.returns-then-place-order-clause-places
+returns-then-place-order-clause-places t c =
+    let k = c.args.len - 1 in
+    let order = c.args.order.now in
+    let place : ℕ = get_or c.args.places.now k 0 in
+    let is = swapped_at c.args.len place order c.swap.new.self (omega arith) c.requires.within.0 c.requires.order
+    (c.requires.places k (omega arith)) c.if-place-order.true
+    (c.swap.ensures.after ∙ sym (swap_is order k place 0 (omega (arith, c.requires.within)) c.if-place-order.true)) in
+    let own : place_of k c.swap.new.self ≡ place + 1 = is.place
+    ∙ ap (λ n. n + 1) (sym (c.requires.places k (omega arith))) in
+    λ j lt. places_more k (place + 1) c.swap.new.self c.args.places.now (omega (arith, c.requires.within))
+    (places_kept k order c.swap.new.self c.args.places.now (λ i small. c.requires.places i (omega (arith, small))) is.kept)
+    own j (omega (arith, lt))
+
+pub next_front-kept-requires : goal.next_front-kept-requires
+next_front-kept-requires t c =
+    let k = c.args.len - 1 in
+    let order = c.carry.ensures.0 in
+    let places = places_kept k c.args.order.now c.carry.new.order c.args.places.now
+    (λ i small. c.requires.places i (omega (arith, small))) c.carry.ensures.1 in (
+      omega arith,
+      (
+        (omega (arith, order.size, c.requires.within), omega (arith, c.requires.within)),
+        (omega (arith, order.size, c.requires.ids), (rw order.size order, places)),
+      ),
+    )
 
 pub returns-clause-step : goal.returns-clause-step
 returns-clause-step t c =
     let k = c.args.len - 1 in
     let order = c.args.order.now in
     let last : k + 1 ≡ c.args.len = omega arith in
-    let full : length order ≤ place_of k order = omega (arith, c.place_among_unused.ensures, c.if-place-order.false) in
-    let step = rw c.carry.ensures.0.size at c.next_front.ensures.step in
-    rw last at (later k (length order) order c.next_front.new.order (rw last c.requires.order) full
+    let place = c.requires.places k (omega arith) in
+    let full : length order ≤ place_of k order = omega (arith, place, c.if-place-order.false) in
+    let step = rw c.carry.ensures.0.size at c.next_front-kept.ensures.step in
+    rw last at (later k (length order) order c.next_front-kept.new.order (rw last c.requires.order) full
     (record { order = step.order; next = rw c.carry.ensures.1 at step.next }))
+
+pub returns-clause-places : goal.returns-clause-places
+returns-clause-places t c =
+    let k = c.args.len - 1 in
+    let last : k + 1 ≡ c.args.len = omega arith in
+    let new = c.next_front-kept.new.order in
+    let size = c.next_front-kept.ensures.step.order.size ∙ c.carry.ensures.0.size in
+    λ j lt. places_more k c.args.len new c.next_front-kept.new.places (omega (arith, c.requires.within))
+    c.next_front-kept.ensures.places
+    (least_place k _ new (omega (arith, c.requires.within, size)) c.next_front-kept.ensures.step.order ∙ last) j
+    (omega (arith, lt))
 
 pub returns-clause-kept : goal.returns-clause-kept
 returns-clause-kept t c =
     let k = c.args.len - 1 in
-    let few = c.next_front.ensures.few in
-    c.next_front.ensures.kept ∙ sym (take-take _ k c.carry.new.order few)
-    ∙ ap (take c.next_front.result) c.carry.ensures.1 ∙ take-take _ k c.args.order.now few
+    let few = c.next_front-kept.ensures.few in
+    c.next_front-kept.ensures.kept ∙ sym (take-take _ k c.carry.new.order few)
+    ∙ ap (take c.next_front-kept.result) c.carry.ensures.1 ∙ take-take _ k c.args.order.now few

@@ -8,6 +8,7 @@ use Rattle.channel_tables.specs.Tables.{ChannelTable, windows_of}
 use Rattle.devices.proofs.Known.{on_err}
 use Rattle.devices.proofs.WrittenChunks.{tells_front}
 use Rattle.table_text.specs.TableText.{entries_then, end_then}
+use Rattle.table_text.specs.declared.parallel.TheConstants.{CHUNKS}
 use Rattle.table_text.specs.Sections.{lines_from, AreFilled}
 use Rattle.table_text.proofs.WrittenLines.{filled_lines, lines_all, lines_before, lines_join, sections_all}
 use Rattle.table_text.proofs.parallel.write_rest.Given.{Over}
@@ -16,12 +17,12 @@ use Rattle.table_text.proofs.parallel.write_rest.Goals as goal
 
 -- the lines of the parts so far, and the contents of the chunks
 one_more : (t : ChannelTable) (part size n : ℕ) (chunks : List (List ℕ)) → length t.entries ≡ length (windows_of t) →
-    length chunks ≡ 128 → n ≡ size * 128 → AreFilled t (part * n) size chunks
+    length chunks ≡ CHUNKS → n ≡ size * CHUNKS → AreFilled t (part * n) size chunks
     → lines_from t 0 (part * n) ++ flat_map (λ chunk. chunk) chunks ≡ lines_from t 0 ((part + 1) * n)
 one_more t part size n chunks full count n_is filled =
     let enough : length t.entries ≤ length (windows_of t) = omega (arith, full) in
     let first : 0 + part * n ≡ part * n = omega arith in
-    let len : length chunks * size ≡ 128 * size = ap (λ k. k * size) count in
+    let len : length chunks * size ≡ CHUNKS * size = ap (λ k. k * size) count in
     let turned : (part + 1) * n ≡ part * n + n = rw add-one (suc-mul part n) in
     ap (λ l. lines_from t 0 (part * n) ++ l) (filled_lines t (part * n) size chunks enough filled
     ∙ ap (λ k. lines_from t k (length chunks * size)) (sym first))
@@ -43,7 +44,7 @@ loop-part-preserved g c =
 pub returns-in_err-send_chunks-clause-err : goal.returns-in_err-send_chunks-clause-err
 returns-in_err-send_chunks-clause-err g c =
     let t = c.args.lines.table.now in
-    let n : ℕ = (c.loop-part.part + 1) * (c.args.lines.size * 128) in
+    let n : ℕ = (c.loop-part.part + 1) * (c.args.lines.size * CHUNKS) in
     let rest = entries_then (drop n (windows_of t)) (drop n t.entries) (end_then []) in
     let more = one_more c.args.lines.table.now c.loop-part.part c.args.lines.size _ c.fill_chunks.new.chunks c.args.lines.full
     (c.fill_chunks.auto.chunks ∙ c.loop-part.invariant.count) refl c.fill_chunks.ensures in
@@ -52,14 +53,14 @@ returns-in_err-send_chunks-clause-err g c =
     (ap (λ l. l ++ rest) more ∙ lines_before t n (end_then []) (omega (arith, c.args.lines.full))))
 
 module _ (g : Over) (c : After-send g) where
-  all : lines_from c.args.lines.table.now 0 (c.loop-part.part * (c.args.lines.size * 128)) ++ end_then []
+  all : lines_from c.args.lines.table.now 0 (c.loop-part.part * (c.args.lines.size * CHUNKS)) ++ end_then []
       ≡ entries_then (windows_of c.args.lines.table.now) c.args.lines.table.now.entries (end_then [])
   all =
       lines_all c.args.lines.table.now _ (end_then []) (omega (
         arith,
         c.args.lines.full,
         c.count.ensures.value,
-        sections_all c.loop-part.part (c.args.lines.size * 128) c.count.result (omega (arith, c.args.lines.some))
+        sections_all c.loop-part.part (c.args.lines.size * CHUNKS) c.count.result (omega (arith, c.args.lines.some))
             (rw c.div_ceil-part-end.ensures at c.loop-part-test.false),
       ))
 

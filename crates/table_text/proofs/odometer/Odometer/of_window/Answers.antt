@@ -12,6 +12,7 @@ made c =
     record {
       order = c.write_order.new.order;
       ids = length c.args.pieces.now;
+      places = c.write_places.new.places;
       front = length c.args.window.now - 1;
       last = length c.args.window.now - 1 + c.place_among_unused.result;
       prefix = c.show.new.self;
@@ -23,9 +24,9 @@ shown c =
     let k = length window - 1 in
     let len : length window ≡ k + 1 = omega (arith, c.requires.len.0) in
     let size : length (take k window) ≡ k = length-take-le k window (omega (arith, len)) in
-    shows_window k (length c.args.pieces.now) (k + c.place_among_unused.result) window c.write_order.new.order c.show.new.self c.requires.pieces.1
+    shows_window k (length c.args.pieces.now) (k + c.place_among_unused.result) window c.write_order.new.order c.write_places.new.places c.show.new.self c.requires.pieces.1
     (omega (arith, c.requires.len.1, len)) (subst (λ n. IsWindow n (length c.args.pieces.now) window) len c.requires.window)
-    (rw size at c.write_order.ensures.order) (rw size at c.write_order.ensures.window)
+    (rw size at c.write_order.ensures.order) (rw size at c.write_order.ensures.window) (rw size at c.write_places.ensures)
     (ap (λ n. k + n) c.place_among_unused.ensures) c.show.ensures.texts c.show.ensures.text
 
 pub returns-clause-is : goal.returns-clause-is
