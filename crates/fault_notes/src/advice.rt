@@ -3,12 +3,13 @@
 
 ghost use Rattle.std.specs.Prelude.{◌≤◌, length};
 
-use crate::around::{Place, is_joined, is_operand, last_line};
+use crate::around::{Place, is_joined, is_keyword, is_number, is_operand, is_wanted, last_line};
 use crate::operands::{bracket_advice, is_operation, operands_advice};
 use crate::signs::{has_one, mark_advice};
 use crate::wanted::{ASSIGNED, missing_word};
 use crate::words::{advice_in, is_word_byte};
 use node_lang::{Expected, Token};
+use source_places::is_one_of;
 
 const UNEQUAL: &str = "; write `ne(a, b)`, or `eq(x, 0)` where x is to be 0";
 
@@ -20,181 +21,199 @@ const NO_NAMES: &str = "; registers are `r0` to `r7`, and have no other names";
 
 const IF: &str = "; write `if(c, a, b)`";
 
+const DECIMAL: &str = "; numbers are decimal";
+
+const IDENTIFIERS: &str =
+    "; the number of identifiers is an option of the commands, as in `--ids 8`";
+
+const DISTANCES: &str = "; `--near` and `--far` are options of the commands";
+
+const NO_OPERATION: &str =
+    "; there is no operation of this name: they are `not`, `and`, `or`, `xor`, `shl`, `shr`, `add`, `sub`, `min`, `max`, `ldb`, `bit`, `eq`, `ne`, `lt`, `le` and `if`";
+
+const SIDE_FIRST: &str = "; the side is followed by an expression alone, as in `send left 0`";
+
 const RECEIVED: &str =
     "; nothing is received by a word: `L` and `R` are what the neighbours sent in this round";
 
 // Words of other languages for operations, and those between operands, each with what stands for
 // it.
-const OPERATIONS: [(&[u8], &str); 38] = [
+const OPERATIONS: [(&str, &str); 38] = [
     (
-        b"mul times mult multiply product",
+        "mul times mult multiply product",
         "; there is no product: twice x is `shl(x, 1)`",
     ),
     (
-        b"mod rem modulo",
+        "mod rem modulo",
         "; there is no remainder: that of 2 is `and(x, 1)`",
     ),
     (
-        b"div divide quotient",
+        "div divide quotient",
         "; there is no quotient: half of x is `shr(x, 1)`",
     ),
     (
-        b"pow power exp",
+        "pow power exp",
         "; there is no power: that of 2 is `shl(1, k)`",
     ),
-    (b"gt greater", "; write `lt(b, a)` for a > b"),
-    (b"ge geq gte", "; write `le(b, a)` for a >= b"),
-    (b"less", "; write `lt(a, b)` for a < b"),
-    (b"leq lte", "; write `le(a, b)` for a <= b"),
-    (b"neq unequal", UNEQUAL),
-    (b"equals equal", "; write `eq(a, b)`"),
-    (b"plus sum", "; write `add(a, b)`"),
+    ("gt greater", "; write `lt(b, a)` for a > b"),
+    ("ge geq gte", "; write `le(b, a)` for a >= b"),
+    ("less", "; write `lt(a, b)` for a < b"),
+    ("leq lte", "; write `le(a, b)` for a <= b"),
+    ("neq unequal", UNEQUAL),
+    ("equals equal", "; write `eq(a, b)`"),
+    ("plus sum", "; write `add(a, b)`"),
     (
-        b"minus diff subtract",
+        "minus diff subtract",
         "; write `sub(a, b)`, which stops at 0; numbers are 0 to 4294967295",
     ),
-    (b"inc incr succ", "; write `add(a, 1)`"),
-    (b"dec decr pred", "; write `sub(a, 1)`, which stops at 0"),
+    ("inc incr succ", "; write `add(a, 1)`"),
+    ("dec decr pred", "; write `sub(a, 1)`, which stops at 0"),
     (
-        b"neg negate",
+        "neg negate",
         "; numbers have no sign; `not(a)` is 4294967295 - a",
     ),
-    (b"abs", "; |a - b| is `sub(max(a, b), min(a, b))`"),
-    (b"maximum", "; write `max(a, b)`"),
-    (b"minimum", "; write `min(a, b)`"),
-    (b"then else elif elsif elseif endif fi", IF),
-    (b"ite cond case switch select choose mux when", IF),
-    (b"iff xnor", "; for 0 and 1, write `eq(a, b)`"),
-    (b"lsh lshift sll", "; write `shl(a, k)`"),
-    (b"rsh rshift srl", "; write `shr(a, k)`"),
-    (b"nand", "; write `not(and(a, b))`"),
-    (b"nor", "; write `not(or(a, b))`"),
-    (b"implies", "; for 0 and 1, write `le(a, b)`"),
-    (b"bitand band", "; write `and(a, b)`"),
-    (b"bitor bor", "; write `or(a, b)`"),
-    (b"bitxor bxor", "; write `xor(a, b)`"),
-    (b"bitnot bnot inv invert", "; write `not(a)`"),
-    (b"getbit testbit nth", "; bit i of a is `bit(a, i)`"),
+    ("abs", "; |a - b| is `sub(max(a, b), min(a, b))`"),
+    ("maximum", "; write `max(a, b)`"),
+    ("minimum", "; write `min(a, b)`"),
+    ("then else elif elsif elseif endif fi", IF),
+    ("ite cond case switch select choose mux when", IF),
+    ("iff xnor", "; for 0 and 1, write `eq(a, b)`"),
+    ("lsh lshift sll", "; write `shl(a, k)`"),
+    ("rsh rshift srl", "; write `shr(a, k)`"),
+    ("nand", "; write `not(and(a, b))`"),
+    ("nor", "; write `not(or(a, b))`"),
+    ("implies", "; for 0 and 1, write `le(a, b)`"),
+    ("bitand band", "; write `and(a, b)`"),
+    ("bitor bor", "; write `or(a, b)`"),
+    ("bitxor bxor", "; write `xor(a, b)`"),
+    ("bitnot bnot inv invert", "; write `not(a)`"),
+    ("getbit testbit nth", "; bit i of a is `bit(a, i)`"),
     (
-        b"lsb ctz ffs",
+        "lsb ctz ffs",
         "; the least index of a bit that is 1 in x is `ldb(x, 0)`",
     ),
     (
-        b"while for do repeat until",
+        "while for do repeat until",
         "; there are no loops: `rounds` says how often nodes exchange messages",
     ),
-    (b"def fn func function", "; there are no functions"),
+    ("def fn func function", "; there are no functions"),
     (
-        b"print echo printf",
+        "print echo printf",
         "; nothing is printed: the channel is the expression of `finish`",
     ),
-    (b"rand random", "; nothing is random"),
-    (b"receive received receives recv", RECEIVED),
-    (b"REM dnl", "; a comment begins with `#`"),
+    ("rand random", "; nothing is random"),
+    ("receive received receives recv", RECEIVED),
+    ("REM dnl", "; a comment begins with `#`"),
 ];
 
 // Words of other languages that are operations with a bracket, and otherwise names.
-const FUNCTIONS: [(&[u8], &str); 2] = [
+const FUNCTIONS: [(&str, &str); 2] = [
     (
-        b"popcount",
+        "popcount",
         "; there is no such operation: add `bit(x, 0)`, `bit(x, 1)` and so on",
     ),
     (
-        b"len log log2 msb clz",
+        "len log log2 msb clz",
         "; there is no such operation: compare with powers of 2, as in `le(4, x)`",
     ),
 ];
 
 // Words where an expression is expected.
-const EXPRESSIONS: [(&[u8], &str); 9] = [
-    (b"null nil none None NULL nothing", "; write 0"),
+const EXPRESSIONS: [(&str, &str); 9] = [
+    ("null nil none None NULL nothing", "; write 0"),
     (
-        b"message messages msg neighbor neighbour neighbors neighbours",
+        "message messages msg neighbor neighbour neighbors neighbours",
         "; `L` and `R` are what the neighbours sent in this round",
     ),
-    (b"true True TRUE", "; write 1"),
-    (b"false False FALSE", "; write 0"),
+    ("true True TRUE", "; write 1"),
+    ("false False FALSE", "; write 0"),
     (
-        b"l",
+        "l",
         "; the message from the left is `L`, and the digit is `1`",
     ),
     (
-        b"r",
+        "r",
         "; the message from the right is `R`, and registers are `r0` to `r7`",
     ),
     (
-        b"self me my uid ident identifier ids myid node",
+        "self me my uid ident identifier ids myid node",
         "; the identifier is `id`",
     ),
     (
-        b"inf Inf infinity Infinity infty maxint MAXINT",
+        "inf Inf infinity Infinity infty maxint MAXINT",
         "; the greatest number is 4294967295",
     ),
     (
-        b"m n M N",
+        "m n M N",
         "; there is no word for the number of nodes or for the number of identifiers, and registers are `r0` to `r7`",
     ),
 ];
 
+// The words behind which an expression stands alone.
+const BEFORE_EXPRESSIONS: [(&str, &str); 2] = [
+    ("finish", "; `finish` is followed by an expression alone"),
+    ("left right", SIDE_FIRST),
+];
+
 // Words where a line can begin.
-const LINES: [(&[u8], &str); 3] = [
+const LINES: [(&str, &str); 3] = [
     (
-        b"return output result yield",
+        "return output result yield",
         "; the last line is `finish` and an expression",
     ),
     (
-        b"let var set int uint const mut local mov assign val auto unsigned",
+        "let var set int uint const mut local mov assign val auto unsigned",
         ASSIGNED,
     ),
     (
-        b"pass skip nop",
+        "pass skip nop",
         "; each register is assigned, as in `r0 = r0` where it is to stay",
     ),
 ];
 
 // Words where the messages of a round can begin.
-const MESSAGES: [(&[u8], &str); 1] = [(
-    b"broadcast",
+const MESSAGES: [(&str, &str); 1] = [(
+    "broadcast",
     "; write `send left` and `send right`, each with an expression",
 )];
 
 // The words of the language that have small letters.
-const SMALL: [(&[u8], &str); 35] = [
-    (b"rounds", "; `rounds` is written with small letters"),
-    (b"channels", "; `channels` is written with small letters"),
-    (b"registers", "; `registers` is written with small letters"),
-    (b"start", "; `start` is written with small letters"),
-    (b"round", "; `round` is written with small letters"),
-    (b"send", "; `send` is written with small letters"),
-    (b"left", "; `left` is written with small letters"),
-    (b"right", "; `right` is written with small letters"),
-    (b"finish", "; `finish` is written with small letters"),
-    (b"id", "; `id` is written with small letters"),
-    (b"not", "; `not` is written with small letters"),
-    (b"and", "; `and` is written with small letters"),
-    (b"or", "; `or` is written with small letters"),
-    (b"xor", "; `xor` is written with small letters"),
-    (b"shl", "; `shl` is written with small letters"),
-    (b"shr", "; `shr` is written with small letters"),
-    (b"add", "; `add` is written with small letters"),
-    (b"sub", "; `sub` is written with small letters"),
-    (b"min", "; `min` is written with small letters"),
-    (b"max", "; `max` is written with small letters"),
-    (b"ldb", "; `ldb` is written with small letters"),
-    (b"bit", "; `bit` is written with small letters"),
-    (b"eq", "; `eq` is written with small letters"),
-    (b"ne", "; `ne` is written with small letters"),
-    (b"lt", "; `lt` is written with small letters"),
-    (b"le", "; `le` is written with small letters"),
-    (b"if", "; `if` is written with small letters"),
-    (b"r0", "; `r0` is written with a small letter"),
-    (b"r1", "; `r1` is written with a small letter"),
-    (b"r2", "; `r2` is written with a small letter"),
-    (b"r3", "; `r3` is written with a small letter"),
-    (b"r4", "; `r4` is written with a small letter"),
-    (b"r5", "; `r5` is written with a small letter"),
-    (b"r6", "; `r6` is written with a small letter"),
-    (b"r7", "; `r7` is written with a small letter"),
+const SMALL: [(&str, &str); 35] = [
+    ("rounds", "; `rounds` is written with small letters"),
+    ("channels", "; `channels` is written with small letters"),
+    ("registers", "; `registers` is written with small letters"),
+    ("start", "; `start` is written with small letters"),
+    ("round", "; `round` is written with small letters"),
+    ("send", "; `send` is written with small letters"),
+    ("left", "; `left` is written with small letters"),
+    ("right", "; `right` is written with small letters"),
+    ("finish", "; `finish` is written with small letters"),
+    ("id", "; `id` is written with small letters"),
+    ("not", "; `not` is written with small letters"),
+    ("and", "; `and` is written with small letters"),
+    ("or", "; `or` is written with small letters"),
+    ("xor", "; `xor` is written with small letters"),
+    ("shl", "; `shl` is written with small letters"),
+    ("shr", "; `shr` is written with small letters"),
+    ("add", "; `add` is written with small letters"),
+    ("sub", "; `sub` is written with small letters"),
+    ("min", "; `min` is written with small letters"),
+    ("max", "; `max` is written with small letters"),
+    ("ldb", "; `ldb` is written with small letters"),
+    ("bit", "; `bit` is written with small letters"),
+    ("eq", "; `eq` is written with small letters"),
+    ("ne", "; `ne` is written with small letters"),
+    ("lt", "; `lt` is written with small letters"),
+    ("le", "; `le` is written with small letters"),
+    ("if", "; `if` is written with small letters"),
+    ("r0", "; `r0` is written with a small letter"),
+    ("r1", "; `r1` is written with a small letter"),
+    ("r2", "; `r2` is written with a small letter"),
+    ("r3", "; `r3` is written with a small letter"),
+    ("r4", "; `r4` is written with a small letter"),
+    ("r5", "; `r5` is written with a small letter"),
+    ("r6", "; `r6` is written with a small letter"),
+    ("r7", "; `r7` is written with a small letter"),
 ];
 
 // Returns advice on a word or a mark that is not of the language; where what can follow is not known
@@ -250,90 +269,97 @@ fn side_in_expression(place: Place) -> Option<&'static str> {
 }
 
 // The registers in capitals where an expression can follow.
-const CAPITALS: [(&[u8], &str); 8] = [
+const CAPITALS: [(&str, &str); 8] = [
     (
-        b"R0",
+        "R0",
         "; `r0` is written with a small letter, and the message from the right is `R`",
     ),
     (
-        b"R1",
+        "R1",
         "; `r1` is written with a small letter, and the message from the right is `R`",
     ),
     (
-        b"R2",
+        "R2",
         "; `r2` is written with a small letter, and the message from the right is `R`",
     ),
     (
-        b"R3",
+        "R3",
         "; `r3` is written with a small letter, and the message from the right is `R`",
     ),
     (
-        b"R4",
+        "R4",
         "; `r4` is written with a small letter, and the message from the right is `R`",
     ),
     (
-        b"R5",
+        "R5",
         "; `r5` is written with a small letter, and the message from the right is `R`",
     ),
     (
-        b"R6",
+        "R6",
         "; `r6` is written with a small letter, and the message from the right is `R`",
     ),
     (
-        b"R7",
+        "R7",
         "; `r7` is written with a small letter, and the message from the right is `R`",
     ),
 ];
 
 // Returns whether a keyword is the one that can follow, or no keyword.
 fn can_follow(name: &[u8], wanted: Expected) -> bool {
-    match name {
-        b"rounds" => wanted == Expected::This(Token::Rounds),
-        b"channels" => wanted == Expected::This(Token::Channels),
-        b"registers" => wanted == Expected::This(Token::Registers),
-        b"start" => wanted == Expected::This(Token::Start),
-        b"round" => wanted == Expected::This(Token::Round),
-        b"send" => wanted == Expected::This(Token::Send),
-        b"left" => wanted == Expected::This(Token::Left),
-        b"right" => wanted == Expected::This(Token::Right),
-        b"finish" => wanted == Expected::This(Token::Finish),
-        _ => true,
-    }
+    !is_keyword(name) || is_wanted(name, wanted)
 }
 
 // Returns advice on a word of the language that is written with a capital.
 fn capital_advice(place: Place) -> Option<&'static str> {
     for (name, advice) in &SMALL {
-        if name.eq_ignore_ascii_case(place.word) {
-            return Some(if can_follow(name, place.wanted) {
-                advice
-            } else {
-                ""
-            });
+        if name.as_bytes().eq_ignore_ascii_case(place.word) {
+            let is_told = can_follow(name.as_bytes(), place.wanted);
+            return Some(if is_told { advice } else { "" });
         }
     }
     None
 }
 
+// Words at the start of a text.
+const FIRST: [(&str, &str); 3] = [
+    ("REM dnl", "; a comment begins with `#`"),
+    ("ids", IDENTIFIERS),
+    ("near far", DISTANCES),
+];
+
+// Words at the other places of the header.
+const HEADER: [(&str, &str); 2] = [("ids", IDENTIFIERS), ("near far", DISTANCES)];
+
 // Returns advice on an unknown word in the header, or where a mark can follow.
 fn header_advice(place: Place) -> &'static str {
-    match (place.wanted, place.word) {
-        (Expected::This(Token::Rounds), b"REM" | b"dnl") => "; a comment begins with `#`",
-        (Expected::This(Token::Rounds), word) if word.starts_with(b"cm91bmRz") =>
-            "; this is a program in base64: `base64 -d` decodes it",
-        (Expected::Number, [b'0', b'x' | b'X' | b'b' | b'B' | b'o', ..]) => "; numbers are decimal",
-        (Expected::This(Token::Open) | Expected::This(Token::Equals), _) => missing_word(
-            place.wanted,
-        ),
-        (_, b"ids") => "; the number of identifiers is an option of the commands, as in `--ids 8`",
-        (_, b"near" | b"far") => "; `--near` and `--far` are options of the commands",
-        _ => missing_word(place.wanted),
+    let known = match place.wanted {
+        Expected::This(Token::Open) | Expected::This(Token::Equals) => None,
+        Expected::This(Token::Rounds) => first_advice(place.word),
+        Expected::Number if has_base(place.word) => Some(DECIMAL),
+        _ => advice_in(&HEADER, place.word),
+    };
+    known.unwrap_or(missing_word(place.wanted))
+}
+
+// Returns advice on an unknown word at the start of a text.
+fn first_advice(word: &[u8]) -> Option<&'static str> {
+    if word.starts_with(b"cm91bmRz") {
+        return Some("; this is a program in base64: `base64 -d` decodes it");
+    }
+    advice_in(&FIRST, word)
+}
+
+// Returns whether a word is a number in another base.
+fn has_base(word: &[u8]) -> bool {
+    match word {
+        [b'0', letter, ..] => b"xXbBo".contains(letter),
+        _ => false,
     }
 }
 
 // Returns advice on an unknown word in place of `left` or `right`.
 fn side_advice(word: &[u8]) -> &'static str {
-    if matches!(word, b"both" | b"all") {
+    if is_one_of("both all", word) {
         return "; write `send left` and `send right`, each with an expression";
     }
     ""
@@ -345,25 +371,23 @@ fn expression_advice(place: Place) -> &'static str {
         return advice;
     }
     if stands_before_expression(place) {
-        return match place.last {
-            b"finish" => "; `finish` is followed by an expression alone",
-            _ => "; the side is followed by an expression alone, as in `send left 0`",
-        };
+        return advice_in(&BEFORE_EXPRESSIONS, place.last).unwrap_or("");
     }
-    match (advice_in(&EXPRESSIONS, place.word), place.next) {
-        (Some(advice), _) => advice,
-        (None, b"(") => advice_in(&FUNCTIONS, place.word).unwrap_or(
-            "; there is no operation of this name: they are `not`, `and`, `or`, `xor`, `shl`, `shr`, `add`, `sub`, `min`, `max`, `ldb`, `bit`, `eq`, `ne`, `lt`, `le` and `if`",
+    match advice_in(&EXPRESSIONS, place.word) {
+        Some(advice) => advice,
+        None if place.next == b"(".as_slice() => advice_in(&FUNCTIONS, place.word).unwrap_or(
+            NO_OPERATION,
         ),
-        _ => name_advice(place.word),
+        None => name_advice(place.word),
     }
 }
 
 // Returns whether a word of two letters or more stands between `finish` or a side and an
 // expression.
 fn stands_before_expression(place: Place) -> bool {
-    matches!(place.last, b"finish" | b"left" | b"right")
-        && matches!(place.word, [b'A'..=b'Z' | b'a'..=b'z', _, ..])
+    is_one_of("finish left right", place.last)
+        && place.word.len() > 1
+        && !is_number(place.word)
         && bracket_advice(place.word).is_none()
         && (is_operand(place.next) || is_operation(place.next))
 }
@@ -397,19 +421,29 @@ fn name_advice(word: &[u8]) -> &'static str {
 
 // Returns advice on an unknown word where a line can begin, or a comma or a bracket can follow.
 fn line_advice(place: Place) -> &'static str {
-    if matches!(place.next, b"=") && !matches!(place.second, b"=") {
-        return match place.wanted {
-            Expected::This(Token::Comma) | Expected::This(Token::Close) => OPEN,
-            _ => spelling_advice(place.word),
-        };
+    if begins_assignment(place) {
+        return assignment_advice(place);
     }
-    let operation = advice_in(&OPERATIONS, place.word);
-    let known = operation.or(match place.wanted {
+    let known = match place.wanted {
         Expected::This(Token::Comma) | Expected::This(Token::Close) => None,
         Expected::This(Token::Send) => advice_in(&MESSAGES, place.word),
         _ => advice_in(&LINES, place.word),
-    });
-    known.unwrap_or(between_advice(place))
+    };
+    let operation = advice_in(&OPERATIONS, place.word);
+    operation.or(known).unwrap_or(between_advice(place))
+}
+
+// Returns advice on a word that is assigned.
+fn assignment_advice(place: Place) -> &'static str {
+    match place.wanted {
+        Expected::This(Token::Comma) | Expected::This(Token::Close) => OPEN,
+        _ => spelling_advice(place.word),
+    }
+}
+
+// Returns whether one `=` follows the word of a place.
+fn begins_assignment(place: Place) -> bool {
+    place.next == b"=".as_slice() && place.second != b"=".as_slice()
 }
 
 // Returns advice on a word of which nothing is known, after an expression or where a line begins.
@@ -424,32 +458,45 @@ fn between_advice(place: Place) -> &'static str {
 
 // Returns advice on a number that is not in its range: others may follow it.
 pub(crate) fn range_advice(place: Place) -> &'static str {
-    match (place.next, place.second) {
-        (b".", b".") => "; one number is written here, not a range",
-        _ => "",
+    if place.next == b".".as_slice() && place.second == b".".as_slice() {
+        return "; one number is written here, not a range";
     }
+    ""
 }
+
+// The words before the numbers of the header, each with the range of its number.
+const RANGES: [(&str, &str); 3] = [
+    ("rounds", "; `rounds` is 0 to 4"),
+    ("channels", "; `channels` is 1 to 4096"),
+    ("registers", "; `registers` is 1 to 8"),
+];
 
 // Returns advice on a number that is too large, by the word before it.
 pub(crate) fn large_advice(place: Place) -> &'static str {
-    match place.last {
-        b"rounds" => "; `rounds` is 0 to 4",
-        b"channels" => "; `channels` is 1 to 4096",
-        b"registers" => "; `registers` is 1 to 8",
-        _ => "",
-    }
+    advice_in(&RANGES, place.last).unwrap_or("")
 }
 
 // Returns advice on a word by its first letters.
 fn spelling_advice(word: &[u8]) -> &'static str {
+    if is_number(word) {
+        return digits_advice(word);
+    }
     match word {
-        [b'0', b'x' | b'X' | b'b' | b'B' | b'o', ..] => "; numbers are decimal",
-        [b'0'..=b'9', .., b'r', b'0'..=b'7'] =>
-            "; a number has only digits, and there is no product: twice x is `shl(x, 1)`",
-        [b'0'..=b'9', ..] => "; a number has only digits",
         [b'r' | b'R', b'0'..=b'9', ..] => "; registers are `r0` to `r7`",
         [b'r', b'o' | b'O'] => "; `r0` is written with the digit 0, not with a letter",
         _ => NO_NAMES,
+    }
+}
+
+// Returns advice on a word that begins with a digit.
+fn digits_advice(word: &[u8]) -> &'static str {
+    if has_base(word) {
+        return DECIMAL;
+    }
+    match word {
+        [.., b'r', b'0'..=b'7'] =>
+            "; a number has only digits, and there is no product: twice x is `shl(x, 1)`",
+        _ => "; a number has only digits",
     }
 }
 

@@ -4,7 +4,7 @@ ghost use Rattle.std.specs.Prelude.{◌≤◌, length};
 
 use crate::words::is_word_byte;
 use node_lang::{Expected, Token, token_from};
-use source_places::first_line_len;
+use source_places::{first_line_len, is_one_of};
 
 // The length of the longest words that are tried in two parts.
 const LONGEST_JOINED: usize = 32;
@@ -194,7 +194,7 @@ pub(crate) fn follows_first_word(place: Place) -> bool {
 
 // Returns whether an expression can end with this token.
 pub(crate) fn is_end(word: &[u8]) -> bool {
-    is_operand(word) || matches!(word, b")")
+    is_operand(word) || word == b")".as_slice()
 }
 
 // Returns whether an expression ends before a place on the same line.
@@ -230,6 +230,14 @@ pub(crate) fn is_token(bytes: &[u8]) -> bool {
     }
 }
 
+// Returns whether the token of a word is what can follow.
+pub(crate) fn is_wanted(word: &[u8], wanted: Expected) -> bool {
+    match token_from(word, 0) {
+        Some(placed) => wanted == Expected::This(placed.token),
+        None => false,
+    }
+}
+
 // Returns whether a token is a register.
 pub(crate) fn is_register(token: &[u8]) -> bool {
     matches!(token, [b'r', b'0'..=b'9'])
@@ -242,33 +250,27 @@ pub(crate) fn is_number(token: &[u8]) -> bool {
 
 // Returns whether a word begins a line of a program, or stands at the start of one behind `send`.
 pub(crate) fn is_keyword(word: &[u8]) -> bool {
-    matches!(
+    is_one_of(
+        "rounds channels registers start round send left right finish",
         word,
-        b"rounds"
-            | b"channels"
-            | b"registers"
-            | b"start"
-            | b"round"
-            | b"send"
-            | b"left"
-            | b"right"
-            | b"finish"
     )
+}
+
+// Returns whether a word begins as a register does.
+pub(crate) fn begins_register(word: &[u8]) -> bool {
+    matches!(word, [b'r', b'0'..=b'9', ..])
 }
 
 // Returns whether a word of the language is an expression.
 pub(crate) fn is_operand(word: &[u8]) -> bool {
-    matches!(
-        word,
-        b"id" | b"L" | b"R" | [b'r', b'0'..=b'9', ..] | [b'0'..=b'9', ..]
-    )
+    is_one_of("id L R", word) || is_number(word) || begins_register(word)
 }
 
 // Returns whether two words of the language without a blank between are an expression, and the
 // register of an assignment if `=` follows them; or a keyword and another word. A round or a start
 // with a number is none: lines have no numbers.
 fn are_joined(front: &[u8], back: &[u8], next: &[u8]) -> bool {
-    let is_numbered = matches!(front, b"round" | b"start") && matches!(back, [b'0'..=b'9', ..]);
+    let is_numbered = is_number(back) && is_one_of("round start", front);
     let is_assigned = next == b"=".as_slice() && is_operand(front) && matches!(back, [b'r', _]);
     let has_keyword = is_keyword(front) || is_keyword(back);
     (has_keyword || is_assigned) && !is_numbered && is_token(front) && is_token(back)

@@ -4,14 +4,16 @@
 
 use crate::advice::OPEN;
 use crate::around::{
-    Place, begins_line, follows_expression, follows_first_word, has_comma, has_operands, is_end,
-    is_operand, is_register, is_repeated, open_operation, registers_in,
+    Place, begins_line, begins_register, follows_expression, follows_first_word, has_comma,
+    has_operands, is_end, is_number, is_operand, is_register, is_repeated, is_wanted,
+    open_operation, registers_in,
 };
 use crate::operands::{is_operation, operands_advice};
 use crate::signs::comment_advice;
 use crate::wanted::{BRACKETED, missing_word, wanted_advice};
+use crate::words::advice_in;
 use node_lang::{Expected, Token};
-use source_places::by_beginning;
+use source_places::{by_beginning, is_one_of};
 
 const DOUBLED: &str = "; the same word stands right before it";
 
@@ -60,25 +62,22 @@ pub(crate) fn place_advice(place: Place) -> &'static str {
     }
 }
 
+// Returns whether what is expected at a place follows its word.
+fn is_followed(place: Place) -> bool {
+    match place.wanted {
+        Expected::This(Token::Equals) => false,
+        Expected::This(Token::Open) | Expected::This(Token::Close) => true,
+        Expected::This(Token::Register(_)) => matches!(place.next, [b'r', _]),
+        Expected::This(_) => is_wanted(place.next, place.wanted),
+        Expected::End => place.next != b"=".as_slice(),
+        _ => true,
+    }
+}
+
 // Returns whether the word of a place stands twice: what is expected follows it. Else a word may have
 // been left out before it.
 fn is_doubled(place: Place) -> bool {
-    let is_followed = match place.wanted {
-        Expected::This(Token::Equals) => false,
-        Expected::This(Token::Channels) => matches!(place.next, b"channels"),
-        Expected::This(Token::Registers) => matches!(place.next, b"registers"),
-        Expected::This(Token::Start) => matches!(place.next, b"start"),
-        Expected::This(Token::Round) => matches!(place.next, b"round"),
-        Expected::This(Token::Send) => matches!(place.next, b"send"),
-        Expected::This(Token::Left) => matches!(place.next, b"left"),
-        Expected::This(Token::Right) => matches!(place.next, b"right"),
-        Expected::This(Token::Finish) => matches!(place.next, b"finish"),
-        Expected::This(Token::Register(_)) => matches!(place.next, [b'r', _]),
-        Expected::This(Token::Comma) => matches!(place.next, b","),
-        Expected::End => place.next != b"=".as_slice(),
-        _ => true,
-    };
-    place.last == place.word && is_followed
+    place.last == place.word && is_followed(place)
 }
 
 // Returns whether a register before `=` begins an operand of `if` that is not the condition.
@@ -105,8 +104,8 @@ fn compared_advice(place: Place) -> &'static str {
 // Returns advice on a `=` after a register that was read as an expression: the one that is sent, or
 // that is assigned to the register before.
 fn register_advice(place: Place) -> &'static str {
-    let is_sent = matches!(place.previous, b"left" | b"right");
-    let is_assigned = matches!(place.previous, b"=");
+    let is_sent = is_one_of("left right", place.previous);
+    let is_assigned = place.previous == b"=".as_slice();
     if begins_line(place) || !(is_sent || is_assigned) {
         return ONLY_ASSIGNED;
     }
@@ -127,7 +126,7 @@ fn equals_advice(place: Place) -> &'static str {
         None
     };
     match (place.wanted, marks) {
-        (Expected::Expression, _) if matches!(place.last, b"=") =>
+        (Expected::Expression, _) if place.last == b"=".as_slice() =>
             "; an assignment is written with one `=`",
         (_, Some(advice)) => advice,
         (Expected::This(Token::Comma) | Expected::This(Token::Close) | Expected::End, None) =>
@@ -142,7 +141,7 @@ fn equals_advice(place: Place) -> &'static str {
 fn open_advice(place: Place) -> &'static str {
     match place.wanted {
         Expected::This(Token::Rounds) => comment_advice(place.rest),
-        Expected::Expression if has_comma(place.rest) && !matches!(place.last, b"(") => {
+        Expected::Expression if has_comma(place.rest) && place.last != b"(".as_slice() => {
             "; the name of an operation is missing before it"
         }
         Expected::Expression => "; brackets are only written after the name of an operation",
@@ -173,7 +172,7 @@ fn comma_advice(place: Place) -> &'static str {
     if !open_operation(place.before).is_empty() {
         return operands_advice(place.before);
     }
-    if is_operand(place.last) && matches!(place.previous, b"left" | b"right") {
+    if is_operand(place.last) && is_one_of("left right", place.previous) {
         return "; commas only separate operands, and one value is sent to each side";
     }
     "; commas only separate operands"
@@ -182,12 +181,9 @@ fn comma_advice(place: Place) -> &'static str {
 // Returns whether the operation of a place stands between its operands: an expression ends before
 // it, and another one, not in brackets with a comma, follows it.
 fn is_infix(place: Place) -> bool {
-    let is_bracket = matches!(place.next, b"(");
+    let is_bracket = place.next == b"(".as_slice();
     let has_operand = is_operand(place.next) || is_operation(place.next) || is_bracket;
-    is_end(place.last)
-        && has_operand
-        && !has_operands(place)
-        && !matches!(place.word, b"not" | b"if")
+    is_end(place.last) && has_operand && !has_operands(place) && !is_one_of("not if", place.word)
 }
 
 // Returns whether a place follows the expression of an assignment or of a message on its line.
@@ -205,19 +201,20 @@ fn ends_line_of(place: Place) -> bool {
 // Returns advice on the name of an operation. With a bracket it begins an expression, and after an
 // expression it may stand between its operands.
 fn operation_advice(place: Place) -> &'static str {
-    let has_bracket = matches!(place.next, b"(");
+    let has_bracket = place.next == b"(".as_slice();
+    let is_if = place.word == b"if".as_slice();
     match place.wanted {
         Expected::This(Token::Open) | Expected::This(Token::Equals) => missing_word(place.wanted),
         Expected::This(Token::Channels)
         | Expected::This(Token::Registers)
         | Expected::This(Token::Start) => wanted_advice(place.wanted),
         _ if is_infix(place) => INFIX,
-        _ if matches!(place.word, b"if") && ends_line_of(place) => IF_FIRST,
-        Expected::End if matches!(place.word, b"if") && follows_expression(place) => IF_FIRST,
+        _ if is_if && ends_line_of(place) => IF_FIRST,
+        Expected::End if is_if && follows_expression(place) => IF_FIRST,
         Expected::This(Token::Comma) if has_bracket => COMMA,
         _ if has_bracket && ends_line_of(place) => second_advice(place),
         Expected::This(Token::Comma) => "",
-        _ if has_bracket || matches!(place.word, b"if") => statement_advice(place),
+        _ if has_bracket || is_if => statement_advice(place),
         _ => known_advice(place),
     }
 }
@@ -246,72 +243,65 @@ fn is_no_register(place: Place) -> bool {
 
 // Returns advice on a register that the header does not have.
 fn no_register_advice(place: Place) -> &'static str {
-    match place.word {
-        [b'r', b'8' | b'9'] => "; `registers` is at most 8, and registers are `r0` to `r7`",
-        _ => REGISTERS,
+    if is_one_of("r8 r9", place.word) {
+        return "; `registers` is at most 8, and registers are `r0` to `r7`";
     }
+    REGISTERS
 }
 
 // Returns whether a place is that of an operand which is no register and stands before `=`.
 fn is_wrong_target(place: Place) -> bool {
-    is_operand(place.word) && !is_register(place.word) && matches!(place.next, b"=")
+    is_operand(place.word) && !is_register(place.word) && place.next == b"=".as_slice()
 }
 
 // Returns advice on an operand before `=`.
 fn target_advice(word: &[u8]) -> &'static str {
-    match word {
-        b"L" | b"R" => {
-            "; only registers are assigned: a value is sent by `send left` and `send right`"
-        }
-        _ => "; only registers are assigned, as in `r0 = id`",
+    if is_one_of("L R", word) {
+        return "; only registers are assigned: a value is sent by `send left` and `send right`";
     }
+    "; only registers are assigned, as in `r0 = id`"
 }
 
 // Returns advice on an operand where a comma can follow. A number after a number may be one that is
 // written with a blank, and the register of an assignment shows that a bracket is open.
 fn operand_advice(place: Place) -> &'static str {
-    let are_numbers = matches!(
-        (place.last, place.word),
-        ([b'0'..=b'9', ..], [b'0'..=b'9', ..])
-    );
-    match place.next {
-        b"=" => operands_advice(place.before),
-        b")" => COMMA,
-        _ if are_numbers => "",
-        _ => COMMA,
+    if place.next == b"=".as_slice() {
+        return operands_advice(place.before);
     }
+    if is_number(place.last) && is_number(place.word) && place.next != b")".as_slice() {
+        return "";
+    }
+    COMMA
 }
 
 // Returns whether a place has a second expression on the line of an assignment or of a message.
 fn is_second_operand(place: Place) -> bool {
-    is_operand(place.word) && !matches!(place.next, b"=") && ends_line_of(place)
+    is_operand(place.word) && place.next != b"=".as_slice() && ends_line_of(place)
 }
 
 // Returns advice on an expression that follows another one on its line. Two numbers may be one that is
 // written with a blank.
 fn second_advice(place: Place) -> &'static str {
-    match (place.last, place.word) {
-        ([b'0'..=b'9', ..], [b'0'..=b'9', ..]) =>
-            "; one expression is written here, and a number has no blanks",
-        ([b'0'..=b'9', ..], _) => "; one expression is written here: twice x is `shl(x, 1)`",
-        _ => {
-            "; one expression is written here: an operation is written before its operands, as in `add(a, b)`"
-        }
+    if !is_number(place.last) {
+        return "; one expression is written here: an operation is written before its operands, as in `add(a, b)`";
     }
+    if is_number(place.word) {
+        return "; one expression is written here, and a number has no blanks";
+    }
+    "; one expression is written here: twice x is `shl(x, 1)`"
 }
 
 // Returns whether the first lines of a program have numbers.
 fn has_numbers(place: Place) -> bool {
-    let is_number = matches!(place.word, [b'0'..=b'9', ..]);
-    let is_marked = matches!(place.next, b":" | b"." | b")" | b"|")
-        && matches!(place.second, b"rounds");
-    let is_bare = matches!(place.next, b"rounds") && matches!(place.second, [b'0'..=b'9', ..]);
-    is_number && (is_marked || is_bare)
+    let rounds = b"rounds".as_slice();
+    let is_marked = is_one_of(": . ) |", place.next) && place.second == rounds;
+    let is_bare = place.next == rounds && is_number(place.second);
+    is_number(place.word) && (is_marked || is_bare)
 }
 
 // Returns whether a word is an expression that is sent, and not meant as a side.
 fn is_sent(word: &[u8]) -> bool {
-    is_operand(word) && !matches!(word, b"L" | b"R")
+    is_operand(word) && !is_one_of("L R", word)
 }
 
 // Returns advice on another word.
@@ -319,9 +309,8 @@ fn known_advice(place: Place) -> &'static str {
     match place.wanted {
         Expected::This(Token::Comma) if is_operand(place.word) => operand_advice(place),
         Expected::This(Token::Comma) => operands_advice(place.before),
-        Expected::This(Token::Close) if is_operand(place.word) && !matches!(place.next, b"=") => {
-            operands_advice(place.before)
-        }
+        Expected::This(Token::Close) if is_operand(place.word) && place.next != b"=".as_slice() =>
+            operands_advice(place.before),
         Expected::This(Token::Close) => OPEN,
         Expected::This(Token::Register(_))
         | Expected::This(Token::Round)
@@ -334,25 +323,26 @@ fn known_advice(place: Place) -> &'static str {
         Expected::This(Token::Left) | Expected::This(Token::Right) if is_sent(place.word) => {
             "; the side comes before the expression, as in `send left 0`"
         }
-        Expected::This(Token::Finish) if matches!(place.word, b"round") => ROUNDS,
+        Expected::This(Token::Finish) if place.word == b"round".as_slice() => ROUNDS,
         Expected::This(Token::Finish) | Expected::This(Token::Register(_))
             if is_no_register(place) => no_register_advice(place),
-        Expected::Expression if matches!(place.last, b"(" | b"," | b"=") => {
-            in_expression_advice(place)
-        }
+        Expected::Expression if is_one_of("( , =", place.last) => in_expression_advice(place),
         _ => wanted_advice(place.wanted),
     }
 }
 
+// The sides, each with the word for the message from there.
+const SIDES: [(&str, &str); 2] = [
+    ("left", "; the message from the left is `L`"),
+    ("right", "; the message from the right is `R`"),
+];
+
 // Returns advice on a word inside an expression.
 fn in_expression_advice(place: Place) -> &'static str {
-    match (place.word, place.next) {
-        (b"left", b"(" | b")" | b"," | b"." | b"_" | b"send" | b"finish") =>
-            "; the message from the left is `L`",
-        (b"right", b"(" | b")" | b"," | b"." | b"_" | b"send" | b"finish") =>
-            "; the message from the right is `R`",
-        _ => wanted_advice(place.wanted),
+    if is_one_of("( ) , . _ send finish", place.next) {
+        return advice_in(&SIDES, place.word).unwrap_or(wanted_advice(place.wanted));
     }
+    wanted_advice(place.wanted)
 }
 
 // Returns advice on a word where a round can follow.
@@ -361,7 +351,7 @@ fn round_advice(place: Place) -> &'static str {
         b"finish" => ROUNDS,
         b"send" => "; a round begins with the word `round`",
         _ if is_no_register(place) => no_register_advice(place),
-        [b'r', b'0'..=b'9', ..] if matches!(place.next, b"=") => {
+        word if begins_register(word) && place.next == b"=".as_slice() => {
             "; each register is assigned once, then comes `round`"
         }
         _ => "",

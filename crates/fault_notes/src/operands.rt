@@ -4,24 +4,24 @@ use crate::around::{is_token, open_operation};
 use crate::words::advice_in;
 
 // The operations, each with advice on the number of its operands.
-const OPERANDS: [(&[u8], &str); 17] = [
-    (b"not", "; `not` takes 1 operand"),
-    (b"and", "; `and` takes 2 operands"),
-    (b"or", "; `or` takes 2 operands"),
-    (b"xor", "; `xor` takes 2 operands"),
-    (b"shl", "; `shl` takes 2 operands"),
-    (b"shr", "; `shr` takes 2 operands"),
-    (b"add", "; `add` takes 2 operands"),
-    (b"sub", "; `sub` takes 2 operands"),
-    (b"min", "; `min` takes 2 operands"),
-    (b"max", "; `max` takes 2 operands"),
-    (b"ldb", "; `ldb` takes 2 operands"),
-    (b"bit", "; `bit` takes 2 operands"),
-    (b"eq", "; `eq` takes 2 operands"),
-    (b"ne", "; `ne` takes 2 operands"),
-    (b"lt", "; `lt` takes 2 operands"),
-    (b"le", "; `le` takes 2 operands"),
-    (b"if", "; `if` takes 3 operands"),
+const OPERANDS: [(&str, &str); 17] = [
+    ("not", "; `not` takes 1 operand"),
+    ("and", "; `and` takes 2 operands"),
+    ("or", "; `or` takes 2 operands"),
+    ("xor", "; `xor` takes 2 operands"),
+    ("shl", "; `shl` takes 2 operands"),
+    ("shr", "; `shr` takes 2 operands"),
+    ("add", "; `add` takes 2 operands"),
+    ("sub", "; `sub` takes 2 operands"),
+    ("min", "; `min` takes 2 operands"),
+    ("max", "; `max` takes 2 operands"),
+    ("ldb", "; `ldb` takes 2 operands"),
+    ("bit", "; `bit` takes 2 operands"),
+    ("eq", "; `eq` takes 2 operands"),
+    ("ne", "; `ne` takes 2 operands"),
+    ("lt", "; `lt` takes 2 operands"),
+    ("le", "; `le` takes 2 operands"),
+    ("if", "; `if` takes 3 operands"),
 ];
 
 // Returns advice on the number of operands of the operation whose bracket is open at the end of a
@@ -39,7 +39,7 @@ pub(crate) fn is_operation(word: &[u8]) -> bool {
 // there, without a bracket between. One with a number may be a name of its own, and has no advice.
 pub(crate) fn bracket_advice(word: &[u8]) -> Option<&'static str> {
     for (name, _) in &OPERANDS {
-        match word.strip_prefix(*name) {
+        match word.strip_prefix(name.as_bytes()) {
             Some([b'0'..=b'9', ..]) => return Some(""),
             Some(operand) if is_token(operand) => return Some("; a `(` is missing in it"),
             _ => {}

@@ -10,7 +10,7 @@ use crate::tex::backslash_advice;
 use crate::wanted::{ASSIGNED, wanted_advice};
 use crate::words::is_word_byte;
 use node_lang::{Expected, Token};
-use source_places::by_beginning;
+use source_places::{by_beginning, is_one_of};
 
 const COMMENT: &str = "; a comment begins with `#`";
 
@@ -36,6 +36,15 @@ const UNBRACKETED: &str = "; leave this bracket out";
 
 const NO_TEXTS: &str = "; there are no texts in programs";
 
+const NO_TEXT_HERE: &str = "; there are no texts in programs: write a number";
+
+const NO_SIGN_HERE: &str =
+    "; numbers have no sign: `shl(a, k)` and `shr(a, k)` shift to either side";
+
+const NOTHING_SENT: &str = "; write 0 where nothing is sent";
+
+const NOTHING_FOLLOWS: &str = "; nothing follows the expression of `finish`";
+
 const UNQUOTED: &str = "; there are no texts in programs: leave out the quotation marks";
 
 const NO_NAMES: &str = "; registers are `r0` to `r7`, and have no other names";
@@ -46,6 +55,9 @@ const QUOTED: &str = "; leave out the quotation marks around the program";
 
 const LINK: &str =
     "; this is a part of a link, in which `%0A` stands for a line feed and `%20` for a blank";
+
+const BLANK_IN_LINK: &str =
+    "; this is a part of a link, in which `+` stands for a blank and `%0A` for a line feed";
 
 const SHELL: &str = "; this is a command of the shell: leave it out";
 
@@ -212,6 +224,17 @@ const AFTER_NUMBERS: [(&[u8], &str); 23] = [
     (b"_", "; numbers and registers have no `_`"),
     (b"..", "; one number is written here, not a range"),
     (b".", WHOLE),
+];
+
+// Marks after the expression of `finish`.
+const AFTER_PROGRAMS: [(&[u8], &str); 4] = [
+    (b"\"", NOTHING_FOLLOWS),
+    (b"'", NOTHING_FOLLOWS),
+    (b"`", NOTHING_FOLLOWS),
+    (
+        b"; ",
+        "; lines end without a mark, and a comment begins with `#`",
+    ),
 ];
 
 // Characters in HTML for the marks of operations.
@@ -446,11 +469,15 @@ pub(crate) fn has_one(text: &[u8], parts: &[&[u8]]) -> bool {
 // Returns whether a text begins with a part of a link: `%` and two hexadecimal digits, in a text with
 // one that no program has.
 fn is_linked(place: Place) -> bool {
-    let is_part = matches!(
-        place.rest,
-        [b'%', b'0'..=b'7', b'0'..=b'9' | b'A'..=b'F' | b'a'..=b'f', ..]
-    );
-    is_part && (place.wanted == Expected::Number || has_one(place.rest, &LINKED))
+    is_escape(place.rest) && (place.wanted == Expected::Number || has_one(place.rest, &LINKED))
+}
+
+// Returns whether a text begins with `%` and two hexadecimal digits of a byte of ASCII.
+fn is_escape(text: &[u8]) -> bool {
+    match text {
+        [b'%', b'0'..=b'7', digit, ..] => digit.is_ascii_hexdigit(),
+        _ => false,
+    }
 }
 
 // Returns the number of letters, digits and `#` at the start.
@@ -532,7 +559,7 @@ fn behind_operand(place: Place) -> Option<&'static str> {
             "; registers are `r0` to `r7`, and have no marks",
         ),
         [b'.', b'0'..=b'9', ..] if !is_number(place.last) => Some(BIT),
-        [b'-', b'>', ..] if matches!(place.last, b"L" | b"R") => Some(NO_PARTS),
+        [b'-', b'>', ..] if is_one_of("L R", place.last) => Some(NO_PARTS),
         _ => None,
     }
 }
@@ -543,9 +570,7 @@ fn copied_advice(place: Place) -> Option<&'static str> {
         return Some(LINK);
     }
     if place.rest.starts_with(b"+") && has_one(place.rest, &LINKED) {
-        return Some(
-            "; this is a part of a link, in which `+` stands for a blank and `%0A` for a line feed",
-        );
+        return Some(BLANK_IN_LINK);
     }
     if is_entity(place.rest) {
         return Some(entity_advice(place));
@@ -553,41 +578,61 @@ fn copied_advice(place: Place) -> Option<&'static str> {
     if TAGS.iter().any(|tag| place.rest.starts_with(tag)) {
         return Some(TAG);
     }
-    match (place.wanted, place.rest) {
-        (Expected::This(Token::Rounds), text) if is_quoted(text) => Some(QUOTED),
-        (Expected::End, [b'"' | b'\'' | b'`', ..]) => Some(
-            "; nothing follows the expression of `finish`",
-        ),
-        (Expected::Expression, [b'>', ..]) if place.before.ends_with(b"=") => Some(ASSIGNED),
-        (Expected::Expression, [b'"' | b'\'', ..]) if !is_token(place.next) => Some(
-            "; there are no texts in programs: write a number",
-        ),
-        (Expected::Expression, [b'-', b'0'..=b'9', ..]) if is_distance(place) => Some(
-            "; numbers have no sign: `shl(a, k)` and `shr(a, k)` shift to either side",
-        ),
-        (Expected::Expression, [b'-' | b'_' | b'.', rest @ ..])
-            if is_nothing_sent(place.last, rest) => Some("; write 0 where nothing is sent"),
-        (_, [b'.', rest @ ..]) if place.wanted != Expected::Expression && ends_line(rest) => Some(
-            NO_MARK,
-        ),
-        (_, [b'.', b'A'..=b'Z' | b'_' | b'a'..=b'z', ..]) if matches!(place.last, b"L" | b"R") =>
-            Some(NO_PARTS),
-        (Expected::This(Token::Left) | Expected::This(Token::Right), [b'_', ..]) => Some(
-            "; write a blank, as in `send left 0`",
-        ),
-        (Expected::End, [b';', b' ', ..]) => Some(
-            "; lines end without a mark, and a comment begins with `#`",
-        ),
-        _ => behind_operand(place)
-            .or(backslash_advice(place))
-            .or(doubled_advice(place))
-            .or(prompt_advice(place)),
+    expected_advice(place)
+        .or(behind_operand(place))
+        .or(backslash_advice(place))
+        .or(doubled_advice(place))
+        .or(prompt_advice(place))
+}
+
+// Returns the advice on a mark that it has by what can follow.
+fn expected_advice(place: Place) -> Option<&'static str> {
+    match place.wanted {
+        Expected::This(Token::Rounds) if is_quoted(place.rest) => Some(QUOTED),
+        Expected::This(Token::Left) | Expected::This(Token::Right)
+            if place.rest.starts_with(b"_") => Some("; write a blank, as in `send left 0`"),
+        Expected::End => by_beginning(&AFTER_PROGRAMS, place.rest).or(dot_advice(place)),
+        Expected::Expression => operand_advice(place).or(dot_advice(place)),
+        _ => dot_advice(place),
+    }
+}
+
+// Returns advice on a mark where an expression can follow.
+fn operand_advice(place: Place) -> Option<&'static str> {
+    match place.rest {
+        [b'>', ..] if place.before.ends_with(b"=") => Some(ASSIGNED),
+        [b'"' | b'\'', ..] if !is_token(place.next) => Some(NO_TEXT_HERE),
+        [b'-', b'0'..=b'9', ..] if is_distance(place) => Some(NO_SIGN_HERE),
+        [b'-' | b'_' | b'.', rest @ ..] if is_nothing_sent(place.last, rest) => Some(NOTHING_SENT),
+        _ => None,
+    }
+}
+
+// Returns advice on a `.` at the end of a line, or behind a message.
+fn dot_advice(place: Place) -> Option<&'static str> {
+    let [b'.', rest @ ..] = place.rest else {
+        return None;
+    };
+    if place.wanted != Expected::Expression && ends_line(rest) {
+        return Some(NO_MARK);
+    }
+    if begins_name(rest) && is_one_of("L R", place.last) {
+        return Some(NO_PARTS);
+    }
+    None
+}
+
+// Returns whether a text begins with a letter or `_`.
+fn begins_name(text: &[u8]) -> bool {
+    match text {
+        [byte, ..] => *byte == b'_' || byte.is_ascii_alphabetic(),
+        [] => false,
     }
 }
 
 // Returns whether a place begins the second operand of a shift.
 fn is_distance(place: Place) -> bool {
-    place.last == b",".as_slice() && matches!(open_operation(place.before), b"shl" | b"shr")
+    place.last == b",".as_slice() && is_one_of("shl shr", open_operation(place.before))
 }
 
 // Returns whether only blanks and a comment stand before the end of the line.
@@ -597,7 +642,7 @@ fn ends_line(rest: &[u8]) -> bool {
 
 // Returns whether a mark stands in the place of a message, and nothing follows it on its line.
 fn is_nothing_sent(last: &[u8], rest: &[u8]) -> bool {
-    ends_line(rest) && matches!(last, b"left" | b"right")
+    ends_line(rest) && is_one_of("left right", last)
 }
 
 // Returns advice on the mark of a place that is not of the language.
@@ -672,12 +717,29 @@ pub(crate) fn byte_advice(before: &[u8], rest: &[u8]) -> &'static str {
     }
 }
 
+// The first bytes of letters with an accent and of blanks.
+const LETTERS: [(&[u8], &str); 12] = [
+    (
+        &[0xc3],
+        "; this is a letter with an accent: write a plain one",
+    ),
+    (&[0xe2, 0x80, 0x80], BLANK),
+    (&[0xe2, 0x80, 0x81], BLANK),
+    (&[0xe2, 0x80, 0x82], BLANK),
+    (&[0xe2, 0x80, 0x83], BLANK),
+    (&[0xe2, 0x80, 0x84], BLANK),
+    (&[0xe2, 0x80, 0x85], BLANK),
+    (&[0xe2, 0x80, 0x86], BLANK),
+    (&[0xe2, 0x80, 0x87], BLANK),
+    (&[0xe2, 0x80, 0x88], BLANK),
+    (&[0xe2, 0x80, 0x89], BLANK),
+    (&[0xe2, 0x80, 0x8a], BLANK),
+];
+
 // Returns advice on a byte above 127 of which no more is known.
 fn letter_advice(text: &[u8]) -> &'static str {
     match text {
-        [0xc3, 0x80..=0xbf, ..] => "; this is a letter with an accent: write a plain one",
-        [0xe2, 0x80, 0x80..=0x8a, ..] => BLANK,
-        [0xc2..=0xf4, 0x80..=0xbf, ..] => WRITE_ASCII,
+        [0xc2..=0xf4, 0x80..=0xbf, ..] => { by_beginning(&LETTERS, text).unwrap_or(WRITE_ASCII) }
         _ => "; the file may be Latin-1: save it as ASCII",
     }
 }

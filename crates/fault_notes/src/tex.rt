@@ -13,31 +13,31 @@ const NO_FEED: &str = "; this stands for a line feed only in other texts: begin 
 const NO_BACKSLASH: &str = "; a program has no `\\`";
 
 // Commands of TeX, each with what stands for it.
-const COMMANDS: [(&[u8], &str); 15] = [
+const COMMANDS: [(&str, &str); 15] = [
     (
-        b"begin documentclass usepackage text textrm texttt textbf textit mathrm mathit mathtt mathbf operatorname verb quad",
+        "begin documentclass usepackage text textrm texttt textbf textit mathrm mathit mathtt mathbf operatorname verb quad",
         COMMAND,
     ),
-    (b"neg lnot", "; write `not(a)`"),
-    (b"land wedge", "; write `and(a, b)`"),
-    (b"lor vee", "; write `or(a, b)`"),
-    (b"oplus", "; write `xor(a, b)`"),
-    (b"ne neq", "; write `ne(a, b)`"),
-    (b"leq le leqslant", "; write `le(a, b)` for a <= b"),
-    (b"geq ge geqslant", "; write `le(b, a)` for a >= b"),
-    (b"lt", "; write `lt(a, b)` for a < b"),
-    (b"gt", "; write `lt(b, a)` for a > b"),
-    (b"ll", "; write `shl(a, k)`"),
-    (b"gg", "; write `shr(a, k)`"),
+    ("neg lnot", "; write `not(a)`"),
+    ("land wedge", "; write `and(a, b)`"),
+    ("lor vee", "; write `or(a, b)`"),
+    ("oplus", "; write `xor(a, b)`"),
+    ("ne neq", "; write `ne(a, b)`"),
+    ("leq le leqslant", "; write `le(a, b)` for a <= b"),
+    ("geq ge geqslant", "; write `le(b, a)` for a >= b"),
+    ("lt", "; write `lt(a, b)` for a < b"),
+    ("gt", "; write `lt(b, a)` for a > b"),
+    ("ll", "; write `shl(a, k)`"),
+    ("gg", "; write `shr(a, k)`"),
     (
-        b"times cdot",
+        "times cdot",
         "; there is no product: twice x is `shl(x, 1)`",
     ),
     (
-        b"bmod mod pmod",
+        "bmod mod pmod",
         "; there is no remainder: that of 2 is `and(x, 1)`",
     ),
-    (b"gets leftarrow", "; an assignment is written `r0 = ..`"),
+    ("gets leftarrow", "; an assignment is written `r0 = ..`"),
 ];
 
 // Returns whether a word begins a line behind a mark for the end of the line before.

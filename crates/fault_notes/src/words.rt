@@ -6,7 +6,7 @@ ghost use Rattle.node_lang.specs.Words.{is_word_byte as word_byte};
 ghost use Rattle.fault_notes.specs.Words.{spelled, wanted_text, wanted_part, first_word as first};
 
 use node_lang::{Expected, Token};
-use source_places::first_of;
+use source_places::{first_of, is_one_of};
 use std::alloc::AllocError;
 use std::fmt::Write;
 
@@ -15,13 +15,6 @@ pub(crate) fn is_word_byte(byte: u8) -> bool
     ensures { result ≡ word_byte byte }
 {
     matches!(byte, b'0'..=b'9' | b'A'..=b'Z' | b'a'..=b'z')
-}
-
-// Returns the number of bytes before the first blank, or before the end.
-fn front_len(words: &[u8]) -> usize
-    ensures { result ≤ length words.now }
-{
-    words.iter().take_while(|byte| **byte != b' ').count()
 }
 
 // Returns the number of letters and digits at the start.
@@ -43,23 +36,10 @@ pub(crate) fn first_word(text: &[u8]) -> &[u8]
     first_of(text, len)
 }
 
-// Returns whether this is one of some words, which are parted by blanks.
-fn is_among(word: &[u8], words: &[u8]) -> bool {
-    let mut rest = words;
-    'words: while !rest.is_empty() {
-        let len = front_len(rest);
-        if &rest[..len] == word {
-            return true;
-        }
-        rest = &rest[len.saturating_add(1).min(rest.len())..];
-    }
-    false
-}
-
 // Returns the advice on a word in a table of words with advice.
-pub(crate) fn advice_in(table: &[(&[u8], &'static str)], word: &[u8]) -> Option<&'static str> {
+pub(crate) fn advice_in(table: &[(&str, &'static str)], word: &[u8]) -> Option<&'static str> {
     for (words, advice) in table {
-        if is_among(word, words) {
+        if is_one_of(words, word) {
             return Some(advice);
         }
     }

@@ -6,3 +6,4 @@ pub mod Lists
 pub mod Beginnings
 pub mod Kinds
 pub mod KindAdvice
+pub mod WordLists

@@ -11,6 +11,7 @@ mod lists;
 mod parts;
 mod places;
 mod shown;
+mod word_lists;
 
 pub use beginnings::by_beginning;
 pub use first_lines::line_kind;
@@ -19,3 +20,4 @@ pub use kinds::{TextKind, kind_advice};
 pub use lists::write_joined;
 pub use places::{after_line, column_of, first_line_len, from_line, line_of};
 pub use shown::{SHOWN_BYTES, first_of, write_escaped, write_marked_line, write_shown};
+pub use word_lists::is_one_of;

@@ -1,5 +1,7 @@
 //! Names that other programs have for commands and options, with what stands for them.
 
+use source_places::is_one_of;
+
 // What the name of a command or an option of other programs is for.
 #[derive(Clone, Copy)]
 pub(crate) enum Foreign {
@@ -138,11 +140,6 @@ impl Foreign {
             Foreign::Forms => "nbhd: a report has one form, which docs/LANGUAGE.md describes",
         }
     }
-}
-
-// Returns whether a word is one of some words with single spaces between them.
-pub(crate) fn is_one_of(words: &str, word: &[u8]) -> bool {
-    words.split(' ').any(|it| it.as_bytes() == word)
 }
 
 // Returns the line on a number of identifiers, or on one of them, at the command with this name.

@@ -1,6 +1,7 @@
 //! Advice on a word that `clap` refuses, which its text names. It promises nothing.
 
-use crate::foreign_names::{COMMANDS, Foreign, LABELLING, OPTIONS, file_line, is_one_of};
+use crate::foreign_names::{COMMANDS, Foreign, LABELLING, OPTIONS, file_line};
+use source_places::is_one_of;
 
 const NO_COMMAND: &str = "nbhd: the name of a command comes first, as in `nbhd check --ids 8`";
 
