@@ -8,7 +8,7 @@ use Rattle.win_index.specs.declared.limits.TheConstants.{MAX_ROUNDS}
 use Rattle.win_index.specs.ShapeRange.{IsShape}
 use Rattle.win_index.specs.Windows.{windows}
 use Rattle.table_notes.specs.TableSizes.{sizes_then, HasShape, IsDue}
-use Rattle.decimal_texts.proofs.NumberTexts.{field_once}
+use Rattle.numerals.proofs.NumberTexts.{field_once}
 
 -- a line begins with one pair of sizes
 sizes_once : (t m u n : ℕ) (x y : List ℕ) → t < 2 ^ 32 → m < 2 ^ 32 → u < 2 ^ 32 → n < 2 ^ 32

@@ -1,7 +1,7 @@
 //! Advice on the second line of a table text.
 
-use decimal_texts::field;
 use node_program::MAX_CHANNELS;
+use numerals::field;
 use win_index::MAX_ROUNDS;
 
 const CHANNELS: &str = "; `channels` is 1 to 4096";

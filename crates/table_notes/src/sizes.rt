@@ -5,7 +5,7 @@ ghost use Rattle.win_index.specs.declared.limits.TheConstants.{MAX_ROUNDS};
 ghost use Rattle.win_index.specs.ShapeRange.{IsShape};
 ghost use Rattle.table_notes.specs.TableSizes.{sizes_then, HasShape};
 
-use decimal_texts::field;
+use numerals::field;
 use source_places::after_line;
 use win_index::{MAX_ROUNDS, Shape};
 

@@ -7,8 +7,8 @@ ghost use Rattle.table_notes.specs.TableNotes.{long_note, IsFormNote, IsWindowNo
 
 use crate::headers::header_advice;
 use crate::sizes::shape_of;
-use decimal_texts::field;
 use node_program::OutOfMemory;
+use numerals::field;
 use source_places::{
     TextKind, first_line_len, kind_advice, write_joined, write_marked_line, write_place_head,
 };

@@ -13,7 +13,7 @@ use Rattle.table_text.specs.TableText.{Written, ids_then, entry_then, entries_th
 use Rattle.table_text.specs.LineForms.{AreSizes, IsSeparationOf, IsEntry}
 use Rattle.table_text.specs.Texts.{IsBegunText, IsWritten}
 use Rattle.table_text.proofs.IdTexts.{Fits32, ids_once}
-use Rattle.decimal_texts.proofs.NumberTexts.{field_once}
+use Rattle.numerals.proofs.NumberTexts.{field_once}
 use Rattle.table_text.proofs.Headers.{sizes_fit, sizes_once, title_once}
 
 ids_same : (ids x y : List ℕ) → ids_then ids x ≡ ids_then ids y → x ≡ y

@@ -14,8 +14,8 @@ use crate::odometer::Odometer;
 use crate::piece::{Piece, Pieces};
 use crate::version::Version;
 use channel_tables::Separation;
-use decimal_texts::{after, field};
 use node_program::MAX_CHANNELS;
+use numerals::{after, field};
 use win_index::{MAX_ROUNDS, MAX_WINDOW_LEN, Shape};
 
 // The first three numbers of the second line.

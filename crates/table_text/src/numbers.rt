@@ -3,7 +3,7 @@
 ghost use Rattle.std.specs.Prelude.{◌≡◌, ◌<◌, ◌^◌, ℕ, List, All, length, IfSome, IfNone};
 ghost use Rattle.table_text.specs.TableText.{ids_then};
 
-use decimal_texts::number_before;
+use numerals::number_before;
 
 // Fills `numbers` with the numbers at the start of a text, each followed by a blank, and returns
 // the text after them.

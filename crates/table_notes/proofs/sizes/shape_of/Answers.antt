@@ -1,6 +1,6 @@
 use Rattle.std.proofs.Common.{sym, ◌∙◌}
 use Rattle.std.proofs.lemmas.Option.{IfSome_then}
-use Rattle.decimal_texts.proofs.Options.{IfNone_then}
+use Rattle.numerals.proofs.Options.{IfNone_then}
 use Rattle.table_notes.proofs.Shapes.{shape_once, no_shape}
 use Rattle.table_notes.proofs.sizes.shape_of.Goals as goal
 

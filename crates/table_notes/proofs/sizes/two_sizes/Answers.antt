@@ -1,6 +1,6 @@
 use Rattle.std.proofs.Common.{sym, ◌∙◌, arith}
 use Rattle.std.specs.Prelude.{codes}
-use Rattle.decimal_texts.proofs.NumberTexts.{field_once}
+use Rattle.numerals.proofs.NumberTexts.{field_once}
 use Rattle.table_notes.proofs.sizes.two_sizes.Goals as goal
 
 pub returns-in_err-ids-clause-none : goal.returns-in_err-ids-clause-none

@@ -10,7 +10,7 @@ use Rattle.std.proofs.lemmas.List.{append_cancel_left}
 use Rattle.std.proofs.lemmas.Fmt.{decimal_is_IsNumeral, decimal_digit, first_decimal, IsAscii-decimal, decimal_injective, decimal-digits_value}
 use Rattle.std.proofs.lemmas.Str.{IsUtf8-from_ascii}
 use Rattle.std.proofs.lemmas.Str.Parse.{digit_at, digit_from_value, without_leading_plus_none, numerals_by_value, tells_digits}
-use Rattle.decimal_texts.specs.Bytes.{Lacks}
+use Rattle.numerals.specs.Bytes.{Lacks}
 
 digits : (n : ℕ) → n < 2 ^ 32 → IsNumeral 10 (decimal n)
 digits n small = (decimal_is_IsNumeral n (omega arith)).0

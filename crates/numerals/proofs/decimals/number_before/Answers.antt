@@ -1,8 +1,8 @@
 use Rattle.std.proofs.Common.{sym, subst, ◌∙◌}
 use Rattle.std.specs.Fmt.{decimal}
-use Rattle.decimal_texts.specs.Bytes.{Lacks}
-use Rattle.decimal_texts.proofs.NumberTexts.{no_cut, one_cut, lacks_decimal}
-use Rattle.decimal_texts.proofs.numbers.number_before.Goals as goal
+use Rattle.numerals.specs.Bytes.{Lacks}
+use Rattle.numerals.proofs.NumberTexts.{no_cut, one_cut, lacks_decimal}
+use Rattle.numerals.proofs.decimals.number_before.Goals as goal
 
 pub returns-in_err-word-clause-none : goal.returns-in_err-word-clause-none
 returns-in_err-word-clause-none c =

@@ -1,7 +1,7 @@
 use Rattle.std.proofs.Common.{◌≢◌, ◌≡◌, ℕ, rules, tests}
 use Rattle.std.proofs.lemmas.Iterator.{IsFirst-from_position, YieldsList-from_slice}
-use Rattle.decimal_texts.proofs.FirstByte.{first_byte}
-use Rattle.decimal_texts.proofs.numbers.place_of.Goals as goal
+use Rattle.numerals.proofs.FirstByte.{first_byte}
+use Rattle.numerals.proofs.decimals.place_of.Goals as goal
 
 pub returns : goal.returns
 returns c =

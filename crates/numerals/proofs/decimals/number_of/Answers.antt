@@ -1,7 +1,7 @@
 use Rattle.std.proofs.Common.{sym, subst, ◌∙◌}
 use Rattle.std.specs.Str.{IsUtf8}
-use Rattle.decimal_texts.proofs.NumberTexts.{signed_word, padded_word, utf8_digits, digits_parse, parsed_word}
-use Rattle.decimal_texts.proofs.numbers.number_of.Goals as goal
+use Rattle.numerals.proofs.NumberTexts.{signed_word, padded_word, utf8_digits, digits_parse, parsed_word}
+use Rattle.numerals.proofs.decimals.number_of.Goals as goal
 
 pub returns-then-is_signed-clause-none : goal.returns-then-is_signed-clause-none
 returns-then-is_signed-clause-none c n small same = signed_word c.args.word.now n (sym c.is_signed.ensures ∙ c.if-is_signed.true) small same

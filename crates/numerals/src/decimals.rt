@@ -2,7 +2,7 @@
 
 ghost use Rattle.std.specs.Prelude.{◌≡◌, ◌==◌, ◌<◌, ◌&&◌, ◌^◌, ℕ, List, ◌∷◌, ◌++◌, nat_lt, length, slice_index, MatchOption, IfSome, IfNone};
 ghost use Rattle.std.specs.Fmt.{decimal};
-ghost use Rattle.decimal_texts.specs.Bytes.{Lacks, IsFirstByte};
+ghost use Rattle.numerals.specs.Bytes.{Lacks, IsFirstByte};
 
 // Returns the index of the first byte of this value.
 fn place_of(text: &[u8], end: u8) -> Option<usize>

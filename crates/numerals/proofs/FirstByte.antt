@@ -4,7 +4,7 @@ use Rattle.std.specs.Prelude.{MatchOption}
 use Rattle.std.specs.List.{AllWithin, HoldsAt}
 use Rattle.std.proofs.lemmas.List.{drop_more, get_or-take, length-take-le, take-append-drop}
 use Rattle.std.proofs.lemmas.List.Elements.{recursion_from_All}
-use Rattle.decimal_texts.specs.Bytes.{Lacks, IsFirstByte}
+use Rattle.numerals.specs.Bytes.{Lacks, IsFirstByte}
 
 -- what a search for the byte finds
 pub first_byte : (text : List ℕ) (end : ℕ) (r : Option ℕ)

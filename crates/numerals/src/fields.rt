@@ -3,7 +3,7 @@
 ghost use Rattle.std.specs.Prelude.{◌≡◌, ◌≢◌, ◌<◌, ◌^◌, ℕ, List, ◌∷◌, ◌++◌, MatchOption, IfSome, IfNone};
 ghost use Rattle.std.specs.Fmt.{decimal};
 
-use crate::numbers::number_before;
+use crate::decimals::number_before;
 
 /// Returns the text after this prefix, or `None` if the text does not begin with it.
 pub fn after<'a>(text: &'a [u8], beginning: &[u8]) -> Option<&'a [u8]>

@@ -1,6 +1,6 @@
 use Rattle.std.proofs.lemmas.Bool.Decides.{Decides-eqb}
 use Rattle.std.proofs.lemmas.Slice.Eq.{strip_prefix_is}
-use Rattle.decimal_texts.proofs.fields.after.Goals as goal
+use Rattle.numerals.proofs.fields.after.Goals as goal
 
 pub returns : goal.returns
 returns c = strip_prefix_is Decides-eqb c.args.text.now c.args.beginning.now c.strip_prefix.result c.strip_prefix.ensures.cases

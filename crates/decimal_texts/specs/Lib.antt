@@ -1,2 +1,0 @@
--- The definition that the proofs share.
-pub mod Bytes
