@@ -6,6 +6,7 @@ import re
 
 from grammar import OPERANDS, TOKENS
 
+KEYWORDS = ["rounds", "channels", "registers", "start", "round", "send", "left", "right", "finish"]
 OPERAND = re.compile(r"id|L|R|r[0-9]|[0-9]+")
 WORD = re.compile(r"[A-Za-z0-9]+")
 
@@ -86,9 +87,9 @@ def takes(place, name, count):
 
 
 def is_infix(place):
-    """An operation stands between an expression and an operand."""
+    """An operation stands between an expression and an operand, not at the start of a line."""
     is_begun = OPERAND.fullmatch(place.token(1)) or place.token(1) in OPERANDS or place.token(1) == "("
-    return place.token() in OPERANDS and place.ends_expression() and bool(is_begun) and not place.has_comma(1)
+    return place.token() in OPERANDS and place.ends_expression() and bool(is_begun) and not place.begins_line() and not place.has_comma(1)
 
 
 def is_comma_missing(place):
@@ -124,6 +125,42 @@ ROWS = [
         r"commas only separate operands, and one value is sent to each side",
         lambda place: place.token() == "," and not place.open_operations() and place.before[-2] in ("left", "right"),
     ),
+    (
+        r"`finish` has one expression, and commas only separate operands",
+        lambda place: place.token() == "," and not place.open_operations() and "finish" in place.before,
+    ),
+    (r"each assignment has one register", lambda place: place.token() == "," and place.is_in("`=`")),
+    (r"a number has no blanks", lambda place: is_number(place.last()) and is_number(place.token())),
+    (
+        r"each side has a `send` of its own: `send left ..`, then `send right ..`",
+        lambda place: place.before[-1] == "and" and {place.before[-2], place.token()} <= {"left", "right"},
+    ),
+    (
+        r"a round has one `send left` and one `send right`, then each register is assigned",
+        lambda place: place.token() == "send" and place.wanted.startswith("the assignment of r"),
+    ),
+    (
+        r"messages are sent at the start of a round, and there are as many rounds as `rounds` says",
+        lambda place: place.token() == "send" and place.is_in("`finish`"),
+    ),
+    (
+        r"an expression is missing before it: what follows `#` on a line is a comment",
+        lambda place: place.is_in("an expression") and place.begins_line() and "#" in place.line(1),
+    ),
+    (
+        r"this word has no value: numbers are written in digits",
+        lambda place: place.is_in("an expression") and place.token() in KEYWORDS and place.token(1) in (")", ","),
+    ),
+    (
+        r"a program begins with `rounds`: leave out what is before it",
+        lambda place: not place.before and "rounds" in place.rest and place.token() != "rounds",
+    ),
+    (
+        r"one expression is written here, and a comment begins with `#`",
+        lambda place: place.ends_expression() and not place.begins_line(),
+    ),
+    (r"a comment begins with `#`", lambda place: not place.begins_line() or not WORD.match(place.token())),
+    (r"the (?:greatest number is 4294967295|least number is 0)", lambda place: place.is_in("an expression") and place.token(1) != "("),
     (
         r"an assignment is written `r0 = ..`, without brackets",
         lambda place: place.wanted.startswith("the assignment of r") and place.token() == "(" and place.begins_line(),

@@ -208,7 +208,7 @@ ROWS = [
     (r"`(\w+)` takes (\d) operands?", operands),
     (r"a bracket is open", closed),
     (r"this bracket closes nothing", lambda place: [leave_out(place)]),
-    (r"commas only separate operands(?:, and one value is sent to each side)?", lambda place: [leave_out(place)]),
+    (r"(?:.* and )?commas only separate operands(?:, and one value is sent to each side)?", lambda place: [leave_out(place)]),
     (r"a comma is missing before it", lambda place: [put(place, ",")]),
     (r"the same word stands right before it", lambda place: [leave_out(place)]),
     (r"the same line stands right before it", without_line),

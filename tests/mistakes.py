@@ -49,8 +49,8 @@ BRACKETS = [
         "line 10, column 12: unexpected `r0`; expected `(`"
         "; the operands of an operation are written in brackets, as in `if(c, a, b)`",
     ),
-    ("finish r0", "finish [r0]", "line 10, column 8: unknown word `[`; expected an expression; leave this bracket out"),
-    ("finish r0", "finish {r0}", "line 10, column 8: unknown word `{`; expected an expression; leave this bracket out"),
+    ("finish r0", "finish [r0]", "line 10, column 8: unknown word `[`; expected an expression; leave such brackets out: operands stand in `(` and `)`, after the name of an operation"),
+    ("finish r0", "finish {r0}", "line 10, column 8: unknown word `{`; expected an expression; leave such brackets out: operands stand in `(` and `)`, after the name of an operation"),
     (
         "finish r0",
         "finish max[r0, 1]",
@@ -228,7 +228,7 @@ INFIX = [
         "finish r0 ? 1 : 0",
         "line 10, column 11: unknown word `?`; expected the end of the text; write `if(c, a, b)`",
     ),
-    ("finish r0", "finish r0 && 1", "line 10, column 11: unknown word `&`; expected the end of the text; write `and(a, b)`"),
+    ("finish r0", "finish r0 && 1", "line 10, column 11: unknown word `&`; expected the end of the text; write `and(a, b)`, which is bit by bit: a number is made 0 or 1 by `ne(a, 0)`"),
     ("finish r0", "finish r0 || 1", "line 10, column 11: unknown word `|`; expected the end of the text; write `or(a, b)`"),
     (
         "r0 = id",
@@ -268,7 +268,7 @@ INFIX = [
     (
         "finish r0",
         "finish 1,000",
-        "line 10, column 9: unexpected `,`; expected the end of the text; commas only separate operands",
+        "line 10, column 9: unexpected `,`; expected the end of the text; `finish` has one expression, and commas only separate operands",
     ),
     ("finish r0", "finish 1e3", "line 10, column 8: unknown word `1e3`; expected an expression; a number has only digits"),
     ("finish r0", "finish 5u", "line 10, column 8: unknown word `5u`; expected an expression; a number has only digits"),
@@ -278,7 +278,7 @@ INFIX = [
     (
         "finish r0",
         "finish r0, r0",
-        "line 10, column 10: unexpected `,`; expected the end of the text; commas only separate operands",
+        "line 10, column 10: unexpected `,`; expected the end of the text; `finish` has one expression, and commas only separate operands",
     ),
 ]
 

@@ -25,7 +25,7 @@ SAID = {
     "report": "this is output of nbhd",
     "picture": "this is a picture, not a text",
     "page": "this is a page in HTML: save the text alone",
-    "wide": "the file is UTF-16: save it as ASCII",
+    "wide": "the file is UTF-16 or UTF-32: save it as ASCII",
     **{f"packed by {program}": f"the file is packed: `{program}` unpacks it" for program in PACKED.values()},
 }
 

@@ -3,7 +3,10 @@
 
 ghost use Rattle.std.specs.Prelude.{◌≤◌, length};
 
-use crate::around::{Place, is_joined, is_keyword, is_number, is_operand, is_wanted, last_line};
+use crate::around::{
+    Place, begins_line, follows_expression, has_rounds, is_joined, is_keyword, is_number,
+    is_operand, is_wanted, last_line,
+};
 use crate::operands::{bracket_advice, is_operation, operands_advice};
 use crate::signs::{has_one, mark_advice};
 use crate::wanted::{ASSIGNED, missing_word};
@@ -14,6 +17,8 @@ use source_places::is_one_of;
 const UNEQUAL: &str = "; write `ne(a, b)`, or `eq(x, 0)` where x is to be 0";
 
 pub(crate) const OPEN: &str = "; a bracket is open";
+
+const COMMENT: &str = "; a comment begins with `#`";
 
 const HIDDEN: &str = "; a comment goes up to the end of its line";
 
@@ -66,8 +71,8 @@ const OPERATIONS: [(&str, &str); 38] = [
         "minus diff subtract",
         "; write `sub(a, b)`, which stops at 0; numbers are 0 to 4294967295",
     ),
-    ("inc incr succ", "; write `add(a, 1)`"),
-    ("dec decr pred", "; write `sub(a, 1)`, which stops at 0"),
+    ("inc incr", "; write `add(a, 1)`"),
+    ("dec decr", "; write `sub(a, 1)`, which stops at 0"),
     (
         "neg negate",
         "; numbers have no sign; `not(a)` is 4294967295 - a",
@@ -76,7 +81,7 @@ const OPERATIONS: [(&str, &str); 38] = [
     ("maximum", "; write `max(a, b)`"),
     ("minimum", "; write `min(a, b)`"),
     ("then else elif elsif elseif endif fi", IF),
-    ("ite cond case switch select choose mux when", IF),
+    ("ite cond case switch select choose mux when match", IF),
     ("iff xnor", "; for 0 and 1, write `eq(a, b)`"),
     ("lsh lshift sll", "; write `shl(a, k)`"),
     ("rsh rshift srl", "; write `shr(a, k)`"),
@@ -103,11 +108,13 @@ const OPERATIONS: [(&str, &str); 38] = [
     ),
     ("rand random", "; nothing is random"),
     ("receive received receives recv", RECEIVED),
-    ("REM dnl", "; a comment begins with `#`"),
+    ("REM dnl", COMMENT),
 ];
 
 // Words of other languages that are operations with a bracket, and otherwise names.
-const FUNCTIONS: [(&str, &str); 2] = [
+const FUNCTIONS: [(&str, &str); 4] = [
+    ("succ", "; write `add(a, 1)`"),
+    ("pred", "; write `sub(a, 1)`, which stops at 0"),
     (
         "popcount",
         "; there is no such operation: add `bit(x, 0)`, `bit(x, 1)` and so on",
@@ -119,14 +126,22 @@ const FUNCTIONS: [(&str, &str); 2] = [
 ];
 
 // Words where an expression is expected.
-const EXPRESSIONS: [(&str, &str); 9] = [
+const EXPRESSIONS: [(&str, &str); 11] = [
+    (
+        "Math math std np numpy",
+        "; an operation has no word before it, as in `min(a, b)`",
+    ),
+    (
+        "expr expression",
+        "; where this stands in the grammar, an expression is written, as `id` or `add(r0, 1)`",
+    ),
     ("null nil none None NULL nothing", "; write 0"),
     (
         "message messages msg neighbor neighbour neighbors neighbours",
         "; `L` and `R` are what the neighbours sent in this round",
     ),
-    ("true True TRUE", "; write 1"),
-    ("false False FALSE", "; write 0"),
+    ("true True TRUE yes", "; write 1"),
+    ("false False FALSE no", "; write 0"),
     (
         "l",
         "; the message from the left is `L`, and the digit is `1`",
@@ -262,10 +277,27 @@ fn side_in_expression(place: Place) -> Option<&'static str> {
     if place.word.eq_ignore_ascii_case(b"right") {
         return Some("; the message from the right is `R`");
     }
+    if let Some(advice) = extreme_advice(place) {
+        return Some(advice);
+    }
     if place.word.starts_with(b"3D") && place.before.ends_with(b"=") {
         return Some("; `=3D` is `=` in the code of mails, quoted-printable: write `=`");
     }
     advice_in(&CAPITALS, place.word)
+}
+
+// Words for the greatest and the least number.
+const EXTREMES: [(&str, &str); 2] = [
+    ("MAX Max", "; the greatest number is 4294967295"),
+    ("MIN Min", "; the least number is 0"),
+];
+
+// Returns advice on a word for the greatest or the least number, without operands.
+fn extreme_advice(place: Place) -> Option<&'static str> {
+    if place.next == b"(".as_slice() {
+        return None;
+    }
+    advice_in(&EXTREMES, place.word)
 }
 
 // The registers in capitals where an expression can follow.
@@ -321,20 +353,28 @@ fn capital_advice(place: Place) -> Option<&'static str> {
 }
 
 // Words at the start of a text.
-const FIRST: [(&str, &str); 3] = [
-    ("REM dnl", "; a comment begins with `#`"),
+const FIRST: [(&str, &str); 4] = [
+    ("REM dnl", COMMENT),
+    (
+        "http https",
+        "; this is an address: its text is saved in a file, and `< FILE` gives it",
+    ),
     ("ids", IDENTIFIERS),
     ("near far", DISTANCES),
 ];
 
 // Words at the other places of the header.
-const HEADER: [(&str, &str); 2] = [("ids", IDENTIFIERS), ("near far", DISTANCES)];
+const HEADER: [(&str, &str); 3] = [
+    ("REM dnl", COMMENT),
+    ("ids", IDENTIFIERS),
+    ("near far", DISTANCES),
+];
 
 // Returns advice on an unknown word in the header, or where a mark can follow.
 fn header_advice(place: Place) -> &'static str {
     let known = match place.wanted {
         Expected::This(Token::Open) | Expected::This(Token::Equals) => None,
-        Expected::This(Token::Rounds) => first_advice(place.word),
+        Expected::This(Token::Rounds) => first_advice(place),
         Expected::Number if has_base(place.word) => Some(DECIMAL),
         _ => advice_in(&HEADER, place.word),
     };
@@ -342,11 +382,15 @@ fn header_advice(place: Place) -> &'static str {
 }
 
 // Returns advice on an unknown word at the start of a text.
-fn first_advice(word: &[u8]) -> Option<&'static str> {
-    if word.starts_with(b"cm91bmRz") {
+fn first_advice(place: Place) -> Option<&'static str> {
+    if place.word.starts_with(b"cm91bmRz") {
         return Some("; this is a program in base64: `base64 -d` decodes it");
     }
-    advice_in(&FIRST, word)
+    let known = advice_in(&FIRST, place.word);
+    if known.is_none() && has_rounds(place.rest) {
+        return Some("; a program begins with `rounds`: leave out what is before it");
+    }
+    known
 }
 
 // Returns whether a word is a number in another base.
@@ -365,9 +409,14 @@ fn side_advice(word: &[u8]) -> &'static str {
     ""
 }
 
+// Returns advice on a word of other languages for an operation.
+fn foreign_operation(word: &[u8]) -> Option<&'static str> {
+    advice_in(&OPERATIONS, word)
+}
+
 // Returns advice on an unknown word where an expression can follow.
 fn expression_advice(place: Place) -> &'static str {
-    if let Some(advice) = advice_in(&OPERATIONS, place.word) {
+    if let Some(advice) = foreign_operation(place.word) {
         return advice;
     }
     if stands_before_expression(place) {
@@ -395,6 +444,7 @@ fn stands_before_expression(place: Place) -> bool {
 // Returns whether a word is a name for what comes from the left.
 fn is_of_left(word: &[u8]) -> bool {
     matches!(word, [b'L', b'0'..=b'9', ..])
+        || is_one_of("pred prev previous", word)
         || word.starts_with(b"left")
         || word.ends_with(b"Left")
         || word.ends_with(b"left")
@@ -402,7 +452,10 @@ fn is_of_left(word: &[u8]) -> bool {
 
 // Returns whether a word is a name for what comes from the right.
 fn is_of_right(word: &[u8]) -> bool {
-    word.starts_with(b"right") || word.ends_with(b"Right") || word.ends_with(b"right")
+    is_one_of("succ next", word)
+        || word.starts_with(b"right")
+        || word.ends_with(b"Right")
+        || word.ends_with(b"right")
 }
 
 // Returns advice on a word in the place of an expression, of which nothing else is known.
@@ -429,7 +482,7 @@ fn line_advice(place: Place) -> &'static str {
         Expected::This(Token::Send) => advice_in(&MESSAGES, place.word),
         _ => advice_in(&LINES, place.word),
     };
-    let operation = advice_in(&OPERATIONS, place.word);
+    let operation = foreign_operation(place.word);
     operation.or(known).unwrap_or(between_advice(place))
 }
 
@@ -449,16 +502,21 @@ fn begins_assignment(place: Place) -> bool {
 // Returns advice on a word of which nothing is known, after an expression or where a line begins.
 fn between_advice(place: Place) -> &'static str {
     match place.wanted {
-        Expected::This(Token::Register(_)) => spelling_advice(place.word),
         Expected::This(Token::Comma) => "; operands are separated by commas",
         Expected::This(Token::Close) => OPEN,
+        Expected::End => missing_word(place.wanted),
+        _ if follows_expression(place) =>
+            "; one expression is written here, and a comment begins with `#`",
+        _ if !begins_line(place) => COMMENT,
+        Expected::This(Token::Register(_)) => spelling_advice(place.word),
         _ => missing_word(place.wanted),
     }
 }
 
 // Returns advice on a number that is not in its range: others may follow it.
 pub(crate) fn range_advice(place: Place) -> &'static str {
-    if place.next == b".".as_slice() && place.second == b".".as_slice() {
+    let has_dots = place.next == b".".as_slice() && place.second == b".".as_slice();
+    if has_dots || place.next == b"-".as_slice() {
         return "; one number is written here, not a range";
     }
     ""

@@ -66,6 +66,18 @@ fn last_words(text: &[u8]) -> (&[u8], &[u8]) {
     (previous, last)
 }
 
+// Returns whether the word `rounds` stands in a text, outside of comments.
+pub(crate) fn has_rounds(text: &[u8]) -> bool {
+    let mut at = 0;
+    'tokens: while let Some(placed) = token_from(text, at) {
+        if placed.token == Token::Rounds {
+            return true;
+        }
+        at = placed.end;
+    }
+    false
+}
+
 // Returns the number of registers that the header of a program says.
 pub(crate) fn registers_in(text: &[u8]) -> Option<u32> {
     let mut is_told = false;
@@ -182,6 +194,12 @@ pub(crate) fn after_blanks(text: &[u8]) -> &[u8] {
 // Returns whether only blanks stand between a place and the start of its line.
 pub(crate) fn begins_line(place: Place) -> bool {
     is_blank(last_line(place.before))
+}
+
+// Returns whether a place begins a line after one with a comment.
+pub(crate) fn follows_comment(place: Place) -> bool {
+    let lines = &place.before[..place.before.len() - last_line_len(place.before)];
+    begins_line(place) && ends_in_comment(lines.strip_suffix(b"\n").unwrap_or(lines))
 }
 
 // Returns whether the token before a place is on its line, and the first one there.

@@ -4,8 +4,8 @@
 
 use crate::advice::OPEN;
 use crate::around::{
-    Place, begins_line, begins_register, follows_expression, follows_first_word, has_comma,
-    has_operands, is_end, is_number, is_operand, is_register, is_repeated, is_wanted,
+    Place, begins_line, begins_register, follows_comment, follows_expression, follows_first_word,
+    has_comma, has_operands, is_end, is_number, is_operand, is_register, is_repeated, is_wanted,
     open_operation, registers_in,
 };
 use crate::operands::{is_operation, operands_advice};
@@ -43,6 +43,20 @@ const COMPARED: [(&[u8], &str); 7] = [
     (b"=<", "; write `le(a, b)` for a <= b"),
     (b"=>", "; write `le(b, a)` for a >= b"),
 ];
+
+const BOTH_SIDES: &str =
+    "; each side has a `send` of its own: `send left ..`, then `send right ..`";
+
+const TWO_SENDS: &str =
+    "; a round has one `send left` and one `send right`, then each register is assigned";
+
+const SENT_IN_ROUNDS: &str =
+    "; messages are sent at the start of a round, and there are as many rounds as `rounds` says";
+
+const COMMENTED: &str =
+    "; an expression is missing before it: what follows `#` on a line is a comment";
+
+const NO_VALUE: &str = "; this word has no value: numbers are written in digits";
 
 const REGISTERS: &str = "; `registers` says how many registers there are, from r0 on";
 
@@ -141,6 +155,7 @@ fn equals_advice(place: Place) -> &'static str {
 fn open_advice(place: Place) -> &'static str {
     match place.wanted {
         Expected::This(Token::Rounds) => comment_advice(place.rest),
+        _ if place.rest.starts_with(b"(*") => comment_advice(place.rest),
         Expected::Expression if has_comma(place.rest) && place.last != b"(".as_slice() => {
             "; the name of an operation is missing before it"
         }
@@ -175,7 +190,11 @@ fn comma_advice(place: Place) -> &'static str {
     if is_operand(place.last) && is_one_of("left right", place.previous) {
         return "; commas only separate operands, and one value is sent to each side";
     }
-    "; commas only separate operands"
+    match place.wanted {
+        Expected::This(Token::Equals) => "; each assignment has one register",
+        Expected::End => "; `finish` has one expression, and commas only separate operands",
+        _ => "; commas only separate operands",
+    }
 }
 
 // Returns whether the operation of a place stands between its operands: an expression ends before
@@ -183,7 +202,11 @@ fn comma_advice(place: Place) -> &'static str {
 fn is_infix(place: Place) -> bool {
     let is_bracket = place.next == b"(".as_slice();
     let has_operand = is_operand(place.next) || is_operation(place.next) || is_bracket;
-    is_end(place.last) && has_operand && !has_operands(place) && !is_one_of("not if", place.word)
+    is_end(place.last)
+        && has_operand
+        && !begins_line(place)
+        && !has_operands(place)
+        && !is_one_of("not if", place.word)
 }
 
 // Returns whether a place follows the expression of an assignment or of a message on its line.
@@ -214,7 +237,7 @@ fn operation_advice(place: Place) -> &'static str {
         Expected::This(Token::Comma) if has_bracket => COMMA,
         _ if has_bracket && ends_line_of(place) => second_advice(place),
         Expected::This(Token::Comma) => "",
-        _ if has_bracket || is_if => statement_advice(place),
+        _ if has_bracket || is_if || begins_line(place) => statement_advice(place),
         _ => known_advice(place),
     }
 }
@@ -251,7 +274,13 @@ fn no_register_advice(place: Place) -> &'static str {
 
 // Returns whether a place is that of an operand which is no register and stands before `=`.
 fn is_wrong_target(place: Place) -> bool {
-    is_operand(place.word) && !is_register(place.word) && place.next == b"=".as_slice()
+    is_operand(place.word) && !is_register(place.word) && is_assigned(place)
+}
+
+// Returns whether `=` or an arrow follows the word of a place.
+fn is_assigned(place: Place) -> bool {
+    place.next == b"=".as_slice()
+        || place.next == b"-".as_slice() && place.second == b">".as_slice()
 }
 
 // Returns advice on an operand before `=`.
@@ -309,6 +338,8 @@ fn known_advice(place: Place) -> &'static str {
     match place.wanted {
         Expected::This(Token::Comma) if is_operand(place.word) => operand_advice(place),
         Expected::This(Token::Comma) => operands_advice(place.before),
+        Expected::This(Token::Close) if is_number(place.last) && is_number(place.word) =>
+            "; a number has no blanks",
         Expected::This(Token::Close) if is_operand(place.word) && place.next != b"=".as_slice() =>
             operands_advice(place.before),
         Expected::This(Token::Close) => OPEN,
@@ -319,7 +350,10 @@ fn known_advice(place: Place) -> &'static str {
         _ if is_second_operand(place) => second_advice(place),
         Expected::This(Token::Rounds) if has_numbers(place) =>
             "; leave out the numbers of the lines",
+        Expected::This(Token::Open) if are_sides(place) => BOTH_SIDES,
         Expected::This(Token::Round) => round_advice(place),
+        Expected::This(Token::Register(_)) if place.word == b"send".as_slice() => TWO_SENDS,
+        Expected::This(Token::Finish) if place.word == b"send".as_slice() => SENT_IN_ROUNDS,
         Expected::This(Token::Left) | Expected::This(Token::Right) if is_sent(place.word) => {
             "; the side comes before the expression, as in `send left 0`"
         }
@@ -327,8 +361,16 @@ fn known_advice(place: Place) -> &'static str {
         Expected::This(Token::Finish) | Expected::This(Token::Register(_))
             if is_no_register(place) => no_register_advice(place),
         Expected::Expression if is_one_of("( , =", place.last) => in_expression_advice(place),
+        Expected::Expression if follows_comment(place) => COMMENTED,
         _ => wanted_advice(place.wanted),
     }
+}
+
+// Returns whether a place is that of the second side in `left and right`.
+fn are_sides(place: Place) -> bool {
+    place.last == b"and".as_slice()
+        && is_one_of("left right", place.previous)
+        && is_one_of("left right", place.word)
 }
 
 // The sides, each with the word for the message from there.
@@ -339,10 +381,16 @@ const SIDES: [(&str, &str); 2] = [
 
 // Returns advice on a word inside an expression.
 fn in_expression_advice(place: Place) -> &'static str {
+    let advice = wanted_advice(place.wanted);
     if is_one_of("( ) , . _ send finish", place.next) {
-        return advice_in(&SIDES, place.word).unwrap_or(wanted_advice(place.wanted));
+        let side = advice_in(&SIDES, place.word);
+        return side.unwrap_or(if is_one_of(") ,", place.next) {
+            NO_VALUE
+        } else {
+            advice
+        });
     }
-    wanted_advice(place.wanted)
+    advice
 }
 
 // Returns advice on a word where a round can follow.

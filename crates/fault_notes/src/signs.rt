@@ -3,8 +3,8 @@
 ghost use Rattle.std.specs.Prelude.{◌≤◌, length};
 
 use crate::around::{
-    Place, after_blanks, ends_in_comment, follows_expression, is_end, is_number, is_operand,
-    is_register, is_token, open_operation,
+    Place, after_blanks, begins_line, ends_in_comment, follows_expression, is_end, is_number,
+    is_operand, is_register, is_token, open_operation,
 };
 use crate::tex::backslash_advice;
 use crate::wanted::{ASSIGNED, wanted_advice};
@@ -32,7 +32,10 @@ const SIGN: &str = "; numbers have no sign";
 
 const OPERANDS: &str = "; operands are written in `(` and `)`";
 
-const UNBRACKETED: &str = "; leave this bracket out";
+const UNBRACKETED: &str =
+    "; leave such brackets out: operands stand in `(` and `)`, after the name of an operation";
+
+const BARE_NUMBER: &str = "; write one number in digits, without brackets";
 
 const NO_TEXTS: &str = "; there are no texts in programs";
 
@@ -157,8 +160,8 @@ const BEFORE_NUMBERS: [(&[u8], &str); 9] = [
     (b":", "; a number has no mark before it"),
     (b"//", COMMENT),
     (b"/*", COMMENT),
-    (b"[", UNBRACKETED),
-    (b"{", UNBRACKETED),
+    (b"[", BARE_NUMBER),
+    (b"{", BARE_NUMBER),
 ];
 
 // Marks where an expression is wanted.
@@ -261,7 +264,15 @@ const BETWEEN_OPERANDS: [(&[u8], &str); 8] = [
 ];
 
 // Marks where an opening bracket is wanted.
-const BEFORE_OPERANDS: [(&[u8], &str); 3] = [(b"[", OPERANDS), (b"{", OPERANDS), (b"<", OPERANDS)];
+const BEFORE_OPERANDS: [(&[u8], &str); 4] = [
+    (b"[", OPERANDS),
+    (b"{", OPERANDS),
+    (b"<", OPERANDS),
+    (
+        b"_",
+        "; the name of an operation has no `_`: bit 0 of a is `bit(a, 0)`",
+    ),
+];
 
 // Marks where the `=` of an assignment is wanted.
 const ASSIGNMENTS: [(&[u8], &str); 7] = [
@@ -275,7 +286,7 @@ const ASSIGNMENTS: [(&[u8], &str); 7] = [
 ];
 
 // Marks between the operands of an operation.
-const INFIX: [(&[u8], &str); 23] = [
+const INFIX: [(&[u8], &str); 26] = [
     (b"->", NO_ARROW),
     (b"<-", NO_ARROW),
     (b"~=", UNEQUAL),
@@ -297,7 +308,16 @@ const INFIX: [(&[u8], &str); 23] = [
     (b"/", HALF),
     (b"+", "; write `add(a, b)`"),
     (b"-", DIFFERENCE),
+    (
+        b"&&",
+        "; write `and(a, b)`, which is bit by bit: a number is made 0 or 1 by `ne(a, 0)`",
+    ),
     (b"&", "; write `and(a, b)`"),
+    (
+        b"`",
+        "; an operation is written before its operands, without marks, as in `xor(a, b)`",
+    ),
+    (b"!", "; an expression has no mark behind it"),
     (b"|", "; write `or(a, b)`"),
     (b"^", "; write `xor(a, b)`"),
     (b"?", "; write `if(c, a, b)`"),
@@ -348,7 +368,7 @@ const BYTES: [(&[u8], &str); 42] = [
     (&[0xc2, 0xb7], BULLET),
     (
         &[0xef, 0xbb, 0xbf],
-        "; this is a byte order mark: save the file without one",
+        "; this is a byte order mark: delete it, or save the file without one",
     ),
     (
         &[0xc2, 0xa0],
@@ -405,7 +425,16 @@ const BYTES: [(&[u8], &str); 42] = [
 ];
 
 // Bytes above 127 at the start of a text outside of comments.
-const SIGNS: [(&[u8], &str); 21] = [
+const SIGNS: [(&[u8], &str); 24] = [
+    (
+        &[0xc2, 0xb7],
+        "; a bullet is left out, and there is no product: twice x is `shl(x, 1)`",
+    ),
+    (&[0xe2, 0x8b, 0x85], PRODUCT),
+    (
+        &[0xc2, 0xb2],
+        "; there is no power: that of 2 is `shl(1, k)`",
+    ),
     (
         &[0xe2, 0x88, 0x92],
         "; this is a minus sign that is not ASCII: a difference is `sub(a, b)`, and numbers have no sign",
@@ -452,6 +481,9 @@ const TAGS: [&[u8]; 12] = [
     b"<br", b"<p>", b"</p", b"<div", b"</div", b"<span", b"</span", b"<pre", b"</pre", b"<code",
     b"</code", b"</",
 ];
+
+// Marks that begin a line of comments in other languages, of which some have another advice elsewhere.
+const COMMENTS: [&[u8]; 3] = [b";", b"{-", b"' "];
 
 // Parts of a link that stand for a line feed, a carriage return and `=`, which each program has.
 const LINKED: [&[u8]; 5] = [b"%0A", b"%0a", b"%0D", b"%3D", b"%3d"];
@@ -575,6 +607,9 @@ fn copied_advice(place: Place) -> Option<&'static str> {
     if is_entity(place.rest) {
         return Some(entity_advice(place));
     }
+    if begins_comment(place) {
+        return Some(COMMENT);
+    }
     if TAGS.iter().any(|tag| place.rest.starts_with(tag)) {
         return Some(TAG);
     }
@@ -583,6 +618,11 @@ fn copied_advice(place: Place) -> Option<&'static str> {
         .or(backslash_advice(place))
         .or(doubled_advice(place))
         .or(prompt_advice(place))
+}
+
+// Returns whether a place begins a line with a mark of a comment in other languages.
+fn begins_comment(place: Place) -> bool {
+    begins_line(place) && COMMENTS.iter().any(|mark| place.rest.starts_with(mark))
 }
 
 // Returns the advice on a mark that it has by what can follow.

@@ -11,7 +11,7 @@ const BINARY: &str = "; this may be a proof in binary: `cadical --no-binary` wri
 // Returns whether a line has a blank too many.
 fn has_wrong_blanks(line: &[u8]) -> bool {
     let is_doubled = (1..line.len()).any(|index| line[index - 1] == b' ' && line[index] == b' ');
-    is_doubled || line.contains(&b'\t') || matches!(line, [b' ', ..] | [.., b' '])
+    is_doubled || matches!(line, [b' ', ..] | [.., b' '])
 }
 
 // Returns whether a text has only numbers and minus signs.
@@ -125,6 +125,9 @@ fn form_advice(rest: &[u8]) -> &'static str {
     if is_of_proof && !is_step_like_proof(rest) {
         return "; `tools/lrat` adds the hints that a proof in DRAT lacks";
     }
+    if line.contains(&b'\t') {
+        return "; words are parted by single blanks, and this line has a tab";
+    }
     if has_wrong_blanks(line) {
         return "; words are parted by single blanks, and a line ends without one";
     }
@@ -134,7 +137,7 @@ fn form_advice(rest: &[u8]) -> &'static str {
             "; a deletion begins with a number, as in `5 d 3 4 0`, which one of DRAT lacks",
         [b'a'] => BINARY,
         [b'a' | b'd', bytes @ ..] if bytes.iter().any(|byte| *byte < b' ' || *byte > 126) => BINARY,
-        [b'-', b'0'..=b'9', ..] | [b'A'..=b'Z' | b'a'..=b'z', ..] =>
+        [b'-', b'0'..=b'9', ..] | [b'A'..=b'Z' | b'a'..=b'z', ..] | [b'0', b' ', ..] =>
             "; a line begins with the number of its clause",
         [b'+', ..] => "; numbers have no `+`",
         [b'0'..=b'9', ..] => step_advice(line),

@@ -109,10 +109,10 @@ line_kind line = if is_list (without_return line) then list_kind (without_return
 abbrev pub is_printable : ℕ → Bool
 is_printable b = nat_le 33 b && nat_le b 126
 
--- whether a word is of printable ASCII and ends as names of files do
+-- whether a word is of printable ASCII, ends as names of files do, and has no two slashes, as addresses have
 abbrev pub is_name : List ℕ → Bool
 is_name word = nat_le (length word) LONGEST_NAME && list_all is_printable word
-    && list_any (λ ending. ends word ending.now) ENDINGS
+    && list_any (λ ending. ends word ending.now) ENDINGS && not (contains_part word (codes "//"))
 
 -- whether a whole text is the name of a file, with or without the end of its line
 unfoldable pub is_file_name : List ℕ → Bool

@@ -18,7 +18,7 @@ const SKIPPED_LINES: usize = 1000;
 const LONGEST_NAME: usize = 255;
 
 // How the first line of a text begins that is no comment.
-const BEGINNINGS: [(&[u8], TextKind); 24] = [
+const BEGINNINGS: [(&[u8], TextKind); 26] = [
     (b"nbhd-table", TextKind::Table),
     (b"p cnf", TextKind::Formula),
     (b"s SATISFIABLE", TextKind::Model),
@@ -26,6 +26,8 @@ const BEGINNINGS: [(&[u8], TextKind); 24] = [
     (b"v ", TextKind::Model),
     (b"s UNSATISFIABLE", TextKind::NoModel),
     (b"UNSAT\n", TextKind::NoModel),
+    (b"SATISFIABLE", TextKind::Model),
+    (b"UNSATISFIABLE", TextKind::NoModel),
     (b"accepted ids ", TextKind::Report),
     (b"yes: ", TextKind::Report),
     (b"no: ring ", TextKind::Report),
@@ -180,7 +182,10 @@ fn has_ending(word: &[u8], endings: &[&[u8]]) -> bool
 fn is_name(word: &[u8]) -> bool
     ensures { result ≡ texts.is_name word.now }
 {
-    word.len() <= LONGEST_NAME && is_printable(word) && has_ending(word, &ENDINGS)
+    word.len() <= LONGEST_NAME
+        && is_printable(word)
+        && has_ending(word, &ENDINGS)
+        && !contains_part(word, b"//")
 }
 
 // Returns whether a whole text is the name of a file.

@@ -106,7 +106,7 @@ fn advice_on(kind: TextKind) -> &'static str
         TextKind::RichText => "; this is a text of a word processor: save it as plain text",
         TextKind::Picture => "; this is a picture, not a text",
         TextKind::Executable => "; this is a program for the machine, not a text",
-        TextKind::Utf16 => "; the file is UTF-16: save it as ASCII",
+        TextKind::Utf16 => "; the file is UTF-16 or UTF-32: save it as ASCII",
         TextKind::ByteOrderMark => "; this is a byte order mark: save the file without one",
         TextKind::Database => "; this is a file of a database, not a text",
         TextKind::Svg => "; this is a picture in SVG, not a text",

@@ -18,6 +18,8 @@ use win_index::Shape;
 
 const WINDOW: &str = "; a line is the identifiers of a window, ` : ` and a channel";
 
+const TAB: &str = "; words are parted by single blanks, and this line has a tab";
+
 const STOPPED: &str = "; the text stops in this line: lines are missing";
 
 /// Returns the note on a text that is too long. Fails if memory was refused.
@@ -108,7 +110,7 @@ fn other_advice(text: &[u8]) -> &'static str {
         return "; it begins with a blank";
     }
     if text[..first_line_len(text)].contains(&b'\t') {
-        return "; words are parted by single blanks, and this line has a tab";
+        return TAB;
     }
     if text[..first_line_len(text)].contains(&b'\\') {
         return "; `\\n` stands for a line feed only in other texts: begin a new line";
@@ -146,7 +148,8 @@ fn blanks_advice(line: &[u8]) -> Option<&'static str> {
     });
     match line {
         [.., b' '] => Some("; it ends with a blank"),
-        _ if is_doubled || line.contains(&b'\t') => Some("; words are parted by single blanks"),
+        _ if line.contains(&b'\t') => Some(TAB),
+        _ if is_doubled => Some("; words are parted by single blanks"),
         [b'0', b'0'..=b'9', ..] => Some("; numbers have no zeros before them"),
         _ if is_padded => Some("; numbers have no zeros before them"),
         _ => None,

@@ -39,7 +39,8 @@ pub(crate) const LABELLING: &str =
     "nbhd: L(2,1) is `--near 2 --far 1`, of `table`, `judge`, `formula` and `refute`";
 
 // Names of commands of other programs, with single spaces between them.
-pub(crate) const COMMANDS: [(&str, Foreign); 13] = [
+pub(crate) const COMMANDS: [(&str, Foreign); 14] = [
+    ("colour color colours colors channels", Foreign::Run),
     ("man info usage manual options commands", Foreign::Help),
     ("version", Foreign::Version),
     ("simulate simulat simulation exec execute sim", Foreign::Run),

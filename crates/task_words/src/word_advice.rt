@@ -5,6 +5,9 @@ use source_places::is_one_of;
 
 const NO_COMMAND: &str = "nbhd: the name of a command comes first, as in `nbhd check --ids 8`";
 
+const TWO_WORDS: &str =
+    "nbhd: a command, an option and its value are words of their own: leave out the quotation marks";
+
 const NO_OPTION: &str = "nbhd: the numbers of a table are in its text";
 
 const PRINTS: &str =
@@ -109,6 +112,9 @@ fn command_advice(word: &str, lower: &str) -> Option<&'static str> {
     if is_no_name(name) {
         return Some(NO_COMMAND);
     }
+    if name.contains(&b' ') {
+        return Some(TWO_WORDS);
+    }
     Some(foreign_in(&COMMANDS, name)?.line(b""))
 }
 
@@ -123,6 +129,12 @@ fn version_line(command: &[u8], name: &[u8]) -> &'static str {
 // Returns advice on a word that is no option of a command.
 fn argument_advice(command: &[u8], word: &str) -> Option<&'static str> {
     let name = part_before(word.as_bytes(), b'=');
+    if is_one_of("help -help -?", name) {
+        return Some(Foreign::Help.line(b""));
+    }
+    if matches!(name, [b'-', ..]) && name.contains(&b' ') {
+        return Some(TWO_WORDS);
+    }
     if is_one_of("--version -V", name) {
         return Some(version_line(command, name));
     }
