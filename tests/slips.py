@@ -18,7 +18,7 @@ LONGEST = 4000
 
 TAKES = r"`\w+` takes \d operands?"
 HEADER = "a program begins with `rounds`, `channels` and `registers`"
-MISSING = "an expression is missing here"
+MISSING = "an expression is missing (?:here|before it: what follows `#` on a line is a comment)"
 IN_BRACKETS = "the operands of an operation are written in brackets, as in `if\\(c, a, b\\)`"
 BRACKETS = "brackets are only written after the name of an operation"
 ASSIGNED = "an assignment is written `r0 = ..`"
