@@ -1,5 +1,5 @@
 //! Lists of distinct numbers below `ids`, of any length, in lexicographic order.
-ghost use Rattle.std.specs.Prelude.{◌≡◌, ◌≢◌, ℕ, ◌+◌, ◌-◌, ◌^◌, ◌<◌, ◌≤◌, ◌↔◌, IsTrue, IfSome, Some, List, not, find, length, take, slice_get, nat_lt, count_by, AllPairs};
+ghost use Rattle.std.specs.Prelude.{◌≡◌, ◌≢◌, ℕ, ◌+◌, ◌-◌, ◌^◌, ◌<◌, ◌≤◌, ◌↔◌, IsTrue, IfSome, None, Some, List, not, find, length, take, slice_get, slice_index, nat_lt, count_by, AllPairs};
 ghost use Rattle.std.specs.Bool.{OnTrue, OnFalse};
 ghost use Rattle.std.specs.List.{range_with_len};
 ghost use Rattle.win_index.specs.Windows.{is_used, unused, windows, number_of, IsWindow};
@@ -69,12 +69,17 @@ impl Lists {
         write_list(self.ids, number, out, self.len);
     }
 
-    // Replaces the list by the next one, or returns `false` if it is the last.
+    // Replaces the list by the next one, or returns `false` if it is the last. Most often only the last
+    // number changes, which needs no recursive call.
     pub(crate) fn write_next(self, list: &mut [u32]) -> bool
         requires { IsWindow self.len self.ids list.old }
         ensures { IsReplaced self.len self.ids result list.old list.new }
     {
-        write_next(self.ids, list, self.len)
+        let Lists { ids, len } = self;
+        if len > 0 && write_next_last(ids, list, len) {
+            return true;
+        }
+        write_next(ids, list, len)
     }
 
     // Replaces the list by the next one with another prefix, which differs before the last number,
@@ -217,15 +222,33 @@ fn write_next(ids: u32, list: &mut [u32], len: usize) -> bool
     if len == 0 {
         return false;
     }
-    let last = len - 1;
-    let current = list[last];
-    if let Some(next) = least_unused(ids, &list[..last], current + 1) {
-        list[last] = next;
+    if write_next_last(ids, list, len) {
         return true;
     }
+    let last = len - 1;
     if !write_next(ids, list, last) {
         return false;
     }
     list[last] = nth_unused(ids, &list[..last], 0);
+    true
+}
+
+// Replaces the last number in the first `len` cells by the next one that the others lack, or returns
+// `false` if there is none.
+fn write_next_last(ids: u32, list: &mut [u32], len: usize) -> bool
+    requires room { (1 ≤ len) × (len ≤ length list.old) }
+    requires window { IsWindow len ids (take len list.old) }
+    ensures next { OnTrue result (IsNext len ids (take len list.old) (take len list.new)) }
+    ensures none { OnFalse result (find (λ x. not (is_used (take (len - 1) list.old) x))
+        (range_with_len (slice_index list.old (len - 1) + 1) (ids - (slice_index list.old (len - 1) + 1))) ≡ None) }
+    ensures same { OnFalse result (list.new ≡ list.old) }
+    ensures window { IsWindow len ids (take len list.new) }
+{
+    let last = len - 1;
+    let current = list[last];
+    let Some(next) = least_unused(ids, &list[..last], current + 1) else {
+        return false;
+    };
+    list[last] = next;
     true
 }

@@ -1,35 +1,25 @@
-use Rattle.std.proofs.Common.{◌-◌, take, sym, ◌∙◌, arith}
+use Rattle.std.proofs.Common.{◌-◌, take, arith}
 use Rattle.win_index.proofs.Sizes.{window_within}
-use Rattle.win_index.proofs.Successors.{last_of_none, shorter_window, next_in_last_cell, next_with_later_front, last_with_last_front, next_is_window, later_lacks}
+use Rattle.win_index.proofs.Successors.{last_of_none, shorter_window, next_with_later_front, last_with_last_front, next_is_window, later_lacks}
 use Rattle.win_index.proofs.arrangement.+write_next.Goals as goal
 
 pub returns-then-len-eq0-clause-last : goal.returns-then-len-eq0-clause-last
 returns-then-len-eq0-clause-last t c =
     last_of_none c.args.len c.args.ids (take c.args.len c.args.list.now) c.if-len-eq0.true
 
-pub returns-in-Some-clause-next : goal.returns-in-Some-clause-next
-returns-in-Some-clause-next t c =
-    next_in_last_cell c.args.len c.args.ids (c.args.len - 1) c.in-Some.next c.args.list.now (omega arith) (omega arith)
-    (sym c.least_unused.ensures ∙ c.in-Some.is)
-
-pub returns-in-Some-clause-window : goal.returns-in-Some-clause-window
-returns-in-Some-clause-window t c =
-    next_is_window c.args.len c.args.ids (take c.args.len c.args.list.now) _ c.requires.window
-    (returns-in-Some-clause-next t c)
-
 pub write_next-requires : goal.write_next-requires
 write_next-requires t c = (
   omega arith,
   (
     omega arith,
-    shorter_window c.args.len c.args.ids (c.args.len - 1) c.args.list.now (omega arith) c.requires.window,
+    rw c.if-write_next_last.ensures.same (shorter_window c.args.len c.args.ids (c.args.len - 1) c.args.list.now (omega arith) c.requires.window),
   ),
 )
 
 pub returns-then-not-write_next-clause-last : goal.returns-then-not-write_next-clause-last
 returns-then-not-write_next-clause-last t c =
     last_with_last_front c.args.len c.args.ids (c.args.len - 1) c.args.list.now (omega arith) (omega arith)
-    (sym c.least_unused.ensures ∙ c.in_default.is) c.if-not-write_next.ensures.last
+    c.if-write_next_last.ensures.none (rw c.if-write_next_last.ensures.same at c.if-not-write_next.ensures.last)
 
 pub nth_unused-requires-clause-place : goal.nth_unused-requires-clause-place
 nth_unused-requires-clause-place t c =
@@ -37,13 +27,13 @@ nth_unused-requires-clause-place t c =
     let front = shorter_window c.args.len c.args.ids last c.args.list.now (omega arith) c.requires.window in
     let within = window_within _ _ _ c.requires.window in
     later_lacks last c.args.ids (take last c.args.list.now) (take last c.write_next.new.list) (omega arith) front
-    c.if-not-write_next.ensures.next
+    (rw c.if-write_next_last.ensures.same at c.if-not-write_next.ensures.next)
 
 pub returns-clause-next : goal.returns-clause-next
 returns-clause-next t c =
     next_with_later_front c.args.len c.args.ids (c.args.len - 1) c.nth_unused.result c.args.list.now
     c.write_next.new.list (omega arith) (omega arith)
-    (omega arith) (sym c.least_unused.ensures ∙ c.in_default.is) c.if-not-write_next.ensures.next c.nth_unused.ensures
+    (omega arith) c.if-write_next_last.ensures.none (rw c.if-write_next_last.ensures.same at c.if-not-write_next.ensures.next) c.nth_unused.ensures
 
 pub returns-clause-window : goal.returns-clause-window
 returns-clause-window t c =
