@@ -2,7 +2,7 @@
 //! a list `z` of `2t-1` identifiers, the third windows of the tuples that begin with `(a, b, z)` are
 //! the windows that begin with `z` and hold neither `a` nor `b`. From one `b` to the next one the
 //! numbers of `(a, b, z)`, `(z, a, b)` and `(z, b, a)` rise by constants, if both are free.
-ghost use Rattle.std.specs.Prelude.{◌≡◌, ◌≢◌, ℕ, ◌+◌, ◌-◌, ◌*◌, ◌^◌, ◌<◌, ◌≤◌, ◌↔◌, [], ◌∷◌, ◌++◌, All, Contains, IfSome, IsTrue, List, MatchOption, Some, length, drop, slice_get, slice_index};
+ghost use Rattle.std.specs.Prelude.{◌≡◌, ◌≢◌, ℕ, ◌+◌, ◌-◌, ◌*◌, ◌^◌, ◌<◌, ◌≤◌, ◌↔◌, [], ◌∷◌, ◌++◌, All, Contains, IsTrue, List, Some, length, drop, slice_get, slice_index};
 ghost use Rattle.std.specs.Bool.{OnFalse};
 ghost use Rattle.std.specs.Int.{abs_diff};
 ghost use Rattle.win_index.specs.Falling.{falling};
@@ -156,41 +156,58 @@ impl<'b> Family<'b> {
         if contains(self.shared, first) {
             return least;
         }
+        let ids = self.table.shape().ids();
         let mut least = least;
-        let mut last = None;
-        for second in 0..self.table.shape().ids() {
-            last = self.numbers_after(last, first, second);
-            if let Some(numbers) = last {
-                least = self.free_with_both(first, second, numbers, least);
+        let mut second = 0;
+        while second < ids {
+            let end = self.end_of_free(first, second);
+            if second < end {
+                least = self.free_with_seconds(first, second, end, least);
             }
+            second = end + 1;
         }
         least
     }
 
-    // Returns the numbers for these two identifiers, or `None` if they and the shared ones are no
-    // window. `last` is the same for the identifier before the second one.
-    fn numbers_after(
-        self,
-        last: Option<PairNumbers>,
-        first: u32,
-        second: u32,
-    ) -> Option<PairNumbers>
-        requires ids { (first < self.table.now.ids) × (second < self.table.now.ids) }
-        requires lacks { ¬ Contains self.shared.now first }
-        requires last { IfSome last (λ numbers. (before : ℕ) × (second ≡ before + 1)
-            × ArePairNumbers self.table.now self.shared.now first before numbers) }
-        ensures { MatchOption result
-            ((number : ℕ) (window : List ℕ) → slice_get (windows_of self.entry.table.now) number ≡ Some window
-            → ¬ ((slice_index window 0 ≡ first) × (slice_index window 1 ≡ second) × (drop 2 window ≡ self.entry.shared.now)))
-            (ArePairNumbers self.entry.table.now self.entry.shared.now first second) }
+    // Returns the least identifier from `low` on that is `first` or a shared one, or the number of
+    // identifiers if there is none.
+    fn end_of_free(self, first: u32, low: u32) -> u32
+        requires { (first < self.table.now.ids) × (low < self.table.now.ids) }
+        ensures within { (low ≤ result) × (result ≤ self.entry.table.now.ids) }
+        ensures free { (x : ℕ) → low ≤ x → x < result → (first ≢ x) × ¬ Contains self.entry.shared.now x }
+        ensures used { result < self.entry.table.now.ids → first ≢ result → Contains self.entry.shared.now result }
     {
-        if first == second || contains(self.shared, second) {
-            return None;
+        let mut end = self.table.shape().ids();
+        if low <= first {
+            end = first;
         }
-        match last {
-            Some(numbers) => Some(self.stepped(numbers)),
-            None => Some(self.numbers_of(first, second)),
+        for place in 0..self.shared.len() {
+            let id = self.shared[place];
+            if low <= id && id < end {
+                end = id;
+            }
         }
+        end
+    }
+
+    // Like `free`, for the windows that begin with the first identifier and a second one from `low` on
+    // and below `end`.
+    fn free_with_seconds(self, first: u32, low: u32, end: u32, least: u32) -> u32
+        requires counted { AreCountsOf self.table.now self.shared.now self.counts.now }
+        requires ids { (first < self.table.now.ids) × (low < end) × (end ≤ self.table.now.ids) }
+        requires first { ¬ Contains self.shared.now first }
+        requires free { (x : ℕ) → low ≤ x → x < end → (first ≢ x) × ¬ Contains self.shared.now x }
+        ensures less { result ≤ least }
+        ensures free { AreFarFreeIn self.entry.table.now self.entry.distance result (λ window. (slice_index window 0 ≡ first)
+            × (low ≤ slice_index window 1) × (slice_index window 1 < end) × (drop 2 window ≡ self.entry.shared.now)) }
+    {
+        let mut least = least;
+        let mut numbers = self.numbers_of(first, low);
+        for second in low..end {
+            least = self.free_with_both(first, second, numbers, least);
+            numbers = self.stepped(numbers);
+        }
+        least
     }
 
     // Returns the numbers for the next second identifier, if it is not used.
