@@ -152,6 +152,31 @@ ROWS = [
         lambda place: place.is_in("an expression") and place.token() in KEYWORDS and place.token(1) in (")", ","),
     ),
     (
+        r"this word begins lines of a program, and has no value",
+        lambda place: place.is_in("an expression") and place.token() in KEYWORDS and not place.begins_line(),
+    ),
+    (
+        r"a bracket is open, so the register before it was read as an operand",
+        lambda place: place.token() == "=" and place.open_operations() and place.follows_first_word(),
+    ),
+    (
+        r"no bracket follows a number, a register, `id`, `L` or `R`, and a comment begins with `#`",
+        lambda place: place.token() == "(" and re.fullmatch("id|L|R|r[0-9]|[0-9]+", place.last()) and not place.begins_line(),
+    ),
+    (
+        r"the operand of `not` is written in brackets, and it is bit by bit: `eq\(x, 0\)` exchanges 0 and 1",
+        lambda place: place.last() == "not" and place.token() != "(",
+    ),
+    (
+        r"a number follows its word, as in `rounds 1`",
+        lambda place: not place.before and is_number(place.token()) and place.token(1) == "rounds" and not is_number(place.token(2)),
+    ),
+    (r"`finish` and its expression come last, after the rounds", lambda place: place.token() == "finish" and "round" in place.rest),
+    (
+        r"a side is the word `left` or `right`, and `L` and `R` are the messages from there",
+        lambda place: place.is_in("`left`", "`right`") and place.token() in ("L", "R"),
+    ),
+    (
         r"a program begins with `rounds`: leave out what is before it",
         lambda place: not place.before and "rounds" in place.rest and place.token() != "rounds",
     ),
@@ -227,12 +252,19 @@ ROWS = [
         lambda place: not place.before and is_number(place.token()) and place.token(1) == "rounds" and is_number(place.token(2)),
     ),
     (r"`registers` says how many registers there are, from r0 on", lambda place: int(place.token()[1:]) >= place.registers()),
-    (r"the message from the left is `L`(?:, and the digit is `1`)?", lambda place: place.is_in("an expression") and place.token() in ("left", "l")),
     (
-        r"the message from the right is `R`(?:, and registers are `r0` to `r7`)?",
+        r"the message from the left is `L`, which the assignments of a round read(?:, and the digit is `1`)?",
+        lambda place: place.is_in("an expression") and place.token() in ("left", "l"),
+    ),
+    (
+        r"the message from the right is `R`, which the assignments of a round read(?:, and registers are `r0` to `r7`)?",
         lambda place: place.is_in("an expression") and place.token() in ("right", "r"),
     ),
-    (r"`(\w+)` is written with (?:small letters|a small letter)(?:, and the message from the right is `R`)?", small),
+    (
+        r"`(\w+)` is written with (?:small letters|a small letter)"
+        r"(?:, and the message from the right is `R`|, and is read in `start` alone: a register keeps it)?",
+        small,
+    ),
     (r"there is no operation of this name: they are .*", lambda place: place.token() not in OPERANDS and place.token(1) == "("),
     # Sentences on the language, where what they speak of is expected.
     (r"a program begins with `rounds`, `channels` and `registers`", lambda place: place.is_in("`rounds`", "`channels`", "`registers`")),

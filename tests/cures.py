@@ -69,7 +69,9 @@ def written(place, name, operands):
         return [replaced(place, name)] if WORD.fullmatch(place.token()) else chosen(place)
     if name == "not":
         return prefix(place, name)
-    return infix(place, name, swapped=operands == "b, a") or prefix(place, name, first="0, ") * (name == "sub")
+    if found := infix(place, name, swapped=operands == "b, a"):
+        return found
+    return prefix(place, name, second=", 1") if operands == "a, 1" else prefix(place, name, first="0, ") * (name == "sub")
 
 
 def not_equal(place):
@@ -224,7 +226,7 @@ ROWS = [
     (r"no brackets are allowed here|write a number in digits, without brackets", without_brackets),
     (r"write `ne\(a, b\)`, or `eq\(x, 0\)` where x is to be 0", not_equal),
     (r"write `(\w+)\(([abck, 1]+)\)`(?: .*|, which .*)?", written),
-    (r"there is no \w+: (?:twice x|half of x|that of 2) is `(shl|shr|and)\([x1], [1k]\)`", by_one),
+    (r"there is no \w+: (?:twice x|half of x|that of 2|2 to the power k) is `(shl|shr|and)\([x1], [1k]\)`", by_one),
     (r"an operation is written before its operands, as in `add\(a, b\)`", lambda place: infix(place, place.token())),
     (r"operands are separated by commas", lambda place: in_place_of(place, ",")),
     (r"operands are written in `\(` and `\)`", round_brackets),

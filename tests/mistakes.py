@@ -47,7 +47,7 @@ BRACKETS = [
         "finish r0",
         "finish not r0",
         "line 10, column 12: unexpected `r0`; expected `(`"
-        "; the operands of an operation are written in brackets, as in `if(c, a, b)`",
+        "; the operand of `not` is written in brackets, and it is bit by bit: `eq(x, 0)` exchanges 0 and 1",
     ),
     ("finish r0", "finish [r0]", "line 10, column 8: unknown word `[`; expected an expression; leave such brackets out: operands stand in `(` and `)`, after the name of an operation"),
     ("finish r0", "finish {r0}", "line 10, column 8: unknown word `{`; expected an expression; leave such brackets out: operands stand in `(` and `)`, after the name of an operation"),
@@ -120,7 +120,7 @@ WORDS = [
     (
         "send right r0",
         "send R r0",
-        "line 8, column 6: unexpected `R`; expected `right`; `send left` is followed by `send right`",
+        "line 8, column 6: unexpected `R`; expected `right`; a side is the word `left` or `right`, and `L` and `R` are the messages from there",
     ),
     ("send left 0", "send up 0", "line 7, column 6: unknown word `up`; expected `left`"),
     (
@@ -168,7 +168,7 @@ WORDS = [
     (
         "finish r0",
         "finish identifier",
-        "line 10, column 8: unknown word `identifier`; expected an expression; the identifier is `id`",
+        "line 10, column 8: unknown word `identifier`; expected an expression; the identifier is `id`, which is read in `start` alone: a register keeps it",
     ),
 ]
 
@@ -245,19 +245,19 @@ INFIX = [
         "finish r0",
         "finish r(0)",
         "line 10, column 8: unknown word `r`; expected an expression"
-        "; the message from the right is `R`, and registers are `r0` to `r7`",
+        "; the message from the right is `R`, which the assignments of a round read, and registers are `r0` to `r7`",
     ),
     (
         "finish r0",
         "finish r_0",
         "line 10, column 8: unknown word `r`; expected an expression"
-        "; the message from the right is `R`, and registers are `r0` to `r7`",
+        "; the message from the right is `R`, which the assignments of a round read, and registers are `r0` to `r7`",
     ),
     (
         "finish r0",
         "finish r 1",
         "line 10, column 8: unknown word `r`; expected an expression"
-        "; the message from the right is `R`, and registers are `r0` to `r7`",
+        "; the message from the right is `R`, which the assignments of a round read, and registers are `r0` to `r7`",
     ),
     (
         "finish r0",

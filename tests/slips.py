@@ -20,14 +20,21 @@ TAKES = r"`\w+` takes \d operands?"
 HEADER = "a program begins with `rounds`, `channels` and `registers`"
 MISSING = "an expression is missing (?:here|before it: what follows `#` on a line is a comment)"
 IN_BRACKETS = "the operands of an operation are written in brackets, as in `if\\(c, a, b\\)`"
+NOT_IN_BRACKETS = r"the operand of `not` is written in brackets, and it is bit by bit: `eq\(x, 0\)` exchanges 0 and 1"
 BRACKETS = "brackets are only written after the name of an operation"
 ASSIGNED = "an assignment is written `r0 = ..`"
 ONLY_ASSIGNED = "`=` is only written after the register of an assignment"
 READ = "the register before it was read as the expression that is (?:missing|sent)"
 SAME = "the same word stands right before it"
 SAME_LINE = "the same line stands right before it"
-SMALL = r"`\w+` is written with (?:small letters|a small letter)(?:, and the message from the right is `R`)?"
-MESSAGE = r"the message from the (?:left is `L`, and the digit is `1`|right is `R`, and registers are `r0` to `r7`)"
+SMALL = (
+    r"`\w+` is written with (?:small letters|a small letter)"
+    r"(?:, and the message from the right is `R`|, and is read in `start` alone: a register keeps it)?"
+)
+MESSAGE = (
+    r"the message from the (?:left is `L`|right is `R`), which the assignments of a round read, "
+    r"and (?:the digit is `1`|registers are `r0` to `r7`)"
+)
 SIDE = "the side comes before the expression, as in `send left 0`"
 JOINED = "a blank is missing in it"
 WORD = re.compile("[A-Za-z0-9]+")
@@ -36,7 +43,7 @@ WORD = re.compile("[A-Za-z0-9]+")
 LEFT_OUT = {
     "operation": [BRACKETS, "the name of an operation is missing before it"],
     "operand": [TAKES, MISSING, "write a number in digits", ONLY_ASSIGNED, READ],
-    "(": [IN_BRACKETS, "a `\\(` is missing in it", "there is no operation of this name", SAME],
+    "(": [IN_BRACKETS, NOT_IN_BRACKETS, "a `\\(` is missing in it", "there is no operation of this name", SAME],
     ")": [TAKES, "a bracket is open"],
     ",": ["a comma is missing before it", SAME, "a blank is missing in it"],
     "=": [ASSIGNED],

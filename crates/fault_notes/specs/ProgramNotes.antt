@@ -36,7 +36,7 @@ pub data IsIdsNote (t ids : ℕ) (note : List ℕ) : Type 0 where
 
 abbrev pub register_cause : ℕ → List ℕ
 register_cause j =
-    codes "there is no register r" ++ (decimal j ++ codes "; `registers` says how many there are, from r0 on")
+    codes "there is no register r" ++ (decimal j ++ codes "; `registers` says how many there are, from r0 to at most r7")
 
 abbrev pub id_cause : List ℕ
 id_cause = codes "`id` can be read in `start` alone; keep it in a register"

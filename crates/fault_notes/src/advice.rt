@@ -4,12 +4,12 @@
 ghost use Rattle.std.specs.Prelude.{◌≤◌, length};
 
 use crate::around::{
-    Place, begins_line, follows_expression, has_rounds, is_joined, is_keyword, is_number,
+    Place, begins_line, follows_expression, has_token, is_joined, is_keyword, is_number,
     is_operand, is_wanted, last_line,
 };
 use crate::operands::{bracket_advice, is_operation, operands_advice};
 use crate::signs::{has_one, mark_advice};
-use crate::wanted::{ASSIGNED, missing_word};
+use crate::wanted::{ASSIGNED, FROM_LEFT, FROM_RIGHT, ONE_EXPRESSION, missing_word};
 use crate::words::{advice_in, is_word_byte};
 use node_lang::{Expected, Token};
 use source_places::is_one_of;
@@ -58,7 +58,7 @@ const OPERATIONS: [(&str, &str); 38] = [
     ),
     (
         "pow power exp",
-        "; there is no power: that of 2 is `shl(1, k)`",
+        "; there is no power: 2 to the power k is `shl(1, k)`",
     ),
     ("gt greater", "; write `lt(b, a)` for a > b"),
     ("ge geq gte", "; write `le(b, a)` for a >= b"),
@@ -83,10 +83,16 @@ const OPERATIONS: [(&str, &str); 38] = [
     ("then else elif elsif elseif endif fi", IF),
     ("ite cond case switch select choose mux when match", IF),
     ("iff xnor", "; for 0 and 1, write `eq(a, b)`"),
-    ("lsh lshift sll", "; write `shl(a, k)`"),
-    ("rsh rshift srl", "; write `shr(a, k)`"),
-    ("nand", "; write `not(and(a, b))`"),
-    ("nor", "; write `not(or(a, b))`"),
+    ("lsh lshift sll bsl", "; write `shl(a, k)`"),
+    ("rsh rshift srl bsr", "; write `shr(a, k)`"),
+    (
+        "nand",
+        "; write `not(and(a, b))`, or `eq(and(a, b), 0)` for 0 and 1",
+    ),
+    (
+        "nor",
+        "; write `not(or(a, b))`, or `eq(or(a, b), 0)` for 0 and 1",
+    ),
     ("implies", "; for 0 and 1, write `le(a, b)`"),
     ("bitand band", "; write `and(a, b)`"),
     ("bitor bor", "; write `or(a, b)`"),
@@ -126,7 +132,7 @@ const FUNCTIONS: [(&str, &str); 4] = [
 ];
 
 // Words where an expression is expected.
-const EXPRESSIONS: [(&str, &str); 11] = [
+const EXPRESSIONS: [(&str, &str); 13] = [
     (
         "Math math std np numpy",
         "; an operation has no word before it, as in `min(a, b)`",
@@ -144,16 +150,21 @@ const EXPRESSIONS: [(&str, &str); 11] = [
     ("false False FALSE no", "; write 0"),
     (
         "l",
-        "; the message from the left is `L`, and the digit is `1`",
+        "; the message from the left is `L`, which the assignments of a round read, and the digit is `1`",
     ),
     (
         "r",
-        "; the message from the right is `R`, and registers are `r0` to `r7`",
+        "; the message from the right is `R`, which the assignments of a round read, and registers are `r0` to `r7`",
     ),
     (
-        "self me my uid ident identifier ids myid node",
-        "; the identifier is `id`",
+        "self me my uid ident identifier myid node",
+        "; the identifier is `id`, which is read in `start` alone: a register keeps it",
     ),
+    (
+        "ids",
+        "; the identifier is `id`, which is read in `start` alone, and there is no word for the number of identifiers",
+    ),
+    ("return let yield", "; an expression has no word before it"),
     (
         "inf Inf infinity Infinity infty maxint MAXINT",
         "; the greatest number is 4294967295",
@@ -203,7 +214,10 @@ const SMALL: [(&str, &str); 35] = [
     ("left", "; `left` is written with small letters"),
     ("right", "; `right` is written with small letters"),
     ("finish", "; `finish` is written with small letters"),
-    ("id", "; `id` is written with small letters"),
+    (
+        "id",
+        "; `id` is written with small letters, and is read in `start` alone: a register keeps it",
+    ),
     ("not", "; `not` is written with small letters"),
     ("and", "; `and` is written with small letters"),
     ("or", "; `or` is written with small letters"),
@@ -272,10 +286,10 @@ fn side_in_expression(place: Place) -> Option<&'static str> {
         return None;
     }
     if place.word.eq_ignore_ascii_case(b"left") {
-        return Some("; the message from the left is `L`");
+        return Some(FROM_LEFT);
     }
     if place.word.eq_ignore_ascii_case(b"right") {
-        return Some("; the message from the right is `R`");
+        return Some(FROM_RIGHT);
     }
     if let Some(advice) = extreme_advice(place) {
         return Some(advice);
@@ -387,7 +401,7 @@ fn first_advice(place: Place) -> Option<&'static str> {
         return Some("; this is a program in base64: `base64 -d` decodes it");
     }
     let known = advice_in(&FIRST, place.word);
-    if known.is_none() && has_rounds(place.rest) {
+    if known.is_none() && has_token(place.rest, Token::Rounds) {
         return Some("; a program begins with `rounds`: leave out what is before it");
     }
     known
@@ -464,10 +478,10 @@ fn name_advice(word: &[u8]) -> &'static str {
         return advice;
     }
     if is_of_left(word) {
-        return "; the message from the left is `L`";
+        return FROM_LEFT;
     }
     if is_of_right(word) {
-        return "; the message from the right is `R`";
+        return FROM_RIGHT;
     }
     spelling_advice(word)
 }
@@ -478,12 +492,20 @@ fn line_advice(place: Place) -> &'static str {
         return assignment_advice(place);
     }
     let known = match place.wanted {
-        Expected::This(Token::Comma) | Expected::This(Token::Close) => None,
+        Expected::This(Token::Comma) | Expected::This(Token::Close) => equal_advice(place.word),
         Expected::This(Token::Send) => advice_in(&MESSAGES, place.word),
         _ => advice_in(&LINES, place.word),
     };
     let operation = foreign_operation(place.word);
     operation.or(known).unwrap_or(between_advice(place))
+}
+
+// Returns advice on a word between two operands that are compared.
+fn equal_advice(word: &[u8]) -> Option<&'static str> {
+    if word == b"is".as_slice() {
+        return Some("; write `eq(a, b)`");
+    }
+    None
 }
 
 // Returns advice on a word that is assigned.
@@ -505,8 +527,7 @@ fn between_advice(place: Place) -> &'static str {
         Expected::This(Token::Comma) => "; operands are separated by commas",
         Expected::This(Token::Close) => OPEN,
         Expected::End => missing_word(place.wanted),
-        _ if follows_expression(place) =>
-            "; one expression is written here, and a comment begins with `#`",
+        _ if follows_expression(place) => ONE_EXPRESSION,
         _ if !begins_line(place) => COMMENT,
         Expected::This(Token::Register(_)) => spelling_advice(place.word),
         _ => missing_word(place.wanted),

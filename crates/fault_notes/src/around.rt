@@ -66,11 +66,11 @@ fn last_words(text: &[u8]) -> (&[u8], &[u8]) {
     (previous, last)
 }
 
-// Returns whether the word `rounds` stands in a text, outside of comments.
-pub(crate) fn has_rounds(text: &[u8]) -> bool {
+// Returns whether this token stands in a text, outside of comments.
+pub(crate) fn has_token(text: &[u8], token: Token) -> bool {
     let mut at = 0;
     'tokens: while let Some(placed) = token_from(text, at) {
-        if placed.token == Token::Rounds {
+        if placed.token == token {
             return true;
         }
         at = placed.end;

@@ -5,15 +5,15 @@
 use crate::advice::OPEN;
 use crate::around::{
     Place, begins_line, begins_register, follows_comment, follows_expression, follows_first_word,
-    has_comma, has_operands, is_end, is_number, is_operand, is_register, is_repeated, is_wanted,
-    open_operation, registers_in,
+    has_comma, has_operands, has_token, is_end, is_number, is_operand, is_register, is_repeated,
+    is_wanted, open_operation, place_in, registers_in,
 };
 use crate::operands::{is_operation, operands_advice};
 use crate::signs::comment_advice;
-use crate::wanted::{BRACKETED, missing_word, wanted_advice};
+use crate::wanted::{BRACKETED, FROM_LEFT, FROM_RIGHT, missing_word, wanted_advice};
 use crate::words::advice_in;
 use node_lang::{Expected, Token};
-use source_places::{by_beginning, is_one_of};
+use source_places::{by_beginning, first_line_len, is_one_of};
 
 const DOUBLED: &str = "; the same word stands right before it";
 
@@ -56,6 +56,17 @@ const SENT_IN_ROUNDS: &str =
 const COMMENTED: &str =
     "; an expression is missing before it: what follows `#` on a line is a comment";
 
+const NO_EXPRESSION: &str = "; this word begins lines of a program, and has no value";
+
+const READ_AS_OPERAND: &str =
+    "; a bracket is open, so the register before it was read as an operand";
+
+const NO_CALL: &str =
+    "; no bracket follows a number, a register, `id`, `L` or `R`, and a comment begins with `#`";
+
+const NOT_BY_BITS: &str =
+    "; the operand of `not` is written in brackets, and it is bit by bit: `eq(x, 0)` exchanges 0 and 1";
+
 const NO_VALUE: &str = "; this word has no value: numbers are written in digits";
 
 const REGISTERS: &str = "; `registers` says how many registers there are, from r0 on";
@@ -71,9 +82,15 @@ pub(crate) fn place_advice(place: Place) -> &'static str {
         b")" => close_advice(place),
         b"," => comma_advice(place),
         _ if is_doubled(place) => DOUBLED,
+        _ if follows_not(place) => NOT_BY_BITS,
         word if is_operation(word) => operation_advice(place),
         _ => known_advice(place),
     }
+}
+
+// Returns whether a place follows `not`, where its bracket can follow.
+fn follows_not(place: Place) -> bool {
+    place.last == b"not".as_slice() && place.wanted == Expected::This(Token::Open)
 }
 
 // Returns whether what is expected at a place follows its word.
@@ -143,6 +160,9 @@ fn equals_advice(place: Place) -> &'static str {
         (Expected::Expression, _) if place.last == b"=".as_slice() =>
             "; an assignment is written with one `=`",
         (_, Some(advice)) => advice,
+        (Expected::This(Token::Rounds), _) => wanted_advice(place.wanted),
+        (Expected::This(Token::Comma) | Expected::This(Token::Close), None)
+            if is_register(place.last) && follows_first_word(place) => READ_AS_OPERAND,
         (Expected::This(Token::Comma) | Expected::This(Token::Close) | Expected::End, None) =>
             compared_advice(place),
         _ if is_register(place.last) => register_advice(place),
@@ -156,6 +176,7 @@ fn open_advice(place: Place) -> &'static str {
     match place.wanted {
         Expected::This(Token::Rounds) => comment_advice(place.rest),
         _ if place.rest.starts_with(b"(*") => comment_advice(place.rest),
+        _ if is_operand(place.last) && !begins_line(place) => NO_CALL,
         Expected::Expression if has_comma(place.rest) && place.last != b"(".as_slice() => {
             "; the name of an operation is missing before it"
         }
@@ -328,6 +349,13 @@ fn has_numbers(place: Place) -> bool {
     is_number(place.word) && (is_marked || is_bare)
 }
 
+// Returns whether the number of rounds stands before the word `rounds`, alone with it on a line.
+fn is_turned(place: Place) -> bool {
+    let line = &place.rest[..first_line_len(place.rest)];
+    let own = place_in(&place.rest[..0], line, place.wanted);
+    is_number(own.word) && own.next == b"rounds".as_slice() && own.second.is_empty()
+}
+
 // Returns whether a word is an expression that is sent, and not meant as a side.
 fn is_sent(word: &[u8]) -> bool {
     is_operand(word) && !is_one_of("L R", word)
@@ -348,19 +376,21 @@ fn known_advice(place: Place) -> &'static str {
         | Expected::This(Token::Finish)
             if is_wrong_target(place) => target_advice(place.word),
         _ if is_second_operand(place) => second_advice(place),
+        Expected::This(Token::Rounds) if is_turned(place) =>
+            "; a number follows its word, as in `rounds 1`",
         Expected::This(Token::Rounds) if has_numbers(place) =>
             "; leave out the numbers of the lines",
         Expected::This(Token::Open) if are_sides(place) => BOTH_SIDES,
         Expected::This(Token::Round) => round_advice(place),
         Expected::This(Token::Register(_)) if place.word == b"send".as_slice() => TWO_SENDS,
         Expected::This(Token::Finish) if place.word == b"send".as_slice() => SENT_IN_ROUNDS,
-        Expected::This(Token::Left) | Expected::This(Token::Right) if is_sent(place.word) => {
-            "; the side comes before the expression, as in `send left 0`"
-        }
+        Expected::This(Token::Left) | Expected::This(Token::Right) => send_advice(place),
         Expected::This(Token::Finish) if place.word == b"round".as_slice() => ROUNDS,
         Expected::This(Token::Finish) | Expected::This(Token::Register(_))
             if is_no_register(place) => no_register_advice(place),
-        Expected::Expression if is_one_of("( , =", place.last) => in_expression_advice(place),
+        Expected::Expression if is_one_of("( , = finish", place.last) => in_expression_advice(
+            place,
+        ),
         Expected::Expression if follows_comment(place) => COMMENTED,
         _ => wanted_advice(place.wanted),
     }
@@ -374,28 +404,42 @@ fn are_sides(place: Place) -> bool {
 }
 
 // The sides, each with the word for the message from there.
-const SIDES: [(&str, &str); 2] = [
-    ("left", "; the message from the left is `L`"),
-    ("right", "; the message from the right is `R`"),
-];
+const SIDES: [(&str, &str); 2] = [("left", FROM_LEFT), ("right", FROM_RIGHT)];
 
-// Returns advice on a word inside an expression.
-fn in_expression_advice(place: Place) -> &'static str {
-    let advice = wanted_advice(place.wanted);
-    if is_one_of("( ) , . _ send finish", place.next) {
-        let side = advice_in(&SIDES, place.word);
-        return side.unwrap_or(if is_one_of(") ,", place.next) {
-            NO_VALUE
-        } else {
-            advice
-        });
+// Returns advice on a word in place of a side.
+fn send_advice(place: Place) -> &'static str {
+    if is_one_of("L R", place.word) {
+        return "; a side is the word `left` or `right`, and `L` and `R` are the messages from there";
     }
-    advice
+    if is_sent(place.word) {
+        return "; the side comes before the expression, as in `send left 0`";
+    }
+    wanted_advice(place.wanted)
+}
+
+// Returns advice on a word inside an expression. One that begins its line may stand where it belongs,
+// and the expression be missing.
+fn in_expression_advice(place: Place) -> &'static str {
+    let is_inside = !begins_line(place);
+    if is_inside || is_one_of("( ) , . _ send finish", place.next) {
+        if let Some(advice) = advice_in(&SIDES, place.word) {
+            return advice;
+        }
+    }
+    if is_one_of(") ,", place.next) {
+        return NO_VALUE;
+    }
+    if is_inside {
+        return NO_EXPRESSION;
+    }
+    wanted_advice(place.wanted)
 }
 
 // Returns advice on a word where a round can follow.
 fn round_advice(place: Place) -> &'static str {
     match place.word {
+        b"finish" if has_token(place.rest, Token::Round) =>
+            "; `finish` and its expression come last, after the rounds",
         b"finish" => ROUNDS,
         b"send" => "; a round begins with the word `round`",
         _ if is_no_register(place) => no_register_advice(place),

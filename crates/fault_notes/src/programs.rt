@@ -113,7 +113,7 @@ fn register_note(alloc: Global, text: &[u8], register: u32) -> Result<String, Ou
         (place_of_cause text.now (check.RegisterOutOfRange register))) }
 {
     let cause = format!(in alloc;
-        "there is no register r{register}; `registers` says how many there are, from r0 on"
+        "there is no register r{register}; `registers` says how many there are, from r0 to at most r7"
     )?;
     placed_note(
         alloc,

@@ -6,6 +6,7 @@ use crate::around::{
     Place, after_blanks, begins_line, ends_in_comment, follows_expression, is_end, is_number,
     is_operand, is_register, is_token, open_operation,
 };
+use crate::operands::is_operation;
 use crate::tex::backslash_advice;
 use crate::wanted::{ASSIGNED, wanted_advice};
 use crate::words::is_word_byte;
@@ -49,6 +50,9 @@ const NOTHING_SENT: &str = "; write 0 where nothing is sent";
 const NOTHING_FOLLOWS: &str = "; nothing follows the expression of `finish`";
 
 const UNQUOTED: &str = "; there are no texts in programs: leave out the quotation marks";
+
+const INFIX_FIRST: &str =
+    "; an operation has a name and is written before its operands, as in `add(a, b)`";
 
 const NO_NAMES: &str = "; registers are `r0` to `r7`, and have no other names";
 
@@ -122,7 +126,7 @@ const OTHER_ALPHABET: &str =
     "; this is a letter of another alphabet, which may look like a plain one";
 
 // Marks at the start of a text.
-const FIRST: [(&[u8], &str); 26] = [
+const FIRST: [(&[u8], &str); 27] = [
     (b"//", COMMENT),
     (b"/*", COMMENT),
     (b"{-", COMMENT),
@@ -140,6 +144,7 @@ const FIRST: [(&[u8], &str); 26] = [
     (b"`", MARKDOWN),
     (b"~~~", MARKDOWN),
     (b"<!", COMMENT),
+    (b"< ", SHELL),
     (b"<", "; a program has no marks of HTML or XML"),
     (b"!", COMMENT),
     (b"%", COMMENT),
@@ -165,7 +170,7 @@ const BEFORE_NUMBERS: [(&[u8], &str); 9] = [
 ];
 
 // Marks where an expression is wanted.
-const BEFORE_EXPRESSIONS: [(&[u8], &str); 28] = [
+const BEFORE_EXPRESSIONS: [(&[u8], &str); 31] = [
     (b"'", UNQUOTED),
     (b"\"", UNQUOTED),
     (b"@", NO_MARK_BEFORE),
@@ -195,7 +200,10 @@ const BEFORE_EXPRESSIONS: [(&[u8], &str); 28] = [
     (b"|", "; |a - b| is `sub(max(a, b), min(a, b))`"),
     (b"&", ""),
     (b"^", ""),
+    (b"++", "; write `add(a, 1)`"),
     (b"+", SIGN),
+    (b"$L", NO_MARK_BEFORE),
+    (b"$R", NO_MARK_BEFORE),
     (b".", WHOLE),
     (b":", NO_MARK_BEFORE),
     (b"[", UNBRACKETED),
@@ -292,7 +300,10 @@ const INFIX: [(&[u8], &str); 26] = [
     (b"~=", UNEQUAL),
     (b"/=", UNEQUAL),
     (b"!=", UNEQUAL),
-    (b"**", "; there is no power: that of 2 is `shl(1, k)`"),
+    (
+        b"**",
+        "; there is no power: 2 to the power k is `shl(1, k)`",
+    ),
     (b"<<", "; write `shl(a, k)`"),
     (b">>", "; write `shr(a, k)`"),
     (b"<=", AT_MOST),
@@ -433,7 +444,7 @@ const SIGNS: [(&[u8], &str); 24] = [
     (&[0xe2, 0x8b, 0x85], PRODUCT),
     (
         &[0xc2, 0xb2],
-        "; there is no power: that of 2 is `shl(1, k)`",
+        "; there is no power: 2 to the power k is `shl(1, k)`",
     ),
     (
         &[0xe2, 0x88, 0x92],
@@ -459,7 +470,7 @@ const SIGNS: [(&[u8], &str); 24] = [
     (&[0xe2, 0x89, 0xa0], "; write `ne(a, b)`"),
     (&[0xe2, 0x89, 0xa4], "; write `le(a, b)`"),
     (&[0xe2, 0x89, 0xa5], "; write `le(b, a)`"),
-    (&[0xc2, 0xac], "; write `not(a)`"),
+    (&[0xc2, 0xac], "; write `not(a)`, or `eq(a, 0)` for 0 and 1"),
     (&[0xe2, 0x88, 0xa7], "; write `and(a, b)`"),
     (&[0xe2, 0x88, 0xa8], "; write `or(a, b)`"),
     (&[0xe2, 0x8a, 0x95], "; write `xor(a, b)`"),
@@ -631,10 +642,18 @@ fn expected_advice(place: Place) -> Option<&'static str> {
         Expected::This(Token::Rounds) if is_quoted(place.rest) => Some(QUOTED),
         Expected::This(Token::Left) | Expected::This(Token::Right)
             if place.rest.starts_with(b"_") => Some("; write a blank, as in `send left 0`"),
+        Expected::End if follows_program(place) => Some(
+            "; the expression of `finish` ends the program",
+        ),
         Expected::End => by_beginning(&AFTER_PROGRAMS, place.rest).or(dot_advice(place)),
         Expected::Expression => operand_advice(place).or(dot_advice(place)),
         _ => dot_advice(place),
     }
+}
+
+// Returns whether a place begins a line behind a program with a mark of other texts.
+fn follows_program(place: Place) -> bool {
+    begins_line(place) && matches!(place.rest, [b'$' | b'>' | b'&' | b'[' | b'<' | b'=', ..])
 }
 
 // Returns advice on a mark where an expression can follow.
@@ -692,8 +711,14 @@ pub(crate) fn mark_advice(place: Place) -> &'static str {
         ([0..=31 | 127, ..], _) => "; this byte does not belong in a text",
         (_, Some(advice)) => advice,
         ([b'.', b'0'..=b'9', ..], _) => WHOLE,
+        ([b'@' | b'$' | b'~', ..], _) if is_infix(place) => INFIX_FIRST,
         _ => by_beginning(&MARKS, place.rest).unwrap_or(operation_advice(place)),
     }
+}
+
+// Returns whether a mark stands between two expressions on a line.
+fn is_infix(place: Place) -> bool {
+    follows_expression(place) && (is_operand(place.next) || is_operation(place.next))
 }
 
 // Returns advice on a mark that is of an operation where an expression ends before it or can begin

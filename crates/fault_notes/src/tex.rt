@@ -18,7 +18,7 @@ const COMMANDS: [(&str, &str); 15] = [
         "begin documentclass usepackage text textrm texttt textbf textit mathrm mathit mathtt mathbf operatorname verb quad",
         COMMAND,
     ),
-    ("neg lnot", "; write `not(a)`"),
+    ("neg lnot", "; write `not(a)`, or `eq(a, 0)` for 0 and 1"),
     ("land wedge", "; write `and(a, b)`"),
     ("lor vee", "; write `or(a, b)`"),
     ("oplus", "; write `xor(a, b)`"),

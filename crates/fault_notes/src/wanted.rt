@@ -5,6 +5,15 @@ use node_lang::{Expected, Token};
 pub(crate) const BRACKETED: &str =
     "; the operands of an operation are written in brackets, as in `if(c, a, b)`";
 
+pub(crate) const ONE_EXPRESSION: &str =
+    "; one expression is written here, and a comment begins with `#`";
+
+pub(crate) const FROM_LEFT: &str =
+    "; the message from the left is `L`, which the assignments of a round read";
+
+pub(crate) const FROM_RIGHT: &str =
+    "; the message from the right is `R`, which the assignments of a round read";
+
 pub(crate) const ASSIGNED: &str = "; an assignment is written `r0 = ..`";
 
 const DIGITS: &str = "; write a number in digits";

@@ -28,7 +28,7 @@ IsFormulaNote m t problem.TooManyClauses note = note ≡ clauses_note
 abbrev pub line_cause : LineFault → List ℕ
 line_cause line_fault.Form =
     codes "this line is not a step of LRAT, as `5 -1 2 0 3 4 0`, a deletion, as `5 d 3 4 0`, or a comment"
-line_cause line_fault.NumberNotAscending = codes "the number of this step is not above those of the formula's clauses and of the steps before it; the options may be those of another formula"
+line_cause line_fault.NumberNotAscending = codes "the number of this step is not above those of the steps before it, or not above those of the formula's clauses: then the options may be those of another formula"
 line_cause line_fault.UnknownVariable = codes "this clause has a variable that the formula lacks; the numbers may be those of another formula"
 line_cause line_fault.Exchange =
     codes "tables need not stay right by this exchange: identifiers are below `--ids` and channels below `--channels`, and two channels are exchanged only if near and far are at most 1"

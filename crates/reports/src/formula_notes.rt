@@ -83,7 +83,7 @@ fn line_cause(fault: LineFault) -> &'static str
             "this line is not a step of LRAT, as `5 -1 2 0 3 4 0`, a deletion, as `5 d 3 4 0`, or a comment"
         }
         LineFault::NumberNotAscending => {
-            "the number of this step is not above those of the formula's clauses and of the steps before it; the options may be those of another formula"
+            "the number of this step is not above those of the steps before it, or not above those of the formula's clauses: then the options may be those of another formula"
         }
         LineFault::UnknownVariable => {
             "this clause has a variable that the formula lacks; the numbers may be those of another formula"

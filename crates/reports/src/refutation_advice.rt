@@ -145,6 +145,27 @@ fn form_advice(rest: &[u8]) -> &'static str {
     }
 }
 
+// Returns whether the first word of a line has digits alone.
+fn has_number(line: &[u8]) -> bool {
+    line[..word_len(line)]
+        .iter()
+        .all(|byte| byte.is_ascii_digit())
+}
+
+// Returns advice on the words of a line that begins with a digit.
+fn words_advice(line: &[u8]) -> Option<&'static str> {
+    if line.contains(&b',') || line.contains(&b';') {
+        return Some("; words are parted by single blanks, without other marks");
+    }
+    if !has_number(line) {
+        return Some("; a blank follows the number of a clause");
+    }
+    if line.ends_with(b" d") {
+        return Some("; behind `d` stand the numbers of clauses, and then 0");
+    }
+    None
+}
+
 // Returns advice on a line that begins with a number.
 fn step_advice(line: &[u8]) -> &'static str {
     if line.contains(&b'+') {
@@ -158,6 +179,9 @@ fn step_advice(line: &[u8]) -> &'static str {
     }
     if has_part(line, b" 0 c") {
         return "; a comment is a line of its own, which begins with `c`";
+    }
+    if let Some(advice) = words_advice(line) {
+        return advice;
     }
     let lists = lists_of(line);
     if !is_of_literals(lists) {
@@ -176,6 +200,8 @@ fn lists_advice(step: &[u8], lists: &[u8]) -> &'static str {
     match step {
         [b' ', b'd', b' ', ..] => match count {
             0 => "; each list ends with 0",
+            _ if lists.contains(&b'-') =>
+                "; a deletion names clauses, and their numbers have no minus sign",
             _ if is_ended => "; the numbers of a deletion end with one 0",
             _ => "; nothing follows the 0 of a deletion",
         },

@@ -1,5 +1,5 @@
 use Rattle.std.proofs.Common.{◌≤◌, ◌-◌, length}
-use Rattle.fault_notes.proofs.around.has_rounds.Given as goal
+use Rattle.fault_notes.proofs.around.has_token.Given as goal
 
 abbrev pub invariant-tokens : goal.invariant-tokens
 invariant-tokens l = l.at ≤ length l.text
