@@ -642,7 +642,7 @@ BAD_RINGS = [
 # Words and the tip on them.
 RING_FOR_IDS = "nbhd: `--ids` takes the number of identifiers; a ring is given by `--ring`\n"
 RING_IN_WORDS = "nbhd: a ring is one word with commas, as in `--ring 5,1,3,7`\n"
-NEGATIVE = "nbhd: numbers are 0 to 4294967295, without a sign\n"
+NEGATIVE = "nbhd: numbers are written in digits, without a sign\n"
 FILE_NAME = "nbhd: a text is read from standard input, as in `nbhd judge --ids 8 < FILE`\n"
 TABLE_NAME = "nbhd: a table is read from standard input, as in `nbhd audit < FILE`\n"
 ONE_MINUS = "nbhd: the name of an option has two minus signs before it, as in `--ids 8`\n"

@@ -1,7 +1,8 @@
 -- What refused words of the command line were probably meant to be.
-use Rattle.std.specs.Prelude.{ℕ, ◌+◌, ◌==◌, nat_le, Bool, false, ◌&&◌, ◌||◌, not, Option, Some, None, List, [], ◌∷◌, length, take, drop, codes, bytes_eq, if◌then◌else◌}
-use Rattle.std.specs.List.{list_any, prefix_len}
+use Rattle.std.specs.Prelude.{ℕ, ◌+◌, ◌==◌, nat_le, Bool, false, ◌&&◌, ◌||◌, not, Option, Some, None, List, [], ◌∷◌, length, take, drop, true, codes, bytes_eq, if◌then◌else◌}
+use Rattle.std.specs.List.{list_any, prefix_len, ends_with}
 use Rattle.std.specs.Option.{option_or}
+use Rattle.source_places.specs.WordLists.{is_one_of}
 use Rattle.task_words.specs.declared.tips.Tip.{Tip}
 use Rattle.task_words.specs.declared.tips.Tip.TheVariants as tip
 use Rattle.task_words.specs.declared.tips.NumberOption.{NumberOption}
@@ -25,7 +26,8 @@ number_line number.Base = codes "nbhd: `--base` takes a number in digits, from 2
 abbrev pub tip_line : Tip → List ℕ
 tip_line tip.RingForIds = codes "nbhd: `--ids` takes the number of identifiers; a ring is given by `--ring`"
 tip_line tip.RingInWords = codes "nbhd: a ring is one word with commas, as in `--ring 5,1,3,7`"
-tip_line tip.Negative = codes "nbhd: numbers are 0 to 4294967295, without a sign"
+tip_line tip.StrayNumber = codes "nbhd: each number is the value of an option, as in `--ids 8`; a ring is one word with commas, as in `--ring 5,1,3,7`"
+tip_line tip.Negative = codes "nbhd: numbers are written in digits, without a sign"
 tip_line tip.FileName = codes "nbhd: a text is read from standard input, as in `nbhd judge --ids 8 < FILE`"
 tip_line tip.TableName = codes "nbhd: a table is read from standard input, as in `nbhd audit < FILE`"
 tip_line tip.OneMinus = codes "nbhd: the name of an option has two minus signs before it, as in `--ids 8`"
@@ -55,9 +57,18 @@ abbrev pub is_negative : List ℕ → Bool
 is_negative [] = false
 is_negative (byte ∷ rest) = (byte == 45) && begins_with_digit rest
 
--- whether a word is a list with commas in place of the value of `--ids`
-abbrev pub is_ring_for_ids : List ℕ → List ℕ → Bool
-is_ring_for_ids last word = bytes_eq last (codes "--ids") && list_any (λ byte. byte == 44) word
+-- whether a word is a list with commas between its parts, and none at its end
+abbrev pub is_list : List ℕ → Bool
+is_list word = list_any (λ byte. byte == 44) word && not (ends_with (λ a b. a == b) word (codes ","))
+
+-- whether a command that reads this takes a ring and a number of identifiers
+abbrev pub takes_ring : Input → Bool
+takes_ring input.ProgramOnRing = true
+takes_ring _ = false
+
+-- whether a word is a list in place of the value of `--ids`, at a command that takes a ring
+abbrev pub is_ring_for_ids : Input → List ℕ → List ℕ → Bool
+is_ring_for_ids reads last word = takes_ring reads && (bytes_eq last (codes "--ids") && is_list word)
 
 -- whether a word is an option with its value
 abbrev pub has_value : List ℕ → Bool
@@ -169,9 +180,14 @@ is_minus_name name =
 abbrev pub has_one_minus : List ℕ → Bool
 has_one_minus word = is_minus_name (name_part word)
 
--- whether a word begins with a dash, of either length
+-- whether two bytes end a dash, behind its first byte: a hyphen or a dash of any length (U+2010 to U+2015), or the minus
+-- sign U+2212
+abbrev pub ends_dash : ℕ → ℕ → Bool
+ends_dash second third = ((second == 128) && (nat_le 144 third && nat_le third 149)) || ((second == 136) && (third == 146))
+
+-- whether a word begins with a dash
 abbrev pub has_dash : List ℕ → Bool
-has_dash (first ∷ second ∷ third ∷ rest) = (first == 226) && ((second == 128) && (nat_le 147 third && nat_le third 148))
+has_dash (first ∷ second ∷ third ∷ rest) = (first == 226) && ends_dash second third
 has_dash _ = false
 
 -- the tip on a word that is a wrong name of an option
@@ -186,9 +202,15 @@ tip_on_name word =
 -- the tip on the name of a file, by what the command reads
 abbrev pub file_tip : Input → Tip
 file_tip input.Program = tip.FileName
+file_tip input.ProgramOnRing = tip.FileName
 file_tip input.Table = tip.TableName
 file_tip input.Refutation = tip.RefutationName
 file_tip input.Nothing = tip.NoFile
+
+-- the tip on a number behind the value of `--ring`, which `last` is or has: behind a list, digits alone are the value of
+-- another option
+abbrev pub tip_in_ring : List ℕ → List ℕ → Tip
+tip_in_ring last word = if is_list last && is_digits word then tip.StrayNumber else tip.RingInWords
 
 -- the tip on a value that is not a number, or on a wrong name of an option
 abbrev pub tip_on_value : Option NumberOption → List ℕ → Option Tip
@@ -198,8 +220,8 @@ tip_on_value None word = tip_on_name word
 -- the tip on a word, by what its command reads and the two words before it
 abbrev pub tip_on : Input → List ℕ → List ℕ → List ℕ → Option Tip
 tip_on reads before last word =
-    if is_ring_for_ids last word then Some tip.RingForIds
-    else if is_in_ring before last word then Some tip.RingInWords
+    if is_ring_for_ids reads last word then Some tip.RingForIds
+    else if is_in_ring before last word then Some (tip_in_ring last word)
     else if is_negative word then Some tip.Negative
     else if is_file_name last word || is_file_option word then Some (file_tip reads)
     else if is_near_and_far last word then Some tip.NearAndFar
@@ -217,6 +239,7 @@ input_of_command command =
     then input.Table
     else if bytes_eq command (codes "refute") then input.Refutation
     else if bytes_eq command (codes "formula") then input.Nothing
+    else if is_one_of (codes "run trace explain plan") command then input.ProgramOnRing
     else input.Program
 
 -- what the command of these words reads; without a command it is taken to be a program

@@ -22,6 +22,7 @@ pub(crate) enum Foreign {
     Labelling,
     Bases,
     Node,
+    Letter,
     Quiet,
     Output,
     Text,
@@ -34,6 +35,14 @@ pub(crate) enum Foreign {
     Chance,
     Forms,
 }
+
+pub(crate) const NO_OPTION: &str = "nbhd: the numbers of a table are in its text";
+
+const NODE: &str =
+    "nbhd: the node that `nbhd explain` explains is given by its place in the ring, as in `--place 0`";
+
+const SHORT: &str =
+    "nbhd: options have no short names, as in `--ids 8`, and a text is read from standard input";
 
 pub(crate) const LABELLING: &str =
     "nbhd: L(2,1) is `--near 2 --far 1`, of `table`, `judge`, `formula` and `refute`";
@@ -60,7 +69,7 @@ pub(crate) const COMMANDS: [(&str, Foreign); 14] = [
 ];
 
 // Names of options of other programs, with single spaces between them.
-pub(crate) const OPTIONS: [(&str, Foreign); 15] = [
+pub(crate) const OPTIONS: [(&str, Foreign); 16] = [
     (
         "-w -j --threads --jobs --parallel --cores --cpus --processes --nthreads",
         Foreign::Threads,
@@ -73,7 +82,8 @@ pub(crate) const OPTIONS: [(&str, Foreign); 15] = [
         "--bits --binary --bin --hex --octal --radix --decimal -b",
         Foreign::Bases,
     ),
-    ("--node --pos --position --index --at -p", Foreign::Node),
+    ("--node --pos --position --index --at", Foreign::Node),
+    ("-p", Foreign::Letter),
     ("-v -q --quiet --verbose --silent --debug", Foreign::Quiet),
     ("-o --output --out", Foreign::Output),
     ("-f --table --text --stdin --proof", Foreign::Text),
@@ -120,20 +130,18 @@ impl Foreign {
             Foreign::Labelling => LABELLING,
             Foreign::Bases =>
                 "nbhd: `trace` and `explain` print numbers in another base by `--base`, as in `--base 2`",
-            Foreign::Node =>
-                "nbhd: the node that `nbhd explain` explains is given by its place in the ring, as in `--place 0`",
+            Foreign::Node => NODE,
+            Foreign::Letter => letter_line(command),
             Foreign::Quiet =>
                 "nbhd: a report is on the standard output, a note on the standard error; there is no option for more or less",
             Foreign::Output =>
                 "nbhd: the answer is on the standard output, as in `nbhd table --ids 8 < FILE > OUTPUT`",
             Foreign::Text => file_line(command),
-            Foreign::Short =>
-                "nbhd: options have no short names, as in `--ids 8`, and a text is read from standard input",
+            Foreign::Short => SHORT,
             Foreign::Identifiers => identifiers_line(command),
             Foreign::Ring =>
                 "nbhd: a ring is given by `--ring`, of `run`, `trace`, `explain`, `plan` and `apply`",
-            Foreign::Rounds =>
-                "nbhd: a program says its rounds; those of a formula are given by `--rounds`",
+            Foreign::Rounds => rounds_line(command),
             Foreign::Colours =>
                 "nbhd: a program says its channels; those of a formula are given by `--channels`",
             Foreign::Parts => "nbhd: `nbhd run` cuts a ring into segments by `--segments`",
@@ -148,7 +156,33 @@ fn identifiers_line(command: &[u8]) -> &'static str {
     if is_one_of("explain", command) {
         return "nbhd: the number of identifiers is given by `--ids`, and the node that is explained by its place in the ring, as in `--ids 8 --place 0`";
     }
+    if is_one_of("run trace plan", command) {
+        return "nbhd: the number of identifiers is given by `--ids`, and the nodes by `--ring`, as in `--ids 8 --ring 5,1,3,7`";
+    }
+    if is_one_of("audit apply migrate", command) {
+        return NO_OPTION;
+    }
     "nbhd: the number of identifiers is given by `--ids`, as in `--ids 8`"
+}
+
+// Returns the line on `-p`, which can be for a place or for a difference of channels, at the command with
+// this name.
+fn letter_line(command: &[u8]) -> &'static str {
+    if is_one_of("table judge formula refute", command) {
+        return LABELLING;
+    }
+    if is_one_of("explain", command) {
+        return NODE;
+    }
+    SHORT
+}
+
+// Returns the line on a number of rounds, at the command with this name.
+fn rounds_line(command: &[u8]) -> &'static str {
+    if is_one_of("trace explain", command) {
+        return "nbhd: `nbhd trace` and `nbhd explain` print every round; a program says how many they are";
+    }
+    "nbhd: a program says its rounds; those of a formula are given by `--rounds`"
 }
 
 // Returns the line on the number of threads of a command.

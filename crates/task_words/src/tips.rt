@@ -4,6 +4,8 @@ ghost use Rattle.std.specs.Prelude.{◌≡◌, ◌≤◌, ◌==◌, length, map,
 ghost use Rattle.std.specs.List.{list_any};
 ghost use Rattle.task_words.specs.Tips as tips;
 
+use source_places::is_one_of;
+
 /// An option that takes a number.
 #[derive(Clone, Copy, Debug, PartialEq, Eq)]
 pub enum NumberOption {
@@ -44,6 +46,8 @@ impl NumberOption {
 #[derive(Clone, Copy, Debug, PartialEq, Eq)]
 pub(crate) enum Input {
     Program,
+    /// A program, which is run on the ring of the options.
+    ProgramOnRing,
     Table,
     Refutation,
     Nothing,
@@ -56,6 +60,8 @@ pub enum Tip {
     RingForIds,
     /// A ring in several words.
     RingInWords,
+    /// A number behind a ring.
+    StrayNumber,
     /// A number below 0.
     Negative,
     /// The name of a file.
@@ -92,7 +98,10 @@ impl Tip {
             Tip::RingForIds =>
                 "nbhd: `--ids` takes the number of identifiers; a ring is given by `--ring`",
             Tip::RingInWords => "nbhd: a ring is one word with commas, as in `--ring 5,1,3,7`",
-            Tip::Negative => "nbhd: numbers are 0 to 4294967295, without a sign",
+            Tip::StrayNumber => {
+                "nbhd: each number is the value of an option, as in `--ids 8`; a ring is one word with commas, as in `--ring 5,1,3,7`"
+            }
+            Tip::Negative => "nbhd: numbers are written in digits, without a sign",
             Tip::FileName =>
                 "nbhd: a text is read from standard input, as in `nbhd judge --ids 8 < FILE`",
             Tip::TableName =>
@@ -154,6 +163,9 @@ fn input_of_command(command: &str) -> Input
     if command == "formula" {
         return Input::Nothing;
     }
+    if is_one_of("run trace explain plan", command.as_bytes()) {
+        return Input::ProgramOnRing;
+    }
     Input::Program
 }
 
@@ -162,7 +174,7 @@ fn file_tip(input: Input) -> Tip
     ensures { result ≡ tips.file_tip input }
 {
     match input {
-        Input::Program => Tip::FileName,
+        Input::Program | Input::ProgramOnRing => Tip::FileName,
         Input::Table => Tip::TableName,
         Input::Refutation => Tip::RefutationName,
         Input::Nothing => Tip::NoFile,
@@ -173,11 +185,11 @@ fn file_tip(input: Input) -> Tip
 fn tip_on(input: Input, before: &str, last: &str, word: &str) -> Option<Tip>
     ensures { result ≡ tips.tip_on input before.now last.now word.now }
 {
-    if is_ring_for_ids(last, word) {
+    if is_ring_for_ids(input, last, word) {
         return Some(Tip::RingForIds);
     }
     if is_in_ring(before, last, word) {
-        return Some(Tip::RingInWords);
+        return Some(tip_in_ring(last, word));
     }
     if is_negative(word) {
         return Some(Tip::Negative);
@@ -213,11 +225,36 @@ fn tip_on_name(word: &str) -> Option<Tip>
     None
 }
 
-// Returns whether a word is a list with commas in place of the value of `--ids`.
-fn is_ring_for_ids(last: &str, word: &str) -> bool
-    ensures { result ≡ tips.is_ring_for_ids last.now word.now }
+// Returns whether a word is a list in place of the value of `--ids`, at a command that takes a ring.
+fn is_ring_for_ids(input: Input, last: &str, word: &str) -> bool
+    ensures { result ≡ tips.is_ring_for_ids input last.now word.now }
 {
-    last == "--ids" && contains(word, b',')
+    takes_ring(input) && last == "--ids" && is_list(word)
+}
+
+// Returns whether a command that reads this takes a ring and a number of identifiers.
+fn takes_ring(input: Input) -> bool
+    ensures { result ≡ tips.takes_ring input }
+{
+    matches!(input, Input::ProgramOnRing)
+}
+
+// Returns whether a word is a list with commas between its parts, and none at its end.
+fn is_list(word: &str) -> bool
+    ensures { result ≡ tips.is_list word.now }
+{
+    contains(word, b',') && !word.as_bytes().ends_with(b",")
+}
+
+// Returns the tip on a number behind the value of `--ring`, which `last` is or has: behind a list, digits
+// alone are the value of another option.
+fn tip_in_ring(last: &str, word: &str) -> Tip
+    ensures { result ≡ tips.tip_in_ring last.now word.now }
+{
+    if is_list(last) && is_digits(word.as_bytes()) {
+        return Tip::StrayNumber;
+    }
+    Tip::RingInWords
 }
 
 // Returns whether a word is the second number of a ring that is given in several words.
@@ -448,16 +485,22 @@ fn has_one_minus(word: &str) -> bool
         || name == b"-base".as_slice()
 }
 
-// Returns whether a word begins with a dash, of either length.
+// Returns whether a word begins with a dash.
 fn has_dash(word: &str) -> bool
     ensures { result ≡ tips.has_dash word.now }
 {
     match word.as_bytes() {
-        [first, second, third, ..] => {
-            *first == 0xe2 && *second == 0x80 && matches!(*third, 0x93..=0x94)
-        }
+        [first, second, third, ..] => *first == 0xe2 && ends_dash(*second, *third),
         _ => false,
     }
+}
+
+// Returns whether two bytes end a dash, behind its first byte: a hyphen or a dash of any length, or the
+// minus sign that is not ASCII.
+fn ends_dash(second: u8, third: u8) -> bool
+    ensures { result ≡ tips.ends_dash second third }
+{
+    (second == 0x80 && matches!(third, 0x90..=0x95)) || (second == 0x88 && third == 0x92)
 }
 
 fn is_digit(byte: u8) -> bool

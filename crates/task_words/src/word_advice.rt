@@ -1,14 +1,12 @@
 //! Advice on a word that `clap` refuses, which its text names. It promises nothing.
 
-use crate::foreign_names::{COMMANDS, Foreign, LABELLING, OPTIONS, file_line};
+use crate::foreign_names::{COMMANDS, Foreign, LABELLING, NO_OPTION, OPTIONS, file_line};
 use source_places::is_one_of;
 
 const NO_COMMAND: &str = "nbhd: the name of a command comes first, as in `nbhd check --ids 8`";
 
 const TWO_WORDS: &str =
     "nbhd: a command, an option and its value are words of their own: leave out the quotation marks";
-
-const NO_OPTION: &str = "nbhd: the numbers of a table are in its text";
 
 const PRINTS: &str =
     "nbhd: `nbhd print` has no options; `nbhd check` tells whether a program is accepted for M identifiers";
@@ -184,8 +182,12 @@ fn stray_advice(command: &[u8], word: &[u8]) -> &'static str {
     if is_command(word) {
         return "nbhd: one command is given at a time";
     }
-    if is_bare_option(word) {
+    let name = part_before(word, b':');
+    if is_bare_option(name) {
         return TWO_MINUSES;
+    }
+    if is_one_of("M m N n", word) && !is_one_of("print", command) {
+        return Foreign::Identifiers.line(command);
     }
     match word {
         [b'0'..=b'9', ..] | [] => number_advice(command, word),
