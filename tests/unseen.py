@@ -570,6 +570,13 @@ TABLE_PARTS = [
     ("1 : 1", "1 : red", "a channel is a number in digits"),
     ("1 : 1", "1 : ?", "a channel is a number"),
     ("ids 3", "ids 4", "lines are missing"),
+    ("1 : 1", "1 : 1:", "a line has one ` : `"),
+    ("2 : 2", "2 : 1,000", "a channel is one number", "without commas"),
+    ("1 : 1", "1 : 1,", "a channel is one number", "without commas"),
+    ("1 : 1", "1 : 1,2", "a channel is one number", "without commas"),
+    ("1 : 1", "1 : 1\nend", "lines of windows follow"),
+    ("2 : 2", "  \n2 : 2", "the line is blank"),
+    ("nbhd-table 2", "nbhd-table 2 ", "it ends with a blank"),
 ]
 
 # Parts of `ONE_CHANNEL`, their replacements, and the words.
@@ -821,6 +828,13 @@ TEXTS = [
     ("check --ids 8", b"", "an empty one"),
     ("audit", b"", "an empty one"),
     ("apply --ring 5,1,3,7", b"   0    5    2\n   1    1    4\n   2    3    3\n   3    7    5\n", "output"),
+    ("audit", b"   0   5   2\n   1   1   4\n", "`nbhd-table` and the version"),
+    (
+        "audit",
+        b"nbhd-table 2\nrounds 1 ids 4 channels 6 near 1 far 0\n0 1 2 : 1\n0 1 3 : 1\n021 : 3\n",
+        "3 identifiers",
+        "single blanks",
+    ),
 ]
 
 # What a note repeats of the text at fault.

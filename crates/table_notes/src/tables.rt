@@ -10,7 +10,8 @@ use crate::sizes::shape_of;
 use node_program::OutOfMemory;
 use numerals::field;
 use source_places::{
-    TextKind, first_line_len, kind_advice, write_joined, write_marked_line, write_place_head,
+    TextKind, after_line, first_line_len, kind_advice, write_joined, write_marked_line,
+    write_place_head,
 };
 use std::alloc::{AllocError, Global};
 use std::fmt::Write;
@@ -106,7 +107,7 @@ fn other_advice(text: &[u8]) -> &'static str {
     if is_of_window(&text[..first_line_len(text)]) {
         return "; its first two lines are missing";
     }
-    if text.starts_with(b" ") {
+    if text.starts_with(b" ") && text[blanks_len(text)..].starts_with(b"nbhd-table") {
         return "; it begins with a blank";
     }
     if text[..first_line_len(text)].contains(&b'\t') {
@@ -116,9 +117,24 @@ fn other_advice(text: &[u8]) -> &'static str {
         return "; `\\n` stands for a line feed only in other texts: begin a new line";
     }
     if text.starts_with(b"nbhd-table ") {
-        return "; its first line is `nbhd-table 2`, or `nbhd-table 1`";
+        return version_advice(&text[..first_line_len(text)]);
     }
     "; its first line is `nbhd-table` and the version"
+}
+
+// Returns the number of blanks at the start.
+fn blanks_len(text: &[u8]) -> usize
+    ensures { result ≤ length text.now }
+{
+    text.iter().take_while(|byte| **byte == b' ').count()
+}
+
+// Returns advice on a first line with another version than there is.
+fn version_advice(line: &[u8]) -> &'static str {
+    match line {
+        [.., b'1' | b'2', b' '] => "; it ends with a blank",
+        _ => "; its first line is `nbhd-table 2`, or `nbhd-table 1`",
+    }
 }
 
 // Returns advice on the second line of a text, which does not have its form; `rest` is the text
@@ -134,22 +150,29 @@ fn second_advice(text: &[u8], rest: &[u8]) -> &'static str {
     if line.contains(&b'-') || line.contains(&b'+') {
         return "; numbers have no sign";
     }
-    if let Some(advice) = blanks_advice(line) {
+    if let Some(advice) = blanks_advice(line).or(zeros_advice(line)) {
         return advice;
     }
     header_advice(text.starts_with(b"nbhd-table 1\n"), rest)
 }
 
-// Returns advice on the blanks and the zeros of a line.
+// Returns advice on the blanks of a line.
 fn blanks_advice(line: &[u8]) -> Option<&'static str> {
     let is_doubled = (1..line.len()).any(|index| line[index - 1] == b' ' && line[index] == b' ');
-    let is_padded = (2..line.len()).any(|index| {
-        line[index - 2] == b' ' && line[index - 1] == b'0' && line[index].is_ascii_digit()
-    });
     match line {
         [.., b' '] => Some("; it ends with a blank"),
         _ if line.contains(&b'\t') => Some(TAB),
         _ if is_doubled => Some("; words are parted by single blanks"),
+        _ => None,
+    }
+}
+
+// Returns advice on the zeros before the numbers of a line.
+fn zeros_advice(line: &[u8]) -> Option<&'static str> {
+    let is_padded = (2..line.len()).any(|index| {
+        line[index - 2] == b' ' && line[index - 1] == b'0' && line[index].is_ascii_digit()
+    });
+    match line {
         [b'0', b'0'..=b'9', ..] => Some("; numbers have no zeros before them"),
         _ if is_padded => Some("; numbers have no zeros before them"),
         _ => None,
@@ -169,23 +192,38 @@ fn line_advice(shape: Option<Shape>, rest: &[u8]) -> &'static str {
     if line.len() == rest.len() {
         return STOPPED;
     }
+    if line == b"end".as_slice() && is_before_window(rest) {
+        return "; `end` comes after the line of the last window, and lines of windows follow this one";
+    }
     match (shape, window_of(line)) {
-        (Some(shape), Some(window)) => window_advice(shape.rounds(), window),
+        (Some(shape), Some(window)) => window_advice(shape.rounds(), window, line),
         _ => bytes_advice(line),
     }
 }
 
+// Returns whether the second line of a text is that of a window.
+fn is_before_window(text: &[u8]) -> bool {
+    let next = after_line(text);
+    is_of_window(&next[..first_line_len(next)])
+}
+
 // Returns advice on a line of a window and a channel in a table of this many rounds. If the window has
-// as many identifiers as it is to have, the line is one too many.
-fn window_advice(rounds: u32, window: &[u8]) -> &'static str {
+// as many identifiers as it is to have, and no number has zeros before it, the line is one too many.
+fn window_advice(rounds: u32, window: &[u8], line: &[u8]) -> &'static str {
     match (rounds, words_in(window)) {
-        (0, 1) | (1, 3) | (2, 5) | (3, 7) | (4, 9) =>
-            "; after the line of the last window comes the line `end`",
+        (0, 1) | (1, 3) | (2, 5) | (3, 7) | (4, 9) => match zeros_advice(line) {
+            Some(advice) => advice,
+            None => "; after the line of the last window comes the line `end`",
+        },
         (0, _) => "; with `rounds 0`, as line 2 has, a window has 1 identifier",
-        (1, _) => "; with `rounds 1`, as line 2 has, a window has 3 identifiers",
-        (2, _) => "; with `rounds 2`, as line 2 has, a window has 5 identifiers",
-        (3, _) => "; with `rounds 3`, as line 2 has, a window has 7 identifiers",
-        _ => "; with `rounds 4`, as line 2 has, a window has 9 identifiers",
+        (1, _) =>
+            "; with `rounds 1`, as line 2 has, a window has 3 identifiers with single blanks between them",
+        (2, _) =>
+            "; with `rounds 2`, as line 2 has, a window has 5 identifiers with single blanks between them",
+        (3, _) =>
+            "; with `rounds 3`, as line 2 has, a window has 7 identifiers with single blanks between them",
+        _ =>
+            "; with `rounds 4`, as line 2 has, a window has 9 identifiers with single blanks between them",
     }
 }
 
@@ -241,9 +279,11 @@ fn window_of(line: &[u8]) -> Option<&[u8]> {
 // Returns advice on the bytes of a line that does not have its form.
 fn bytes_advice(line: &[u8]) -> &'static str {
     match line {
-        [] => "; the line is blank",
+        _ if is_blank(line) => "; the line is blank",
         b"end" => "; lines are missing before it",
         _ if line.contains(&b'#') => "; there are no comments in tables",
+        _ if has_two_colons(line) =>
+            "; a line has one ` : `, between the identifiers of a window and a channel",
         [.., b':'] | [.., b':', b' '] => "; its channel is missing",
         [b' ', ..] => "; it begins with a blank",
         [.., b' '] => "; it ends with a blank",
@@ -251,6 +291,23 @@ fn bytes_advice(line: &[u8]) -> &'static str {
         _ if line.contains(&b':') => numbers_advice(line),
         _ => WINDOW,
     }
+}
+
+// Returns whether a line has only blanks.
+fn is_blank(line: &[u8]) -> bool {
+    line.iter().all(|byte| matches!(*byte, b' ' | b'\t'))
+}
+
+// Returns whether a line has more than one colon.
+fn has_two_colons(line: &[u8]) -> bool {
+    line.iter().filter(|byte| **byte == b':').count() > 1
+}
+
+// Returns the number of bytes before the first colon.
+fn before_colon_len(line: &[u8]) -> usize
+    ensures { result ≤ length line.now }
+{
+    line.iter().take_while(|byte| **byte != b':').count()
 }
 
 // Returns the number of digits and blanks at the start.
@@ -274,13 +331,16 @@ fn has_no_channel(line: &[u8]) -> bool {
 
 // Returns advice on the numbers of a line with a colon.
 fn numbers_advice(line: &[u8]) -> &'static str {
-    if line.contains(&b',') {
+    if line[..before_colon_len(line)].contains(&b',') {
         return "; numbers are parted by single blanks";
+    }
+    if line.contains(&b',') {
+        return "; a channel is one number, without commas";
     }
     if line.iter().any(|byte| matches!(*byte, b'+' | b'-' | b'.')) {
         return "; a number has only digits";
     }
-    if let Some(advice) = blanks_advice(line) {
+    if let Some(advice) = blanks_advice(line).or(zeros_advice(line)) {
         return advice;
     }
     if has_no_channel(line) {
