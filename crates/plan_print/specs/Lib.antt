@@ -42,5 +42,6 @@ pub use Rattle.ring_segments.specs.SegmentCounts
 pub use Rattle.reports.specs.Causes
 pub use Rattle.reports.specs.Notes
 pub use Rattle.reports.specs.Written
+pub mod FirstTuples
 pub mod Engine
 pub mod ReportedFaults

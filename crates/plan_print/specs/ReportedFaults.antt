@@ -4,8 +4,8 @@ use Rattle.devices.specs.declared.fault.EngineFault.{EngineFault}
 use Rattle.devices.specs.declared.fault.EngineFault.TheVariants as engine
 use Rattle.ring_exec.specs.declared.fault.RunFault.{RunFault}
 use Rattle.ring_exec.specs.declared.fault.RunFault.TheVariants as run
-use Rattle.worker_pool.specs.declared.fault.FillFault.{FillFault}
-use Rattle.worker_pool.specs.declared.fault.FillFault.TheVariants as fill
+use Rattle.table_fill.specs.declared.fault.FillFault.{FillFault}
+use Rattle.table_fill.specs.declared.fault.FillFault.TheVariants as fill
 
 -- None if the number of segments is out of range, which the report covers
 abbrev pub reported_run_fault : RunFault → Option EngineFault

@@ -9,10 +9,10 @@ ghost use Rattle.reports.specs.Answers.{report_in};
 ghost use Rattle.reports.specs.Report as report;
 ghost use Rattle.reports.specs.Report.{Says, IsAnswerOnRing, IsJudgement, IsRunAnswer};
 
+use crate::first_tuples::first_witness;
 use crate::places::places_text;
 use channel_tables::Table;
 use devices::fault::EngineFault;
-use first_tuples::first_witness;
 use lang_check::Plan;
 use nbhd_check::{Separation, judge_with_workers};
 use reports::answer::Answer;

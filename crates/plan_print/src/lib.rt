@@ -3,8 +3,10 @@
 
 mod answer;
 pub mod engine;
+mod first_tuples;
 mod places;
 pub mod process;
+mod program_windows;
 mod report;
 
 pub use devices::{fault, input, output, watched};

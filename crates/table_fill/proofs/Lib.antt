@@ -1,2 +1,4 @@
 -- Lemmas that several proofs share.
 pub mod SharedFill
+mod Numbered
+mod Together

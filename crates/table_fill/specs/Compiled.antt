@@ -9,9 +9,9 @@ use Rattle.table_entries.specs.ProgramTables.{table_of}
 use Rattle.shared_memo.specs.declared.pass.Pass.{Pass}
 use Rattle.shared_memo.specs.Passes.{known}
 use Rattle.round_eval.specs.declared.fault.WorkFault.TheVariants as work
-use Rattle.worker_pool.specs.declared.fault.FillFault.{FillFault}
-use Rattle.worker_pool.specs.declared.fault.FillFault.TheVariants.{WorkersOutOfRange, OutOfMemory, Stranger, NoThread}
-use Rattle.worker_pool.specs.Outcomes.{CameTo}
+use Rattle.table_fill.specs.declared.fault.FillFault.{FillFault}
+use Rattle.table_fill.specs.declared.fault.FillFault.TheVariants.{WorkersOutOfRange, OutOfMemory, Stranger, NoThread}
+use Rattle.table_fill.specs.Outcomes.{CameTo}
 use Rattle.table_fill.specs.Filled.{KnowsAll, HasGap}
 
 -- the table of the plan's program, beside a pass that knows all blocks of the plan

@@ -5,13 +5,13 @@ ghost use Rattle.shared_memo.specs.Passes.{known, memo_plan, IsPassOf};
 ghost use Rattle.shared_memo.specs.PlanJobs.{job_count};
 ghost use Rattle.table_fill.specs.Filled.{AreKnown};
 
+use crate::Jobs;
 use crate::cell_maker::CellMaker;
 use round_columns::Code;
 use round_eval::{Gate, WorkFault};
 use shared_memo::{Desk, Memo, Pass, Ticket};
 use std::alloc::Global;
 use win_index::jobs_have_numbers;
-use worker_pool::Jobs;
 
 // A memo to be filled, and the code of its plan, which is compiled once and lent to all workers.
 #[derive(Drop)]

@@ -5,7 +5,7 @@ use Rattle.channel_tables.specs.Tables.{ChannelTable}
 use Rattle.channel_tables.specs.declared.separation.Separation.{Separation}
 use Rattle.bad_tuples.specs.Apart.{tuples, IsLeastBad}
 use Rattle.table_entries.specs.ProgramTables.{table_of}
-use Rattle.first_tuples.specs.declared.first_tuples.TheConstants.{FIRST_TUPLES}
+use Rattle.plan_print.specs.declared.first_tuples.TheConstants.{FIRST_TUPLES}
 
 -- the table of a plan's program
 abbrev pub plan_table : ProgramForIds → ChannelTable

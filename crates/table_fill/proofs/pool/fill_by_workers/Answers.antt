@@ -1,9 +1,9 @@
 use Rattle.std.proofs.Common.{rules, arith, ◌≡◌, Ok, Err, length, subst, sym, ◌∙◌}
 use Rattle.round_eval.specs.declared.fault.ThreadFault.TheVariants.{Work}
 use Rattle.shared_memo.specs.Tickets.{worker_of}
-use Rattle.worker_pool.specs.Outcomes.{CameTo, IsFaultOf}
-use Rattle.worker_pool.proofs.Together.{fault_of, only_ticket, alone_met, alone_done}
-use Rattle.worker_pool.proofs.pool.fill_by_workers.Goals as goal
+use Rattle.table_fill.specs.Outcomes.{CameTo, IsFaultOf}
+use Rattle.table_fill.proofs.Together.{fault_of, only_ticket, alone_met, alone_done}
+use Rattle.table_fill.proofs.pool.fill_by_workers.Goals as goal
 
 pub returns-in_err-lowest_fault-clause-ended : goal.returns-in_err-lowest_fault-clause-ended
 returns-in_err-lowest_fault-clause-ended g c =

@@ -1,8 +1,8 @@
 use Rattle.std.proofs.Common.{rules, ◌≡◌}
-use Rattle.worker_pool.specs.Outcomes.{outcome_worker}
-use Rattle.worker_pool.proofs.Numbered.{numbered_rest}
+use Rattle.table_fill.specs.Outcomes.{outcome_worker}
+use Rattle.table_fill.proofs.Numbered.{numbered_rest}
 use Rattle.win_index.proofs.Kept.{each_snoc}
-use Rattle.worker_pool.proofs.pool.join_all.Goals as goal
+use Rattle.table_fill.proofs.pool.join_all.Goals as goal
 
 pub loop-handle-preserved : goal.loop-handle-preserved
 loop-handle-preserved g c =

@@ -1,5 +1,5 @@
 //! The windows of a program, with the channels that it computes for them.
-ghost use Rattle.first_tuples.specs.FirstTuples.{plan_table};
+ghost use Rattle.plan_print.specs.FirstTuples.{plan_table};
 
 use bad_tuples::Windows;
 use lang_check::Plan;

@@ -1,8 +1,8 @@
 use Rattle.std.proofs.Common.{rules, ◌≡◌, suc, All, List, ◌∷◌, arith}
 use Rattle.shared_memo.specs.Tickets.{worker_of, IsFreshTicketOf}
-use Rattle.worker_pool.proofs.Numbered.{numbered_rest}
+use Rattle.table_fill.proofs.Numbered.{numbered_rest}
 use Rattle.win_index.proofs.Kept.{each_snoc}
-use Rattle.worker_pool.proofs.pool.start_all.Goals as goal
+use Rattle.table_fill.proofs.pool.start_all.Goals as goal
 
 all_first : {X : Type 0} (P : X → Type 0) (x : X) (all xs : List X) → all ≡ x ∷ xs → All P all → P x × All P xs
 all_first P x all xs is h = let own : All P (x ∷ xs) = rw is at h in (own 0 x (omega arith), λ k d below. own (suc k) d (omega arith))

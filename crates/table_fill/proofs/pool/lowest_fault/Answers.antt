@@ -1,9 +1,9 @@
 use Rattle.std.proofs.Common.{rules, ◌≡◌, ℕ, ◌<◌, Some, length, get_or, arith, sym, ◌∙◌, ap}
 use Rattle.std.specs.Prelude.{IsOk}
 use Rattle.std.proofs.lemmas.Option.{slice_get-get_or}
-use Rattle.worker_pool.specs.declared.jobs.Outcome.{Outcome}
-use Rattle.worker_pool.specs.Outcomes.{outcome_worker}
-use Rattle.worker_pool.proofs.pool.lowest_fault.Goals as goal
+use Rattle.table_fill.specs.declared.jobs.Outcome.{Outcome}
+use Rattle.table_fill.specs.Outcomes.{outcome_worker}
+use Rattle.table_fill.proofs.pool.lowest_fault.Goals as goal
 
 -- the workers before this one have no fault
 pub returns-in-Err : goal.returns-in-Err

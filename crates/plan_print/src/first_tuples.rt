@@ -1,4 +1,5 @@
-//! The first tuples of a program's table, judged before the table is filled.
+//! The first tuples of a program's table, judged before the table is filled: a program that fails at
+//! one of them is refused at once.
 use crate::program_windows::ProgramWindows;
 use bad_tuples::{Tuples, Witness};
 use channel_tables::Separation;
@@ -7,19 +8,19 @@ use node_program::OutOfMemory;
 use std::alloc::Global;
 
 /// The number of tuples that are judged before a table is filled.
-pub const FIRST_TUPLES: u64 = 64;
+pub(crate) const FIRST_TUPLES: u64 = 64;
 
 ghost use Rattle.std.specs.Prelude.{IfOk, IfSome, IfNone, OnErr};
 ghost use Rattle.bad_tuples.specs.Apart.{IsApartEverywhere, NoneIsBad};
 ghost use Rattle.bad_tuples.specs.Witnesses.{IsWitness};
-ghost use Rattle.first_tuples.specs.FirstTuples.{plan_table, first_count, IsFirstBad};
+ghost use Rattle.plan_print.specs.FirstTuples.{plan_table, first_count, IsFirstBad};
 
 /// Judges the first `FIRST_TUPLES` tuples of the table of a plan's program, in order, by rounds on
 /// their windows. Returns the witness of the judge's no exactly if one of them breaks the
 /// separation, else `None`.
 ///
 /// Fails if memory for the witness was refused.
-pub fn first_witness(
+pub(crate) fn first_witness(
     alloc: Global,
     plan: &Plan,
     separation: Separation,

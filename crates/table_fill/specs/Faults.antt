@@ -2,8 +2,8 @@
 use Rattle.round_eval.specs.declared.fault.ThreadFault.{ThreadFault}
 use Rattle.round_eval.specs.declared.fault.ThreadFault.TheVariants.{Work, NoThread}
 use Rattle.round_eval.specs.declared.fault.WorkFault.TheVariants as work
-use Rattle.worker_pool.specs.declared.fault.FillFault.{FillFault}
-use Rattle.worker_pool.specs.declared.fault.FillFault.TheVariants as fill
+use Rattle.table_fill.specs.declared.fault.FillFault.{FillFault}
+use Rattle.table_fill.specs.declared.fault.FillFault.TheVariants as fill
 
 -- the fault that the caller gets
 abbrev pub fill_fault_of : ThreadFault → FillFault

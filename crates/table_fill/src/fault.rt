@@ -1,7 +1,7 @@
 //! Why jobs were not filled.
 
 ghost use Rattle.std.specs.Prelude.{◌≡◌};
-ghost use Rattle.worker_pool.specs.Faults.{fill_fault_of};
+ghost use Rattle.table_fill.specs.Faults.{fill_fault_of};
 
 use round_eval::{ThreadFault, WorkFault};
 

@@ -2,8 +2,8 @@
 
 ghost use Rattle.std.specs.Prelude.{◌≡◌, ◌<◌, ◌≤◌, ◌↔◌, Ok, Err, IsOk, IfOk, IfSome, MatchOption, MatchResult, IsTrue, vec_len};
 ghost use Rattle.shared_memo.specs.Tickets.{worker_of, numbers_of, IsFreshTicketOf, AreFreshTickets, AreNumbered};
-ghost use Rattle.worker_pool.specs.Workers.{HasRoom, IsWorkerCount};
-ghost use Rattle.worker_pool.specs.Outcomes.{outcome_worker, AreOutcomes, IsLowestFault, CameTo, IsFaultOf};
+ghost use Rattle.table_fill.specs.Workers.{HasRoom, IsWorkerCount};
+ghost use Rattle.table_fill.specs.Outcomes.{outcome_worker, AreOutcomes, IsLowestFault, CameTo, IsFaultOf};
 
 use crate::jobs::{Jobs, Outcome};
 use round_eval::{Gate, ThreadFault, WorkFault};

@@ -1,7 +1,7 @@
 use Rattle.std.proofs.Common.{ℕ, ◌<◌, get_or}
 use Rattle.std.specs.Prelude.{IsOk}
-use Rattle.worker_pool.specs.declared.jobs.Outcome.{Outcome}
-use Rattle.worker_pool.proofs.pool.lowest_fault.Given as goal
+use Rattle.table_fill.specs.declared.jobs.Outcome.{Outcome}
+use Rattle.table_fill.proofs.pool.lowest_fault.Given as goal
 
 -- the workers so far have no fault
 abbrev pub invariant-loop-outcome : goal.invariant-loop-outcome

@@ -1,8 +1,8 @@
 use Rattle.std.proofs.Common.{◌≡◌, ◌+◌, ◌≤◌, All, vec_len, vec_capacity}
 use Rattle.std.specs.Vec.Iter.{into_iter_items, into_iter_len}
 use Rattle.shared_memo.specs.Tickets.{worker_of, AreNumbered, IsFreshTicketOf}
-use Rattle.worker_pool.proofs.Numbered.{AreNumberedFrom}
-use Rattle.worker_pool.proofs.pool.start_all.Given as goal
+use Rattle.table_fill.proofs.Numbered.{AreNumberedFrom}
+use Rattle.table_fill.proofs.pool.start_all.Given as goal
 
 abbrev pub invariant-loop-ticket : goal.invariant-loop-ticket
 invariant-loop-ticket g l = record {

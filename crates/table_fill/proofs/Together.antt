@@ -8,8 +8,8 @@ use Rattle.round_eval.specs.declared.fault.WorkFault.TheVariants.{OutOfMemory, S
 use Rattle.round_eval.specs.declared.fault.ThreadFault.TheVariants.{Work}
 use Rattle.shared_memo.specs.declared.desk.Ticket.{Ticket}
 use Rattle.shared_memo.specs.Tickets.{worker_of, told, AreNumbered}
-use Rattle.worker_pool.specs.declared.jobs.Outcome.{Outcome}
-use Rattle.worker_pool.specs.Outcomes.{outcome_worker, AreOutcomes, CameTo, IsFaultOf}
+use Rattle.table_fill.specs.declared.jobs.Outcome.{Outcome}
+use Rattle.table_fill.specs.Outcomes.{outcome_worker, AreOutcomes, CameTo, IsFaultOf}
 
 -- a fault to which workers came is one of theirs
 pub fault_of : (workers : ℕ) (fault : WorkFault) → CameTo workers (Err fault) → IsFaultOf workers (Work fault)

@@ -1,10 +1,10 @@
 use Rattle.std.proofs.Common.{◌≡◌, ◌+◌, ◌≤◌, vec_len}
 use Rattle.std.specs.Vec.{vec_capacity}
 use Rattle.std.specs.Vec.Iter.{into_iter_items, into_iter_len}
-use Rattle.worker_pool.specs.Outcomes.{outcome_worker}
+use Rattle.table_fill.specs.Outcomes.{outcome_worker}
 use Rattle.shared_memo.specs.Tickets.{AreNumbered}
-use Rattle.worker_pool.proofs.Numbered.{AreNumberedFrom}
-use Rattle.worker_pool.proofs.pool.join_all.Given as goal
+use Rattle.table_fill.proofs.Numbered.{AreNumberedFrom}
+use Rattle.table_fill.proofs.pool.join_all.Given as goal
 
 abbrev pub invariant-loop-handle : goal.invariant-loop-handle
 invariant-loop-handle g l = record {

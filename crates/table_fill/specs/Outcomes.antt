@@ -4,7 +4,7 @@ use Rattle.round_eval.specs.declared.fault.WorkFault.{WorkFault}
 use Rattle.round_eval.specs.declared.fault.WorkFault.TheVariants.{OutOfMemory, Stranger}
 use Rattle.round_eval.specs.declared.fault.ThreadFault.{ThreadFault}
 use Rattle.round_eval.specs.declared.fault.ThreadFault.TheVariants.{Work, NoThread}
-use Rattle.worker_pool.specs.declared.jobs.Outcome.{Outcome}
+use Rattle.table_fill.specs.declared.jobs.Outcome.{Outcome}
 use Rattle.shared_memo.specs.Tickets.{worker_of, AreNumbered}
 
 -- the number of the worker that came to this

@@ -1,2 +1,0 @@
-mod Numbered
-mod Together
