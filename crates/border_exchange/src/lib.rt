@@ -1,19 +1,28 @@
-//! Message exchange between two neighbours of a ring: a list of messages for each side, which only
-//! grows. One thread puts while another takes.
+//! The parts of a ring that is run by messages: segments of its places, the messages that they send, and
+//! the borders at which two segments exchange them, a list of messages for each side, which only grows.
+//! One thread puts while another takes.
 #![tactic(auto)]
 
 ghost use Rattle.std.specs.Prelude.{◌≡◌, ℕ};
 
 mod border;
 mod fault;
+mod laws;
+mod limits;
 mod lists;
+mod message;
 mod seat;
+mod segment;
 mod side_list;
 mod totals;
 
 pub use border::Border;
 pub use fault::PutFault;
+pub use laws::segments_cover_the_ring;
+pub use limits::MAX_SEGMENTS;
+pub use message::Msg;
 pub use seat::Seat;
+pub use segment::{Segment, Strange};
 pub use totals::Totals;
 
 /// The side to which a message is sent.

@@ -5,7 +5,7 @@ ghost use Rattle.std.specs.Prelude.{◌≡◌, ◌<◌, ◌≤◌, IfSome, lengt
 mod machine;
 
 use lang_check::Plan;
-use ring_segments::Segment;
+use border_exchange::Segment;
 use std::alloc::Global;
 use std::test::Fail;
 use test_programs::{CV1, RED, plan_of};

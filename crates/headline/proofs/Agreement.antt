@@ -12,7 +12,7 @@ use Rattle.win_index.specs.Ring.{IsRing}
 use Rattle.win_index.specs.Arcs.{arc, window_around}
 use Rattle.channel_tables.specs.Tables.{ChannelTable, channel_of}
 use Rattle.channel_tables.specs.declared.separation.Separation.{Separation}
-use Rattle.bad_tuples.specs.Apart.{AreApart, IsApartEverywhere}
+use Rattle.channel_tables.specs.Apart.{AreApart, IsApartEverywhere}
 use Rattle.headline.specs.Headline.{TableAgrees, RunAgrees, ChannelsAreApart}
 use Rattle.headline.specs.Laws.{TablesAreApartOnRings}
 

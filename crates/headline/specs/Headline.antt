@@ -8,7 +8,7 @@ use Rattle.win_index.specs.Ring.{IsRing}
 use Rattle.win_index.specs.Arcs.{window_around}
 use Rattle.channel_tables.specs.Tables.{ChannelTable, channel_of}
 use Rattle.channel_tables.specs.declared.separation.Separation.{Separation}
-use Rattle.bad_tuples.specs.Apart.{extra}
+use Rattle.channel_tables.specs.Apart.{extra}
 use Rattle.nbhd_check.specs.Verdicts.{IsVerdict}
 use Rattle.nbhd_check.specs.declared.verdict.Verdict.{Verdict}
 use Rattle.nbhd_check.specs.declared.verdict.Verdict.TheVariants.{Yes}

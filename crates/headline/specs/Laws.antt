@@ -8,7 +8,7 @@ use Rattle.channel_tables.specs.Tables.{ChannelTable, channel_of}
 use Rattle.node_program.specs.Term.{ProgramTree}
 use Rattle.table_entries.specs.ProgramTables.{table_of}
 use Rattle.channel_tables.specs.declared.separation.Separation.{Separation}
-use Rattle.bad_tuples.specs.Apart.{extra, IsApartEverywhere}
+use Rattle.channel_tables.specs.Apart.{extra, IsApartEverywhere}
 use Rattle.headline.specs.Headline.{ChannelsAreApart}
 
 -- the table of a program keeps a separation on every ring if and only if the channels of global rounds do

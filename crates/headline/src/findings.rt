@@ -1,7 +1,7 @@
 //! Compiling, running and judging in one call.
 ghost use Rattle.std.specs.Prelude.{◌≡◌, ◌↔◌, IfOk, IfErr, OnOk, length};
 ghost use Rattle.table_fill.specs.Workers.{IsWorkerCount};
-ghost use Rattle.ring_segments.specs.SegmentCounts.{IsSegmentCount};
+ghost use Rattle.border_exchange.specs.SegmentCounts.{IsSegmentCount};
 ghost use Rattle.headline.specs.Headline.{IsHeadline, TableAgrees};
 ghost use Rattle.ring_exec.specs.declared.fault.RunFault.{RunFault};
 

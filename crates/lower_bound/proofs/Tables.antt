@@ -11,8 +11,8 @@ use Rattle.win_index.specs.Laws.{WindowOfNumber, WindowsHaveNumbers}
 use Rattle.win_index.specs.Windows.{number_of, IsWindow}
 use Rattle.channel_tables.specs.Tables.{ChannelTable, channel_of, windows_of}
 use Rattle.channel_tables.specs.declared.separation.Separation.{Separation}
-use Rattle.bad_tuples.specs.Apart.{extra, AreApart, IsApartEverywhere}
-use Rattle.bad_tuples.specs.Laws.{LessIsApart}
+use Rattle.channel_tables.specs.Apart.{extra, AreApart, IsApartEverywhere}
+use Rattle.channel_tables.specs.Laws.{LessIsApart}
 use Rattle.lower_bound.specs.Laws.{IsFull, WindowsNeedChannels, TablesNeedChannels, OddRingsNeedThree, TablesNeedThree, DifferNearby, RingsNeedFour, FiveNeedFive, TablesNeedFour, TablesNeedFive}
 use Rattle.lower_bound.specs.Towers.{spread}
 

@@ -5,7 +5,7 @@ use Rattle.win_index.specs.Ring.{IsRing}
 use Rattle.win_index.specs.Windows.{IsWindow}
 use Rattle.channel_tables.specs.Tables.{ChannelTable, windows_of}
 use Rattle.channel_tables.specs.declared.separation.Separation.{Separation}
-use Rattle.bad_tuples.specs.Apart.{IsApartEverywhere}
+use Rattle.channel_tables.specs.Apart.{IsApartEverywhere}
 use Rattle.lower_bound.specs.Towers.{tower, spread}
 
 -- Each function from the windows of t rounds to channels below c, by which the channels of neighbours differ on every

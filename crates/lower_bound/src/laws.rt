@@ -1,7 +1,7 @@
 //! Linial's lower bound, by the proof of Laurinharju and Suomela (2014).
 ghost use Rattle.lower_bound.specs.Laws as law;
 
-use bad_tuples::less_is_apart;
+use channel_tables::less_is_apart;
 use win_index::{rings_have_windows, tuples_are_rings, window_of_number, windows_have_numbers};
 
 /// If each window of `t` rounds has a channel below `c`, and neighbours' channels differ on every

@@ -12,7 +12,7 @@ use Rattle.nbhd_check.specs.Runs.{BeginsFarTuple}
 use Rattle.nbhd_check.proofs.Ends.{by_last}
 use Rattle.nbhd_check.proofs.FarFree.{far_third, third_in_family}
 use Rattle.nbhd_check.proofs.Included.{none_without}
-use Rattle.bad_tuples.proofs.Prefixes.{one_number}
+use Rattle.channel_tables.proofs.Prefixes.{one_number}
 
 -- every window holds the number of identifiers
 held_always : (t : ChannelTable) (passes : Bool) (k : ℕ) → passes && is_held t t.ids k ≡ passes

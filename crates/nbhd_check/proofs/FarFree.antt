@@ -11,15 +11,15 @@ use Rattle.win_index.proofs.FrontPlaces.{slice_window}
 use Rattle.win_index.proofs.Numbers.{length-windows, windows_all}
 use Rattle.win_index.proofs.Positions.{window_place}
 use Rattle.channel_tables.specs.Tables.{ChannelTable, channel_of, windows_of}
-use Rattle.bad_tuples.specs.Apart.{AreClose}
+use Rattle.channel_tables.specs.Apart.{AreClose}
 use Rattle.nbhd_check.specs.Counts.{family_len, shared_len, shared_lists, IsFamily}
 use Rattle.nbhd_check.specs.Runs.{BeginsFarTuple}
 use Rattle.nbhd_check.proofs.Cells.{row_more}
-use Rattle.bad_tuples.proofs.Close.{close_along}
+use Rattle.channel_tables.proofs.Close.{close_along}
 use Rattle.nbhd_check.proofs.Ends.{by_first}
-use Rattle.bad_tuples.proofs.Prefixes.{in_longer_run, one_number, one_run, window_drop}
-use Rattle.bad_tuples.proofs.RunLengths.{falling-add, falling_two}
-use Rattle.bad_tuples.proofs.Witnesses.{channel_at}
+use Rattle.channel_tables.proofs.Prefixes.{in_longer_run, one_number, one_run, window_drop}
+use Rattle.channel_tables.proofs.RunLengths.{falling-add, falling_two}
+use Rattle.channel_tables.proofs.Witnesses.{channel_at}
 
 -- the first two identifiers of a window of a table
 pub first_two : (t : ChannelTable) (number : ℕ) (window : List ℕ) → 1 ≤ t.rounds → slice_get (windows_of t) number ≡ Some window

@@ -13,7 +13,7 @@ use Rattle.win_index.proofs.Sizes.{window_within}
 use Rattle.channel_tables.specs.Tables.{ChannelTable, IsTable, windows_of}
 use Rattle.nbhd_check.specs.Runs.{wide}
 use Rattle.nbhd_check.proofs.Cells.{row_more}
-use Rattle.bad_tuples.proofs.Prefixes.{at_place_of_run, rank_rises}
+use Rattle.channel_tables.proofs.Prefixes.{at_place_of_run, rank_rises}
 
 -- the first identifiers of a run's first window
 front_of_first : (t : ChannelTable) (run : ℕ) (window : List ℕ) → slice_get (windows_of t) (run * wide t) ≡ Some window

@@ -14,12 +14,12 @@ use Rattle.win_index.proofs.RunStarts.{longer_number}
 use Rattle.win_index.proofs.Unused.{IsDistinct, distinct_head, unused_at}
 use Rattle.channel_tables.specs.Tables.{ChannelTable, channel_of, windows_of}
 use Rattle.channel_tables.specs.declared.separation.Separation.{Separation}
-use Rattle.bad_tuples.specs.Apart.{extra, AreClose, IsBad, NoneIsBad}
-use Rattle.bad_tuples.specs.Apart.{run_len}
+use Rattle.channel_tables.specs.Apart.{extra, AreClose, IsBad, NoneIsBad}
+use Rattle.channel_tables.specs.Apart.{run_len}
 use Rattle.nbhd_check.specs.Runs.{AreFree, BeginsBadTuple, BeginsFarTuple, HasCloseOutside}
-use Rattle.bad_tuples.proofs.Close.{close_along, some_distance, two_of_far}
-use Rattle.bad_tuples.proofs.Prefixes.{in_longer_run, one_number, part_of_front}
-use Rattle.bad_tuples.proofs.Witnesses.{channel_at}
+use Rattle.channel_tables.proofs.Close.{close_along, some_distance, two_of_far}
+use Rattle.channel_tables.proofs.Prefixes.{in_longer_run, one_number, part_of_front}
+use Rattle.channel_tables.proofs.Witnesses.{channel_at}
 
 -- the first identifier of a list of distinct ones is not among the others
 pub first_is_free : (list : List ℕ) → IsDistinct list → is_used (drop 1 list) (get_or list 0 0) ≡ false

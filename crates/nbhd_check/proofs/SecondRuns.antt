@@ -17,7 +17,7 @@ use Rattle.nbhd_check.specs.declared.near.SecondRuns.{SecondRuns}
 use Rattle.nbhd_check.specs.Masks.{NoneClose}
 use Rattle.nbhd_check.specs.Runs.{SecondRunsOf, second_run, second_gap, wide, AreFree, BeginsBadTuple, HasCloseOutside}
 use Rattle.nbhd_check.proofs.Suffixes.{number_of_next, run_within}
-use Rattle.bad_tuples.proofs.Prefixes.{at_place_of_run, lacks_drop, rank_rises, whole_list, window_drop}
+use Rattle.channel_tables.proofs.Prefixes.{at_place_of_run, lacks_drop, rank_rises, whole_list, window_drop}
 use Rattle.nbhd_check.proofs.Runs.{first_is_free, none_close_after}
 
 -- the number of identifiers below x that the list lacks

@@ -16,8 +16,8 @@ use Rattle.nbhd_check.specs.Counts.{shared_len}
 use Rattle.nbhd_check.specs.FarSearch.{ArePairNumbers}
 use Rattle.nbhd_check.specs.declared.far_counts.PairNumbers.{PairNumbers}
 use Rattle.nbhd_check.proofs.Ends.{window_moved}
-use Rattle.bad_tuples.proofs.Prefixes.{rank_rises, run_of}
-use Rattle.bad_tuples.proofs.RunLengths.{falling_one}
+use Rattle.channel_tables.proofs.Prefixes.{rank_rises, run_of}
+use Rattle.channel_tables.proofs.RunLengths.{falling_one}
 
 -- the place of an identifier among those that a list lacks
 abbrev rank : List ℕ → ℕ → ℕ

@@ -8,7 +8,7 @@ use Rattle.win_index.proofs.RunStarts.{run_start_is}
 use Rattle.channel_tables.specs.Tables.{ChannelTable, windows_of}
 use Rattle.nbhd_check.specs.Runs.{wide}
 use Rattle.nbhd_check.specs.Counts.{shared_lists}
-use Rattle.bad_tuples.proofs.Prefixes.{window_drop}
+use Rattle.channel_tables.proofs.Prefixes.{window_drop}
 
 -- the identifiers of a window without its first ones and its last, as the code slices them
 pub shared_cut : (by : ℕ) (t : ChannelTable) (rounds : ℕ) (window : List ℕ) → rounds ≡ t.rounds → by ≤ 2 * t.rounds

@@ -18,7 +18,7 @@ use Rattle.nbhd_check.specs.FarSearch.{IsAtFamily}
 use Rattle.nbhd_check.specs.Masks.{NoneClose}
 use Rattle.nbhd_check.specs.Runs.{AreFree, BeginsFarTuple, wide}
 use Rattle.nbhd_check.proofs.FarFree.{all_of_families, family_is, far_third, some_product, third_in_family}
-use Rattle.bad_tuples.proofs.Prefixes.{at_place_of_run, lacks_drop, one_number, rank_rises, whole_list}
+use Rattle.channel_tables.proofs.Prefixes.{at_place_of_run, lacks_drop, one_number, rank_rises, whole_list}
 use Rattle.nbhd_check.proofs.Suffixes.{number_of_third, shared_cut}
 
 -- no third window is close to the channel of a window if none of their family is

@@ -5,7 +5,7 @@ use Rattle.win_index.specs.Arcs.{part_at}
 use Rattle.win_index.specs.Windows.{unused, windows, IsWindow}
 use Rattle.channel_tables.specs.Tables.{ChannelTable, channel_of, windows_of}
 use Rattle.channel_tables.specs.declared.separation.Separation.{Separation}
-use Rattle.bad_tuples.specs.Apart.{extra, AreClose, IsBad}
+use Rattle.channel_tables.specs.Apart.{extra, AreClose, IsBad}
 use Rattle.nbhd_check.specs.declared.near.SecondRuns.{SecondRuns}
 
 -- a tuple that begins with the window is bad

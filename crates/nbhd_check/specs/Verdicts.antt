@@ -1,8 +1,8 @@
 -- The verdict of the judge on a table.
 use Rattle.channel_tables.specs.Tables.{ChannelTable}
 use Rattle.channel_tables.specs.declared.separation.Separation.{Separation}
-use Rattle.bad_tuples.specs.Apart.{IsApartEverywhere}
-use Rattle.bad_tuples.specs.Witnesses.{IsWitness}
+use Rattle.channel_tables.specs.Apart.{IsApartEverywhere}
+use Rattle.channel_tables.specs.Witnesses.{IsWitness}
 use Rattle.nbhd_check.specs.declared.verdict.Verdict.{Verdict}
 use Rattle.nbhd_check.specs.declared.verdict.Verdict.TheVariants.{Yes, No}
 

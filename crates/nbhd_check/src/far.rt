@@ -13,8 +13,7 @@ use crate::masks::{Grouping, group_masks, joined_masks, windows_per_family};
 use crate::near::NearFree;
 use crate::run_search::{window_count, windows_per_run};
 use crate::search::{Search, free_windows};
-use bad_tuples::Tuples;
-use channel_tables::Table;
+use channel_tables::{Table, Tuples};
 use std::alloc::Global;
 use std::thread::Threads;
 

@@ -2,12 +2,11 @@
 ghost use Rattle.std.specs.Prelude.{◌≡◌, ℕ, ◌+◌, ◌*◌, ◌≤◌, length};
 ghost use Rattle.channel_tables.specs.Tables.{windows_of, IsTable};
 ghost use Rattle.nbhd_check.specs.Runs.{AreFree, BeginsBadTuple};
-ghost use Rattle.bad_tuples.specs.Searches.{IsLeastOfAll};
+ghost use Rattle.channel_tables.specs.Searches.{IsLeastOfAll};
 
 use crate::far::far_free_windows;
 use crate::near::near_free_windows;
-use bad_tuples::Tuples;
-use channel_tables::{Separation, Table};
+use channel_tables::{Separation, Table, Tuples};
 use std::alloc::Global;
 use std::thread::Threads;
 

@@ -15,7 +15,7 @@ mod run_search;
 mod search;
 mod verdict;
 
-pub use bad_tuples::{Tuples, Witness, judge_part};
+pub use channel_tables::{Tuples, Witness, judge_part};
 pub use channel_tables::Separation;
 pub use laws::pairs_that_avoid_two;
 pub use verdict::{Verdict, judge, judge_with_workers};

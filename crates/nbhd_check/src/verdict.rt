@@ -1,7 +1,6 @@
 //! The judge's calls, and its verdict.
 use crate::least::least_of_all;
-use bad_tuples::{Tuples, Witness};
-use channel_tables::{Separation, Table};
+use channel_tables::{Separation, Table, Tuples, Witness};
 use node_program::OutOfMemory;
 use rayon::current_num_threads;
 use std::alloc::Global;
@@ -17,7 +16,7 @@ pub enum Verdict {
 }
 
 ghost use Rattle.std.specs.Prelude.{◌≡◌, ◌↔◌, IfOk, OnErr};
-ghost use Rattle.bad_tuples.specs.Apart.{IsApartEverywhere};
+ghost use Rattle.channel_tables.specs.Apart.{IsApartEverywhere};
 ghost use Rattle.nbhd_check.specs.Verdicts.{IsVerdict};
 
 /// Judges whether channels are as far apart as the separation requires on every ring of the table's

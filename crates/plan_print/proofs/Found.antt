@@ -5,8 +5,8 @@ use Rattle.node_program.specs.declared.limits.TheConstants.{MAX_ROUNDS}
 use Rattle.node_program.specs.Term.{ProgramTree}
 use Rattle.win_index.specs.declared.limits.TheConstants.{MAX_IDS}
 use Rattle.table_entries.specs.ProgramTables.{table_of}
-use Rattle.bad_tuples.specs.Apart.{tuples}
-use Rattle.bad_tuples.specs.Laws.{WitnessesAreOnRings}
+use Rattle.channel_tables.specs.Apart.{tuples}
+use Rattle.channel_tables.specs.Laws.{WitnessesAreOnRings}
 use Rattle.channel_tables.specs.Tables.{ChannelTable}
 use Rattle.channel_tables.specs.declared.separation.Separation.{Separation}
 use Rattle.numerals.specs.declared.base.Base.{Base}

@@ -34,11 +34,11 @@ pub use Rattle.win_index.specs.ShapeRange
 pub use Rattle.win_index.specs.ShapeFaults
 pub use Rattle.channel_tables.specs.Tables
 pub use Rattle.table_entries.specs.ProgramTables
-pub use Rattle.bad_tuples.specs.Apart
-pub use Rattle.bad_tuples.specs.Proper
-pub use Rattle.bad_tuples.specs.Witnesses
+pub use Rattle.channel_tables.specs.Apart
+pub use Rattle.channel_tables.specs.Proper
+pub use Rattle.channel_tables.specs.Witnesses
 pub use Rattle.nbhd_check.specs.Verdicts
-pub use Rattle.ring_segments.specs.SegmentCounts
+pub use Rattle.border_exchange.specs.SegmentCounts
 pub use Rattle.reports.specs.Causes
 pub use Rattle.reports.specs.Notes
 pub use Rattle.reports.specs.Written

@@ -8,7 +8,7 @@ ghost use Rattle.reports.specs.Causes.{reason_in};
 ghost use Rattle.plan_print.specs.Engine.{max_read, streams_of, DoesTask, WritesReport, TellsReport};
 
 use crate::report::report_of;
-use bad_tuples::one_witness;
+use channel_tables::one_witness;
 use devices::fault::EngineFault;
 use devices::input::read_input;
 use devices::watched::Watched;

@@ -1,8 +1,7 @@
 //! The first tuples of a program's table, judged before the table is filled: a program that fails at
 //! one of them is refused at once.
 use crate::program_windows::ProgramWindows;
-use bad_tuples::{Tuples, Witness};
-use channel_tables::Separation;
+use channel_tables::{Separation, Tuples, Witness};
 use lang_check::Plan;
 use node_program::OutOfMemory;
 use std::alloc::Global;
@@ -11,8 +10,8 @@ use std::alloc::Global;
 pub(crate) const FIRST_TUPLES: u64 = 64;
 
 ghost use Rattle.std.specs.Prelude.{IfOk, IfSome, IfNone, OnErr};
-ghost use Rattle.bad_tuples.specs.Apart.{IsApartEverywhere, NoneIsBad};
-ghost use Rattle.bad_tuples.specs.Witnesses.{IsWitness};
+ghost use Rattle.channel_tables.specs.Apart.{IsApartEverywhere, NoneIsBad};
+ghost use Rattle.channel_tables.specs.Witnesses.{IsWitness};
 ghost use Rattle.plan_print.specs.FirstTuples.{plan_table, first_count, IsFirstBad};
 
 /// Judges the first `FIRST_TUPLES` tuples of the table of a plan's program, in order, by rounds on

@@ -1,7 +1,7 @@
 //! The windows of a program, with the channels that it computes for them.
 ghost use Rattle.plan_print.specs.FirstTuples.{plan_table};
 
-use bad_tuples::Windows;
+use channel_tables::Windows;
 use lang_check::Plan;
 use node_program::MAX_REGISTERS;
 use round_eval::{channel, width_of};

@@ -3,13 +3,13 @@ use Rattle.std.proofs.Common.{◌≡◌, ◌==◌, ℕ, ◌+◌, ◌<◌, ◌≤
 use Rattle.std.proofs.lemmas.Bool.Decides.{eqb_tells}
 use Rattle.std.proofs.lemmas.List.{drop_all}
 use Rattle.std.proofs.lemmas.Option.{same_Some}
-use Rattle.clause_check.specs.Clauses.{is_same, negated}
-use Rattle.clause_check.specs.Hints.{left_of, remaining_of, is_last, after_hint, outcome_of}
-use Rattle.clause_check.specs.declared.literal.Literal.{Literal}
-use Rattle.clause_check.specs.declared.marks.Remaining.{Remaining}
-use Rattle.clause_check.specs.declared.marks.Remaining.TheVariants.{Nothing, One}
-use Rattle.clause_check.specs.declared.outcome.Outcome.{Outcome}
-use Rattle.clause_check.specs.declared.outcome.Outcome.TheVariants.{Follows, HintNotUnit}
+use Rattle.table_formula.specs.Clauses.{is_same, negated}
+use Rattle.refutation.specs.Hints.{left_of, remaining_of, is_last, after_hint, outcome_of}
+use Rattle.table_formula.specs.declared.literal.Literal.{Literal}
+use Rattle.refutation.specs.declared.marks.Remaining.{Remaining}
+use Rattle.refutation.specs.declared.marks.Remaining.TheVariants.{Nothing, One}
+use Rattle.refutation.specs.declared.outcome.Outcome.{Outcome}
+use Rattle.refutation.specs.declared.outcome.Outcome.TheVariants.{Follows, HintNotUnit}
 
 -- the clauses of the hints from a place on
 module _ (f : ℕ → Option (List Literal)) (hints : List ℕ) where

@@ -1,3 +1,4 @@
+pub mod SoundSteps
 pub mod Sound
 pub mod Verdicts
 pub mod Splitting

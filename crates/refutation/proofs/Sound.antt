@@ -5,11 +5,11 @@ use Rattle.std.proofs.lemmas.Bool.{ltb-true}
 use Rattle.std.proofs.lemmas.List.Elements.{All-map}
 use Rattle.std.proofs.lemmas.Option.{slice_get_within, get_or_from_slice_get}
 use Rattle.channel_tables.specs.Tables.{ChannelTable}
-use Rattle.clause_check.specs.Clauses.{is_true_literal, Holds}
-use Rattle.clause_check.specs.Laws.{StepsAreSound}
-use Rattle.clause_check.specs.declared.literal.Literal.{Literal}
-use Rattle.clause_check.specs.declared.outcome.Outcome.{Outcome}
-use Rattle.clause_check.specs.declared.outcome.Outcome.TheVariants as outcome
+use Rattle.table_formula.specs.Clauses.{is_true_literal, Holds}
+use Rattle.refutation.specs.Steps.{StepsAreSound}
+use Rattle.table_formula.specs.declared.literal.Literal.{Literal}
+use Rattle.refutation.specs.declared.outcome.Outcome.{Outcome}
+use Rattle.refutation.specs.declared.outcome.Outcome.TheVariants as outcome
 use Rattle.table_formula.specs.Problems.{Problem, IsSolution}
 use Rattle.table_formula.specs.Formula.{variable_count, formula, values_of}
 use Rattle.table_formula.specs.Exchanges.{exchanged_literal}

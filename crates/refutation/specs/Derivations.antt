@@ -1,10 +1,10 @@
 -- Derivations: the clauses that the hints of a step can name, and what a line does to them.
 use Rattle.std.specs.Prelude.{◌==◌, ℕ, ◌-◌, Bool, true, false, List, [], ◌∷◌, Option, None, Some, map, length, nat_le, nat_lt, slice_get, if◌then◌else◌}
 use Rattle.std.specs.List.{list_all, list_any}
-use Rattle.clause_check.specs.Hints.{step_outcome}
-use Rattle.clause_check.specs.declared.literal.Literal.{Literal}
-use Rattle.clause_check.specs.declared.outcome.Outcome.{Outcome}
-use Rattle.clause_check.specs.declared.outcome.Outcome.TheVariants as outcome
+use Rattle.refutation.specs.Hints.{step_outcome}
+use Rattle.table_formula.specs.declared.literal.Literal.{Literal}
+use Rattle.refutation.specs.declared.outcome.Outcome.{Outcome}
+use Rattle.refutation.specs.declared.outcome.Outcome.TheVariants as outcome
 use Rattle.table_formula.specs.Problems.{Problem}
 use Rattle.table_formula.specs.Formula.{variable_count, formula}
 use Rattle.table_formula.specs.Exchanges.{can_exchange, exchanged_literal}

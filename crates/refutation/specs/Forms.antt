@@ -1,6 +1,6 @@
 -- What a line says, as the program keeps it. No public contract cites this file.
 use Rattle.std.specs.Prelude.{ℕ, List, Option, None, Some}
-use Rattle.clause_check.specs.declared.literal.Literal.{Literal}
+use Rattle.table_formula.specs.declared.literal.Literal.{Literal}
 use Rattle.refutation.specs.declared.forms.Form.{Form}
 use Rattle.refutation.specs.declared.forms.Form.TheVariants as form
 use Rattle.refutation.specs.Lines.{Line, Comment, Deletion, Addition}

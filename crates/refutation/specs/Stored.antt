@@ -1,6 +1,6 @@
 -- The clauses that a checker holds. No public contract cites this file.
 use Rattle.std.specs.Prelude.{ℕ, false, List, Option, None, length, nat_lt, slice_index_or, if◌then◌else◌}
-use Rattle.clause_check.specs.declared.literal.Literal.{Literal}
+use Rattle.table_formula.specs.declared.literal.Literal.{Literal}
 use Rattle.table_formula.specs.Formula.{formula}
 use Rattle.refutation.specs.declared.clauses.Clauses.{Clauses}
 use Rattle.refutation.specs.Added.{added_clause}

@@ -3,7 +3,7 @@ use Rattle.std.specs.Prelude.{◌==◌, ℕ, ◌-◌, ◌^◌, Bool, true, false
 use Rattle.std.specs.Str.{all_ascii_digits}
 use Rattle.std.specs.List.{list_all, slice_split}
 use Rattle.std.specs.Str.Parse.{digits_value, starts_with_minus}
-use Rattle.clause_check.specs.declared.literal.Literal.{Literal}
+use Rattle.table_formula.specs.declared.literal.Literal.{Literal}
 
 -- the lines of a text: its parts before, between and after its line feeds (byte 10)
 abbrev pub lines_of : List ℕ → List (List ℕ)

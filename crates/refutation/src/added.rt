@@ -2,7 +2,7 @@
 ghost use Rattle.std.specs.Prelude.{◌≡◌, ◌==◌, ℕ, None, Some, OnOk, OnErr, if◌then◌else◌};
 ghost use Rattle.refutation.specs.Added.{added_clause};
 
-use clause_check::Literal;
+use table_formula::Literal;
 use std::alloc::AllocError;
 use std::collections::BTreeMap;
 

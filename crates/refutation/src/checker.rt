@@ -1,13 +1,15 @@
 //! Checks the steps of a refutation.
 ghost use Rattle.std.specs.Prelude.{◌≡◌, ◌≤◌, length};
-ghost use Rattle.clause_check.specs.Marked.{variables_of};
+ghost use Rattle.refutation.specs.Marked.{variables_of};
 ghost use Rattle.table_formula.specs.Formula.{variable_count, longest_len, formula as clauses_of};
 
 use crate::clauses::Clauses;
 use crate::fault::LineFault;
 use crate::forms::Form;
 use crate::hints::outcome_of_hints;
-use clause_check::{Literal, Marks, Outcome};
+use crate::marks::Marks;
+use crate::outcome::Outcome;
+use table_formula::Literal;
 use std::alloc::{AllocError, Global};
 use table_formula::{Exchange, Formula};
 
@@ -28,8 +30,8 @@ pub(crate) struct Checker<'f> {
 
 impl<'f> Checker<'f> {
     ghost use Rattle.std.specs.Prelude.{◌<◌, None, IsTrue, IfOk, IfErr, OnOk, map};
-    ghost use Rattle.clause_check.specs.Hints.{outcome_of};
-    ghost use Rattle.clause_check.specs.Marked.{is_marked};
+    ghost use Rattle.refutation.specs.Hints.{outcome_of};
+    ghost use Rattle.refutation.specs.Marked.{is_marked};
     ghost use Rattle.refutation.specs.Derivations.{opening, hints_fault, is_known, step_fault, line_fault, with_clause, after_line};
     ghost use Rattle.refutation.specs.Forms.{line_of};
     ghost use Rattle.refutation.specs.Stored.{clause_of};

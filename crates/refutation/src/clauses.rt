@@ -4,7 +4,8 @@ ghost use Rattle.table_formula.specs.Formula.{variable_count, formula as clauses
 ghost use Rattle.refutation.specs.Added.{AreWithin};
 
 use crate::added::{delete_clause, insert_clause};
-use clause_check::{Literal, Marks, Remaining};
+use crate::marks::{Marks, Remaining};
+use table_formula::Literal;
 use std::alloc::{AllocError, Global};
 use std::collections::BTreeMap;
 use table_formula::{Exchange, Formula};
@@ -24,12 +25,12 @@ pub(crate) struct Clauses<'f> {
 impl<'f> Clauses<'f> {
     ghost use Rattle.std.specs.Prelude.{ℕ, ◌==◌, ◌<◌, ◌≤◌, None, Some, IfOk, IfSome, OnOk, All, IsTrue, map, option_map, if◌then◌else◌};
     ghost use Rattle.std.specs.List.{list_any};
-    ghost use Rattle.clause_check.specs.Hints.{left_of, remaining_of};
-    ghost use Rattle.clause_check.specs.Marked.{is_marked, variables_of, IsOneBelow};
+    ghost use Rattle.refutation.specs.Hints.{left_of, remaining_of};
+    ghost use Rattle.refutation.specs.Marked.{is_marked, variables_of, IsOneBelow};
     ghost use Rattle.table_formula.specs.Formula.{longest_len};
     ghost use Rattle.table_formula.specs.Exchanges.{can_exchange, exchanged_literal};
-    ghost use Rattle.clause_check.specs.Clauses.{has_literal};
-    ghost use Rattle.clause_check.specs.declared.literal.Literal.{Literal as Lit};
+    ghost use Rattle.table_formula.specs.Clauses.{has_literal};
+    ghost use Rattle.table_formula.specs.declared.literal.Literal.{Literal as Lit};
     ghost use Rattle.refutation.specs.Derivations.{opening, is_known, may_exchange, after_exchange};
     ghost use Rattle.refutation.specs.Stored.{clause_of};
 

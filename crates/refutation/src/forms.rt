@@ -5,11 +5,11 @@ ghost use Rattle.refutation.specs.Words as spelled;
 ghost use Rattle.refutation.specs.Lines as said;
 ghost use Rattle.refutation.specs.Lines.{Deletion};
 ghost use Rattle.refutation.specs.Forms.{line_of};
-ghost use Rattle.clause_check.specs.declared.literal.Literal.{Literal as Lit};
+ghost use Rattle.table_formula.specs.declared.literal.Literal.{Literal as Lit};
 
 use crate::parts::Parts;
 use crate::words::{Spelled, is_end, number_in};
-use clause_check::Literal;
+use table_formula::Literal;
 use std::alloc::AllocError;
 use table_formula::Exchange;
 

@@ -1,12 +1,14 @@
 //! What the hints of a step show.
 ghost use Rattle.std.specs.Prelude.{◌≡◌, ◌≤◌, length, map, if◌then◌else◌};
-ghost use Rattle.clause_check.specs.Hints.{outcome_of};
-ghost use Rattle.clause_check.specs.Marked.{is_marked, variables_of};
+ghost use Rattle.refutation.specs.Hints.{outcome_of};
+ghost use Rattle.refutation.specs.Marked.{is_marked, variables_of};
 ghost use Rattle.table_formula.specs.Formula.{variable_count, longest_len, formula as clauses_of};
 ghost use Rattle.refutation.specs.Stored.{clause_of};
 
 use crate::clauses::Clauses;
-use clause_check::{Literal, Marks, Outcome, Remaining, negation};
+use crate::marks::{Marks, Remaining};
+use crate::outcome::Outcome;
+use table_formula::{Literal, negation};
 
 /// Returns what the clauses of the hints show, where the marked literals are known to be false. The
 /// literals that this shows to be false are marked, too. A clause of the formula is written to

@@ -1,8 +1,14 @@
-//! Laws of refutations: they are sound, and each text has one verdict.
+//! Laws of refutations: steps by unit propagation and refutations are sound, and each text has one verdict.
 ghost use Rattle.refutation.specs.Laws as law;
+ghost use Rattle.refutation.specs.Steps.{StepsAreSound};
 
-use clause_check::steps_are_sound;
 use table_formula::{exchanges_keep_solutions, solutions_satisfy};
+
+/// A clause that follows from the clauses of the hints holds wherever these hold.
+#[tactic(auto, using(crate::proofs::SoundSteps::sound))]
+pub fn steps_are_sound()
+    ensures { StepsAreSound }
+{}
 
 /// Where the formula of a problem has a refutation, no table solves the problem.
 pub fn refutations_are_sound()

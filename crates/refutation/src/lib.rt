@@ -1,4 +1,5 @@
-//! Refutations of the formula of all tables of a shape with some number of channels.
+//! Refutations of the formula of all tables of a shape with some number of channels: the steps of a proof
+//! that no values of variables make all its clauses true.
 #![tactic(auto)]
 
 mod added;
@@ -9,11 +10,16 @@ mod forms;
 mod hints;
 mod laws;
 mod limits;
+mod marks;
+mod outcome;
 mod parts;
 mod refuting;
 mod words;
 
 pub use fault::{LineFault, RefuteError};
-pub use laws::{each_text_has_a_verdict, one_refutation_verdict, refutations_are_sound};
+pub use laws::{
+    each_text_has_a_verdict, one_refutation_verdict, refutations_are_sound, steps_are_sound,
+};
 pub use limits::LONGEST_REFUTATION;
+pub use outcome::Outcome;
 pub use refuting::refute;

@@ -12,7 +12,7 @@ use crate::forms::{Form, read_line};
 use crate::laws::refutations_are_sound;
 use crate::limits::LONGEST_REFUTATION;
 use crate::parts::Parts;
-use clause_check::Literal;
+use table_formula::Literal;
 use std::alloc::{AllocError, Global};
 use table_formula::Formula;
 

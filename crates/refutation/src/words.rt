@@ -5,7 +5,7 @@ ghost use Rattle.std.specs.List.{list_all};
 ghost use Rattle.std.specs.Option.{SomeIff};
 ghost use Rattle.refutation.specs.Words as spelled;
 
-use clause_check::Literal;
+use table_formula::Literal;
 
 /// An item of a list, which a word spells.
 pub(crate) trait Spelled: Copy {

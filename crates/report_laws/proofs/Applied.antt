@@ -2,7 +2,7 @@
 use Rattle.std.proofs.Common.{◌≡◌, ℕ, List, sym, subst, ◌∙◌}
 use Rattle.channel_tables.specs.Tables.{ChannelTable}
 use Rattle.channel_tables.specs.declared.separation.Separation.{Separation}
-use Rattle.bad_tuples.specs.Apart.{IsApartEverywhere}
+use Rattle.channel_tables.specs.Apart.{IsApartEverywhere}
 use Rattle.win_index.specs.Laws.{RingsHaveNoFault}
 use Rattle.table_text.specs.Laws.{TableTextsAreApart, TableTextsAreRead}
 use Rattle.table_text.specs.Texts.{IsTextOf}

@@ -6,10 +6,10 @@ use Rattle.node_program.specs.Term.{ProgramTree}
 use Rattle.node_program.specs.GlobalRounds.{channels_of}
 use Rattle.node_lang.specs.Printed.{printed}
 use Rattle.node_lang.specs.Laws.{ReadTextsAreReadable, ReadingStopsAtFirstFault, ReadableTextsHaveNoFault}
-use Rattle.ring_segments.specs.SegmentCounts.{IsSegmentCount}
+use Rattle.border_exchange.specs.SegmentCounts.{IsSegmentCount}
 use Rattle.channel_tables.specs.Tables.{ChannelTable}
 use Rattle.channel_tables.specs.declared.separation.Separation.{Separation}
-use Rattle.bad_tuples.specs.Apart.{tuples}
+use Rattle.channel_tables.specs.Apart.{tuples}
 use Rattle.table_entries.specs.ProgramTables.{table_of}
 use Rattle.table_text.specs.TableText.{table_text}
 use Rattle.task_words.specs.declared.task.Task.{Task}

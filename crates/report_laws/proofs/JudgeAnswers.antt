@@ -10,9 +10,9 @@ use Rattle.win_index.specs.Laws.{NumberOfWindow, WindowsHaveNumbers}
 use Rattle.win_index.specs.Windows.{IsWindow}
 use Rattle.channel_tables.specs.Tables.{ChannelTable, channel_of}
 use Rattle.channel_tables.specs.declared.separation.Separation.{Separation}
-use Rattle.bad_tuples.specs.Apart.{extra, AreClose, tuples, IsBad, IsApartEverywhere, IsLeastBad}
-use Rattle.bad_tuples.specs.Witnesses.{IsStep, IsWitness}
-use Rattle.bad_tuples.specs.Laws.{TuplesSuffice, BadTuplesAreRings}
+use Rattle.channel_tables.specs.Apart.{extra, AreClose, tuples, IsBad, IsApartEverywhere, IsLeastBad}
+use Rattle.channel_tables.specs.Witnesses.{IsStep, IsWitness}
+use Rattle.channel_tables.specs.Laws.{TuplesSuffice, BadTuplesAreRings}
 
 -- a list is the first of these that is so
 pub record IsFirst (P : List ℕ → Type 0) (xs : List (List ℕ)) : Type 0 where

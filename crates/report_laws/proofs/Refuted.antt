@@ -6,8 +6,8 @@ use Rattle.win_index.specs.ShapeRange.{IsShape}
 use Rattle.channel_tables.specs.Tables.{ChannelTable, IsTable}
 use Rattle.channel_tables.specs.declared.separation.Separation.{Separation}
 use Rattle.lang_check.specs.Laws.{AcceptedProgramsHaveNoRefusal}
-use Rattle.bad_tuples.specs.Apart.{extra, IsApartEverywhere}
-use Rattle.bad_tuples.specs.Laws.{ApartTablesHaveNoWitness, LessIsApart}
+use Rattle.channel_tables.specs.Apart.{extra, IsApartEverywhere}
+use Rattle.channel_tables.specs.Laws.{ApartTablesHaveNoWitness, LessIsApart}
 use Rattle.node_lang.specs.Laws.{OneReading}
 use Rattle.lower_bound.specs.Laws.{TablesNeedChannels, TablesNeedThree}
 use Rattle.table_entries.specs.Laws.{ProgramTablesAreTables}

@@ -14,7 +14,7 @@ use Rattle.win_index.specs.ShapeRange.{IsShape}
 use Rattle.win_index.specs.Windows.{windows, number_of, IsWindow}
 use Rattle.channel_tables.specs.Tables.{ChannelTable, IsTable, channel_of}
 use Rattle.channel_tables.specs.declared.separation.Separation.{Separation}
-use Rattle.bad_tuples.specs.Apart.{extra, AreApart, IsApartEverywhere}
+use Rattle.channel_tables.specs.Apart.{extra, AreApart, IsApartEverywhere}
 
 -- the channel of a table at a list, 0 if it is no window
 abbrev channel_or_0 : ChannelTable → List ℕ → ℕ

@@ -15,10 +15,10 @@ use Rattle.lang_check.specs.Laws.{AcceptedProgramsHaveNoRefusal}
 use Rattle.table_entries.specs.Laws.{TableHasTheChannelsOfRounds}
 use Rattle.table_entries.specs.ProgramTables.{table_of}
 use Rattle.channel_tables.specs.declared.separation.Separation.{Separation}
-use Rattle.bad_tuples.specs.Laws.{ApartTablesHaveNoWitness}
+use Rattle.channel_tables.specs.Laws.{ApartTablesHaveNoWitness}
 use Rattle.headline.specs.Headline.{ChannelsAreApart}
 use Rattle.headline.specs.Laws.{ProgramTablesAreApart}
-use Rattle.ring_segments.specs.SegmentCounts.{IsSegmentCount}
+use Rattle.border_exchange.specs.SegmentCounts.{IsSegmentCount}
 use Rattle.reports.specs.declared.status.Status.TheVariants.{Done, No}
 use Rattle.reports.specs.Lines.{line, numbers_text}
 use Rattle.numerals.specs.Numerals.{form_of, padded, row, after_blanks}

@@ -13,8 +13,8 @@ use Rattle.table_text.specs.LineForms.{IsSeparation}
 use Rattle.task_words.specs.Counts.{IsNear, IsFar}
 use Rattle.channel_tables.specs.Tables.{IsTable, ChannelTable, channel_of}
 use Rattle.channel_tables.specs.declared.separation.Separation.{Separation}
-use Rattle.bad_tuples.specs.Apart.{extra, IsApartEverywhere}
-use Rattle.bad_tuples.specs.Witnesses.{IsWitness}
+use Rattle.channel_tables.specs.Apart.{extra, IsApartEverywhere}
+use Rattle.channel_tables.specs.Witnesses.{IsWitness}
 use Rattle.lower_bound.specs.Towers.{tower, spread}
 use Rattle.table_entries.specs.ProgramTables.{table_of}
 use Rattle.numerals.specs.declared.base.Base.{Base}
@@ -22,7 +22,7 @@ use Rattle.numerals.specs.declared.base.Base.TheVariants.{Ten}
 use Rattle.value_trees.specs.Explanation.{explanation}
 use Rattle.value_trees.specs.Laws.{ShowsTrace}
 use Rattle.value_trees.specs.Trace.{trace_lines}
-use Rattle.ring_segments.specs.SegmentCounts.{IsSegmentCount}
+use Rattle.border_exchange.specs.SegmentCounts.{IsSegmentCount}
 use Rattle.headline.specs.Headline.{ChannelsAreApart}
 use Rattle.table_text.specs.TableText.{table_text}
 use Rattle.table_text.specs.Texts.{IsTextOf}

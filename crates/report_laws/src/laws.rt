@@ -3,7 +3,7 @@
 
 ghost use Rattle.report_laws.specs.Laws as law;
 
-use bad_tuples::{less_is_apart, one_witness, tuples_suffice};
+use channel_tables::{less_is_apart, one_witness, tuples_suffice};
 use headline::{program_tables_are_apart, tables_are_apart_on_rings};
 use lang_check::one_refusal;
 use lower_bound::{nearby_places_need_four, odd_rings_need_three, tables_need_channels};

@@ -22,9 +22,9 @@ use Rattle.win_index.specs.RingFaults.{IsFirstFault}
 use Rattle.win_index.specs.Windows.{windows}
 use Rattle.channel_tables.specs.Tables.{ChannelTable, channel_of}
 use Rattle.channel_tables.specs.declared.separation.Separation.{Separation}
-use Rattle.bad_tuples.specs.Apart.{extra, tuples, IsApartEverywhere}
-use Rattle.bad_tuples.specs.Witnesses.{IsWitness}
-use Rattle.ring_segments.specs.SegmentCounts.{IsSegmentCount}
+use Rattle.channel_tables.specs.Apart.{extra, tuples, IsApartEverywhere}
+use Rattle.channel_tables.specs.Witnesses.{IsWitness}
+use Rattle.border_exchange.specs.SegmentCounts.{IsSegmentCount}
 use Rattle.reports.specs.declared.status.Status.{Status}
 use Rattle.reports.specs.declared.status.Status.TheVariants.{Done, No, Words, Refused, RingRefused}
 use Rattle.numerals.specs.declared.base.Base.{Base}

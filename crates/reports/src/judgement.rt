@@ -2,8 +2,8 @@
 
 ghost use Rattle.std.specs.Prelude.{IfOk};
 ghost use Rattle.channel_tables.specs.Tables.{ChannelTable};
-ghost use Rattle.bad_tuples.specs.Apart.{IsApartEverywhere};
-ghost use Rattle.bad_tuples.specs.Witnesses.{IsWitness};
+ghost use Rattle.channel_tables.specs.Apart.{IsApartEverywhere};
+ghost use Rattle.channel_tables.specs.Witnesses.{IsWitness};
 ghost use Rattle.nbhd_check.specs.Verdicts.{IsVerdict};
 ghost use Rattle.reports.specs.Answers.{report_in};
 ghost use Rattle.reports.specs.Report.{IsJudgement};

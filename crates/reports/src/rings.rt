@@ -6,7 +6,7 @@ ghost use Rattle.reports.specs.Answers.{report_in, IsRefusedBy};
 ghost use Rattle.reports.specs.Causes.{of_place, of_ring, of_segments};
 ghost use Rattle.reports.specs.Report as report;
 ghost use Rattle.reports.specs.Report.{Says, Refuses, IsAnswerOnRing, IsExplainAnswer, IsNoRing, IsOnRingByTable};
-ghost use Rattle.ring_segments.specs.SegmentCounts.{IsSegmentCount};
+ghost use Rattle.border_exchange.specs.SegmentCounts.{IsSegmentCount};
 ghost use Rattle.value_trees.specs.Trace.{trace_lines};
 ghost use Rattle.win_index.specs.Ring.{IsRing};
 ghost use Rattle.win_index.specs.RingFaults.{IsFirstFault};

@@ -1,6 +1,6 @@
 -- The events that are enabled, from the numbers of rounds and of messages alone.
 use Rattle.std.proofs.Common.{◌≡◌, ℕ, ◌<◌, List, length, arith, subst, sym, ap}
-use Rattle.ring_segments.specs.Segments.{RingSegment}
+use Rattle.border_exchange.specs.Segments.{RingSegment}
 use Rattle.ring_core.specs.Machine.{CanSend, CanAdvance}
 use Rattle.ring_core.specs.Parts.{Parts, FitTogether, MaySend, part_at, round_at, machine_of}
 use Rattle.ring_core.proofs.Fits.{MayAdvance}

@@ -4,7 +4,7 @@ use Rattle.std.proofs.Math.ListN.{set}
 use Rattle.std.proofs.lemmas.List.{length-set}
 use Rattle.border_exchange.specs.declared.Side.{Side}
 use Rattle.border_exchange.specs.declared.Side.TheVariants.{Rightward, Leftward}
-use Rattle.ring_segments.specs.Segments.{RingSegment}
+use Rattle.border_exchange.specs.Segments.{RingSegment}
 use Rattle.ring_core.specs.Machine.{border_before, segment_after}
 use Rattle.ring_core.specs.Parts.{Progress, Parts, IsInStep, FitTogether, MaySend, no_part, part_at, round_at, at_round, sent_by, after_sending}
 use Rattle.ring_core.proofs.Updates.{set_cases}

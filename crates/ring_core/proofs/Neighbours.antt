@@ -3,12 +3,12 @@ use Rattle.std.proofs.Common.{◌≡◌, ℕ, ◌+◌, ◌-◌, ◌%◌, ◌<◌
 use Rattle.std.proofs.Math.Nat.{add-mod_left, mod-eq_of_lt, mod-lt}
 use Rattle.std.proofs.lemmas.Bool.{cases_lt}
 use Rattle.node_program.specs.GlobalRounds.{left_of, right_of}
-use Rattle.ring_segments.specs.SegmentPlaces.{first_place}
+use Rattle.border_exchange.specs.SegmentPlaces.{first_place}
 use Rattle.border_exchange.specs.declared.Side.{Side}
 use Rattle.border_exchange.specs.declared.Side.TheVariants.{Rightward, Leftward}
 use Rattle.ring_core.specs.Machine.{border_before, segment_after}
 use Rattle.ring_core.specs.Parts.{sender_of}
-use Rattle.ring_segments.proofs.Places.{first_place-grows, first_place-inside, first_place-all, first_place-none}
+use Rattle.border_exchange.proofs.Places.{first_place-grows, first_place-inside, first_place-all, first_place-none}
 
 self_mod : (g : ℕ) → 0 < g → g % g ≡ 0
 self_mod g some = ap (λ k. k % g) (omega arith) ∙ add-mod_left g 0 ∙ mod-eq_of_lt some

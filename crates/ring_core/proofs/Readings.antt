@@ -6,11 +6,11 @@ use Rattle.border_exchange.specs.declared.Side.{Side}
 use Rattle.border_exchange.specs.declared.Side.TheVariants.{Rightward, Leftward}
 use Rattle.node_program.specs.GlobalRounds.{state}
 use Rattle.round_eval.specs.Rows.{rows}
-use Rattle.ring_segments.specs.declared.message.Msg.{Msg}
-use Rattle.ring_segments.specs.Messages.{Heading, sent_under}
-use Rattle.ring_segments.specs.Headings.{heading_of}
-use Rattle.ring_segments.specs.Segments.{RingSegment, first_of, places_of, states_of}
-use Rattle.ring_segments.specs.Needs.{to_the_left, to_the_right}
+use Rattle.border_exchange.specs.declared.message.Msg.{Msg}
+use Rattle.border_exchange.specs.Messages.{Heading, sent_under}
+use Rattle.border_exchange.specs.Headings.{heading_of}
+use Rattle.border_exchange.specs.Segments.{RingSegment, first_of, places_of, states_of}
+use Rattle.border_exchange.specs.Needs.{to_the_left, to_the_right}
 use Rattle.ring_core.specs.Machine.{SegmentState, BorderState, Machine, segment_at, border_at, left_border, right_border, segment_after}
 use Rattle.ring_core.specs.MachinePromises.{HasGlobalStates, HasGlobalMessages, AreNear, segment_after_rounds, sent_at, heading_at}
 use Rattle.ring_core.specs.Parts.{Parts, Progress, FitTogether, AreInOrder, part_at, round_at, sent_by, sent_to, needed_to, sender_of, came_to, rightward_headings, leftward_headings, values_under, machine_of}

@@ -1,5 +1,5 @@
 -- The definitions that the contracts cite: the machine of segments and borders with its invariant, and the law.
--- Segments and their messages are in ring_segments.
+-- Segments and their messages are in border_exchange.
 pub mod Machine
 pub mod MachinePromises
 pub mod Parts

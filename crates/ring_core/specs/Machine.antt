@@ -6,7 +6,7 @@ use Rattle.node_program.specs.Node.{start, to_left, to_right}
 use Rattle.lang_check.specs.Plans.{ProgramForIds}
 use Rattle.win_index.specs.Ring.{OrientedRing}
 use Rattle.round_eval.specs.Rows.{row_after}
-use Rattle.ring_segments.specs.SegmentPlaces.{first_place}
+use Rattle.border_exchange.specs.SegmentPlaces.{first_place}
 use Rattle.ring_core.specs.declared.event.RingEvent.{RingEvent}
 use Rattle.ring_core.specs.declared.event.RingEvent.TheVariants.{SendRight, SendLeft, Advance}
 

@@ -3,8 +3,8 @@ use Rattle.std.specs.Prelude.{ℕ, List, refl}
 use Rattle.std.specs.Coded.{Coded, code_by, coded×, coded_ℕ, coded_list}
 use Rattle.lang_check.specs.Plans.{ProgramForIds, plan_code}
 use Rattle.win_index.specs.Ring.{OrientedRing}
-use Rattle.ring_segments.specs.Segments.{RingSegment}
-use Rattle.ring_segments.specs.Codes.{ring_code, segment_code}
+use Rattle.border_exchange.specs.Segments.{RingSegment}
+use Rattle.border_exchange.specs.Codes.{ring_code, segment_code}
 use Rattle.ring_core.specs.Machine.{SegmentState, BorderState, Machine}
 use Rattle.ring_core.specs.Parts.{Progress}
 

@@ -2,9 +2,9 @@
 use Rattle.std.specs.Prelude.{◌≡◌, ℕ, ◌+◌, ◌<◌, ◌≤◌, List, length, slice_index}
 use Rattle.border_exchange.specs.declared.Side.{Side}
 use Rattle.border_exchange.specs.declared.Side.TheVariants.{Rightward, Leftward}
-use Rattle.ring_segments.specs.Messages.{Heading, sent_under}
-use Rattle.ring_segments.specs.Segments.{RingSegment, states_of}
-use Rattle.ring_segments.specs.Needs.{to_the_right, to_the_left}
+use Rattle.border_exchange.specs.Messages.{Heading, sent_under}
+use Rattle.border_exchange.specs.Segments.{RingSegment, states_of}
+use Rattle.border_exchange.specs.Needs.{to_the_right, to_the_left}
 use Rattle.ring_core.specs.Machine.{Machine, segment_at, border_at, segment_after}
 
 -- segment s of the machine's ring, after r rounds

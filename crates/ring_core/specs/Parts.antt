@@ -7,11 +7,11 @@ use Rattle.lang_check.specs.Plans.{ProgramForIds}
 use Rattle.win_index.specs.Ring.{OrientedRing}
 use Rattle.border_exchange.specs.declared.Side.{Side}
 use Rattle.border_exchange.specs.declared.Side.TheVariants.{Rightward, Leftward}
-use Rattle.ring_segments.specs.declared.message.Msg.{Msg}
-use Rattle.ring_segments.specs.Messages.{Heading, sent_under}
-use Rattle.ring_segments.specs.Headings.{heading_of}
-use Rattle.ring_segments.specs.Segments.{RingSegment, states_of}
-use Rattle.ring_segments.specs.Needs.{from_left, from_right, to_the_right, to_the_left}
+use Rattle.border_exchange.specs.declared.message.Msg.{Msg}
+use Rattle.border_exchange.specs.Messages.{Heading, sent_under}
+use Rattle.border_exchange.specs.Headings.{heading_of}
+use Rattle.border_exchange.specs.Segments.{RingSegment, states_of}
+use Rattle.border_exchange.specs.Needs.{from_left, from_right, to_the_right, to_the_left}
 use Rattle.ring_core.specs.declared.event.RingEvent.{RingEvent}
 use Rattle.ring_core.specs.declared.event.RingEvent.TheVariants.{SendRight, SendLeft}
 use Rattle.ring_core.specs.Machine.{SegmentState, BorderState, Machine, left_border, right_border, border_before, segment_after}

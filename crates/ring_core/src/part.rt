@@ -1,13 +1,12 @@
 //! A segment of the machine, and the messages that it has sent.
 ghost use Rattle.std.specs.Prelude.{◌≡◌, ◌+◌, ◌*◌, ◌<◌, ◌≤◌, ◌↔◌, IfOk, IfSome, IfNone, IsTrue, OnOk, OnErr, length};
 ghost use Rattle.round_eval.specs.Rows.{rows};
-ghost use Rattle.ring_segments.specs.Segments.{places_of, states_of};
+ghost use Rattle.border_exchange.specs.Segments.{places_of, states_of};
 ghost use Rattle.ring_core.specs.Parts.{Progress, CanBeCut, MaySend, opening_part, at_round, sent_by, after_sending};
 
-use border_exchange::Side;
+use border_exchange::{Msg, Segment, Side};
 use lang_check::Plan;
 use node_program::OutOfMemory;
-use ring_segments::{Msg, Segment};
 use std::alloc::Global;
 use std::marker::Model;
 use win_index::Ring;
@@ -35,8 +34,8 @@ impl<'a> Model for Part<'a> {
 }
 
 impl<'a> Part<'a> {
-    ghost use Rattle.ring_segments.specs.Headings.{heading_of};
-    ghost use Rattle.ring_segments.specs.Needs.{from_left, from_right};
+    ghost use Rattle.border_exchange.specs.Headings.{heading_of};
+    ghost use Rattle.border_exchange.specs.Needs.{from_left, from_right};
     ghost use Rattle.ring_core.specs.Parts.{AreInOrder, headings_of};
 
     // Returns the part before its first round, without messages.

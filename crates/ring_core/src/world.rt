@@ -2,17 +2,16 @@
 ghost use Rattle.std.specs.Prelude.{◌≡◌, ◌*◌, ◌^◌, ◌<◌, ◌≤◌, ℕ, Some, IfOk, IfSome, IfNone, OnOk, length, slice_get, map};
 ghost use Rattle.std.specs.List.{range_with_len};
 ghost use Rattle.round_eval.specs.Rows.{rows};
-ghost use Rattle.ring_segments.specs.Segments.{states_of};
+ghost use Rattle.border_exchange.specs.Segments.{states_of};
 ghost use Rattle.ring_core.specs.Machine.{Steps, CanAdvance, segment_at, left_border, right_border, opening as opening_of};
 ghost use Rattle.ring_core.specs.MachinePromises.{HasGlobalStates, HasGlobalMessages, AreNear, segment_after_rounds, sent_at, heading_at};
 ghost use Rattle.ring_core.specs.Parts.{CanBeCut, opening_part, sending, came_to, needed_to, sender_of, sent_to};
 
 use crate::event::RingEvent;
 use crate::part::Part;
-use border_exchange::Side;
+use border_exchange::{Msg, Side};
 use lang_check::Plan;
 use node_program::OutOfMemory;
-use ring_segments::Msg;
 use round_eval::stretches_are_rows;
 use std::alloc::Global;
 use std::marker::Model;
@@ -43,9 +42,9 @@ impl<'a> Model for World<'a> {
 }
 
 impl<'a> World<'a> {
-    ghost use Rattle.ring_segments.specs.Headings.{heading_of};
-    ghost use Rattle.ring_segments.specs.Needs.{from_left, from_right};
-    ghost use Rattle.ring_segments.specs.Messages.{sent_under};
+    ghost use Rattle.border_exchange.specs.Headings.{heading_of};
+    ghost use Rattle.border_exchange.specs.Needs.{from_left, from_right};
+    ghost use Rattle.border_exchange.specs.Messages.{sent_under};
 
     // Returns the state before the first event.
     pub(crate) fn opening(

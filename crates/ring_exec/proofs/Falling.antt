@@ -3,7 +3,7 @@ use Rattle.std.proofs.Common.{◌≡◌, ℕ, zero, suc, ◌+◌, List, [], ◌�
 use Rattle.std.specs.Prelude.{IfOk, MatchResult}
 use Rattle.std.proofs.lemmas.Option.{same_Some, slice_get_within}
 use Rattle.win_index.proofs.Kept.{each_snoc, slice_get-append_left, slice_get-append_right}
-use Rattle.ring_segments.specs.Segments.{RingSegment}
+use Rattle.border_exchange.specs.Segments.{RingSegment}
 use Rattle.round_eval.specs.declared.fault.WorkFault.{WorkFault}
 use Rattle.round_eval.specs.declared.fault.ThreadFault.TheVariants.{Work}
 use Rattle.ring_exec.specs.declared.joined.Joined.{Joined}

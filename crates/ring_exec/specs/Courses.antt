@@ -1,6 +1,6 @@
 -- Runs on their way. No public contract cites this file.
 use Rattle.std.specs.Prelude.{◌≡◌, ◌≢◌, ℕ, ◌+◌, ◌≤◌, List, length, Option, None, Some, IsSome, IsNone, slice_get, vec_len}
-use Rattle.ring_segments.specs.Segments.{RingSegment}
+use Rattle.border_exchange.specs.Segments.{RingSegment}
 use Rattle.ring_exec.specs.Faults.{blamed}
 use Rattle.ring_exec.specs.Outcomes.{HasMore}
 use Rattle.round_eval.specs.declared.fault.WorkFault.TheVariants.{OutOfMemory}

@@ -1,6 +1,6 @@
 -- The outcomes of the segments of a run. No public contract cites this file.
 use Rattle.std.specs.Prelude.{◌≡◌, ℕ, ◌+◌, List, ◌++◌, None, Some, length, slice_get}
-use Rattle.ring_segments.specs.Segments.{RingSegment}
+use Rattle.border_exchange.specs.Segments.{RingSegment}
 use Rattle.ring_exec.specs.declared.joined.Joined.{Joined}
 
 -- item k of the list has the index k

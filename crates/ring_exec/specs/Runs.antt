@@ -2,7 +2,7 @@
 use Rattle.std.specs.Prelude.{◌≡◌, ℕ, length}
 use Rattle.lang_check.specs.Plans.{ProgramForIds}
 use Rattle.win_index.specs.Ring.{OrientedRing}
-use Rattle.ring_segments.specs.SegmentCounts.{IsSegmentCount}
+use Rattle.border_exchange.specs.SegmentCounts.{IsSegmentCount}
 
 -- the ring has the plan's shape, and as many places as segments at least
 pub record CanRun (plan : ProgramForIds) (ring : OrientedRing) (segments : ℕ) : Type 0 where

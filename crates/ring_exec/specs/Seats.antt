@@ -3,8 +3,8 @@ use Rattle.std.specs.Prelude.{◌≡◌, ◌<◌, ℕ, length}
 use Rattle.node_program.specs.declared.limits.TheConstants.{MAX_ROUNDS}
 use Rattle.border_exchange.specs.SeatState.{SeatState}
 use Rattle.border_exchange.specs.declared.Side.TheVariants.{Rightward, Leftward}
-use Rattle.ring_segments.specs.Messages.{Heading}
-use Rattle.ring_segments.specs.Segments.{RingSegment}
+use Rattle.border_exchange.specs.Messages.{Heading}
+use Rattle.border_exchange.specs.Segments.{RingSegment}
 
 -- the seats of a segment at the borders before and after it: it puts to the left on the one and to the right on the
 -- other, and has put on both in each round that it has done

@@ -9,7 +9,7 @@ use crate::end::{Edge, RightEnd};
 use crate::joined::Joined;
 use crate::progress::Progress;
 use crate::runner::{Runner, SegmentThread, Shared};
-use ring_segments::Msg;
+use border_exchange::Msg;
 use round_eval::Gate;
 use std::sync::Wait;
 use std::thread::Threads;

@@ -8,9 +8,8 @@ ghost use Rattle.ring_exec.specs.Sides.{opposite};
 ghost use Rattle.round_eval.specs.declared.fault.WorkFault.TheVariants.{Stranger};
 
 use crate::border_name::{Blanks, BorderName, LeftLedger, RightLedger};
-use border_exchange::{Border, Dated, PutFault, Seat, Side};
+use border_exchange::{Border, Dated, PutFault, Seat, Side, Strange};
 use node_program::OutOfMemory;
-use ring_segments::Strange;
 use round_eval::WorkFault;
 use std::alloc::Global;
 use std::sync::{Arc, Wait};

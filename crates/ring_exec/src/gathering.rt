@@ -1,12 +1,12 @@
 //! The channels of the segments that ended.
 ghost use Rattle.std.specs.Prelude.{◌≡◌, ℕ, ◌+◌, ◌<◌, ◌≤◌, OnOk, IfErr, length, vec_len, slice_index};
 ghost use Rattle.node_program.specs.GlobalRounds.{channel_at, channels_of};
-ghost use Rattle.ring_segments.specs.Segments.{first_of, places_of};
-ghost use Rattle.ring_segments.specs.SegmentCounts.{IsSegmentCount};
+ghost use Rattle.border_exchange.specs.Segments.{first_of, places_of};
+ghost use Rattle.border_exchange.specs.SegmentCounts.{IsSegmentCount};
 ghost use Rattle.round_eval.specs.declared.fault.WorkFault.TheVariants.{Stranger};
 
 use lang_check::Plan;
-use ring_segments::{Segment, segments_cover_the_ring};
+use border_exchange::{Segment, segments_cover_the_ring};
 use round_eval::{WorkFault, channel, row_at, width_of};
 use win_index::Ring;
 

@@ -4,7 +4,7 @@ ghost use Rattle.ring_exec.specs.Faults.{blamed};
 ghost use Rattle.round_eval.specs.declared.fault.ThreadFault.TheVariants.{Work, NoThread};
 
 use crate::runner::Outcome;
-use ring_segments::Segment;
+use border_exchange::Segment;
 use round_eval::ThreadFault;
 
 // The segments that ended, from the last to the first, and the fault that takes precedence.

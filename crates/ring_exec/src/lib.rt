@@ -15,4 +15,4 @@ mod runner;
 
 pub use fault::RunFault;
 pub use message_run::run;
-pub use ring_segments::{MAX_SEGMENTS, Msg, Segment, Strange};
+pub use border_exchange::{MAX_SEGMENTS, Msg, Segment, Strange};

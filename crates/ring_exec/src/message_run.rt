@@ -5,7 +5,7 @@ ghost use Rattle.ring_exec.specs.Borders.{AreBlanksOf};
 ghost use Rattle.ring_exec.specs.Courses.{AreWaiting};
 ghost use Rattle.ring_exec.specs.Outcomes.{AreFalling};
 ghost use Rattle.ring_exec.specs.Runs.{CanRun};
-ghost use Rattle.ring_segments.specs.SegmentCounts.{IsSegmentCount};
+ghost use Rattle.border_exchange.specs.SegmentCounts.{IsSegmentCount};
 
 use crate::border_name::{Blanks, BorderName};
 use crate::course::{Course, ended};
@@ -18,7 +18,7 @@ use crate::relay::run_all;
 use crate::runner::Shared;
 use lang_check::Plan;
 use node_program::OutOfMemory;
-use ring_segments::{MAX_SEGMENTS, Msg, Segment};
+use border_exchange::{MAX_SEGMENTS, Msg, Segment};
 use round_eval::{Gate, ThreadFault};
 use std::alloc::Global;
 use std::marker::Brand;

@@ -1,12 +1,12 @@
 //! How far a run is.
 ghost use Rattle.std.specs.Prelude.{◌≡◌, ◌+◌, ◌<◌, ◌≤◌, All, Ok, Err, IfSome, MatchOption, vec_len, vec_capacity};
 ghost use Rattle.ring_exec.specs.Outcomes.{AreInOrder};
-ghost use Rattle.ring_segments.specs.declared.limits.TheConstants.{MAX_SEGMENTS};
+ghost use Rattle.border_exchange.specs.declared.limits.TheConstants.{MAX_SEGMENTS};
 ghost use Rattle.round_eval.specs.declared.fault.ThreadFault.TheVariants.{NoThread};
 
 use crate::joined::Joined;
 use crate::runner::SegmentThread;
-use ring_segments::Segment;
+use border_exchange::Segment;
 use round_eval::ThreadFault;
 
 // How far a run is: the index of the next segment, the segments that are not started, the next one

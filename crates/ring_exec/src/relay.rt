@@ -13,7 +13,7 @@ use crate::end::{Edge, End, new_border};
 use crate::joined::Joined;
 use crate::progress::Progress;
 use crate::runner::{Runner, SegmentAt, SegmentThread, Shared};
-use ring_segments::{Msg, Segment};
+use border_exchange::{Msg, Segment};
 use round_eval::{Gate, ThreadFault};
 use std::marker::Brand;
 use std::sync::Wait;

@@ -1,16 +1,15 @@
 //! A segment that runs between its two borders.
 ghost use Rattle.std.specs.Prelude.{◌≡◌, ◌≢◌, ◌+◌, ◌<◌, ◌↔◌, IfErr, IfOk, IsOk, MatchResult, OnOk, length};
 ghost use Rattle.border_exchange.specs.declared.Side.TheVariants.{Rightward, Leftward};
-ghost use Rattle.ring_segments.specs.Headings.{heading_of};
-ghost use Rattle.ring_segments.specs.Needs as needs;
+ghost use Rattle.border_exchange.specs.Headings.{heading_of};
+ghost use Rattle.border_exchange.specs.Needs as needs;
 ghost use Rattle.ring_exec.specs.Seats.{AreOfRound, AreSeatsOf, HasRoundToDo};
 ghost use Rattle.ring_exec.specs.declared.end.Stop.TheVariants.{BorderClosed, Fault};
 ghost use Rattle.round_eval.specs.declared.fault.WorkFault.TheVariants.{Stranger};
 
 use crate::border_name::BorderName;
 use crate::end::{End, Stop};
-use border_exchange::Dated;
-use ring_segments::{Msg, Segment};
+use border_exchange::{Dated, Msg, Segment};
 use round_eval::{Gate, WorkFault};
 use std::alloc::Global;
 use std::sync::Wait;

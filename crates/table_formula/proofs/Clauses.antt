@@ -2,7 +2,7 @@
 use Rattle.std.proofs.Common.{◌≡◌, ℕ, zero, suc, ◌+◌, ◌*◌, ◌<◌, Bool, true, false, ◌||◌, List, [], ◌∷◌, ◌++◌, map, All, length, refl, sym, ap, ◌∙◌, arith, add-one, zero-add, ltb, cond, length-append, Option, None, Some, IsSome, unwrap_or}
 use Rattle.std.specs.List.{list_any, range_with_len, flat_map, filter}
 use Rattle.std.specs.Int.{abs_diff}
-use Rattle.clause_check.specs.declared.literal.Literal.{Literal}
+use Rattle.table_formula.specs.declared.literal.Literal.{Literal}
 use Rattle.table_formula.specs.Problems.{Problem}
 use Rattle.table_formula.specs.Formula.{windows_of, tuples_of, is_close, close_to, conflicts_of, some_channel, not_both, not_too_close, formula}
 use Rattle.std.proofs.lemmas.List.{flat_map_more, length-map}

@@ -2,7 +2,7 @@
 use Rattle.std.proofs.Common.{◌≡◌, ℕ, zero, suc, ◌+◌, ◌-◌, ◌<◌, ◌≤◌, ◌⊎◌, true, false, [], ◌∷◌, ◌++◌, length, min, refl, sym, ap, ◌∙◌, arith, add-one, ltb, cond, length-append, append-nil, ⊎_elim, inl, inr}
 use Rattle.std.specs.Int.{abs_diff}
 use Rattle.std.proofs.lemmas.Bool.{lt-ltb, ltb-true, ltb-false}
-use Rattle.clause_check.proofs.Truth.{truth}
+use Rattle.table_formula.proofs.Truth.{truth}
 use Rattle.table_formula.specs.Formula.{close_to}
 use Rattle.table_formula.proofs.Clauses.{close_more}
 

@@ -14,10 +14,10 @@ use Rattle.win_index.specs.Laws.{NumberOfWindow, WindowOfNumber, WindowsHaveNumb
 use Rattle.win_index.specs.Windows.{windows, number_of, IsWindow}
 use Rattle.channel_tables.specs.Tables.{ChannelTable, IsTable, channel_of}
 use Rattle.channel_tables.specs.declared.separation.Separation.{Separation}
-use Rattle.bad_tuples.specs.Apart.{extra, AreClose, IsBad, IsApart, IsApartEverywhere}
-use Rattle.bad_tuples.specs.Laws.{TuplesSuffice}
-use Rattle.clause_check.specs.Clauses.{is_same_value, is_true_literal}
-use Rattle.clause_check.specs.declared.literal.Literal.{Literal}
+use Rattle.channel_tables.specs.Apart.{extra, AreClose, IsBad, IsApart, IsApartEverywhere}
+use Rattle.channel_tables.specs.Laws.{TuplesSuffice}
+use Rattle.table_formula.specs.Clauses.{is_same_value, is_true_literal}
+use Rattle.table_formula.specs.declared.literal.Literal.{Literal}
 use Rattle.node_program.specs.declared.limits.TheConstants.{MAX_CHANNELS}
 use Rattle.table_formula.specs.declared.exchange.Exchange.{Exchange}
 use Rattle.table_formula.specs.declared.exchange.Exchange.TheVariants.{Identifiers, Channels, Mirror}

@@ -1,3 +1,4 @@
+pub mod Truth
 pub mod Clauses
 pub mod CloseChannels
 pub mod Longest

@@ -11,9 +11,9 @@ use Rattle.win_index.specs.Laws.{NumberOfWindow, WindowOfNumber, WindowsHaveNumb
 use Rattle.win_index.specs.Windows.{windows, number_of, IsWindow}
 use Rattle.channel_tables.specs.Tables.{ChannelTable, IsTable, channel_of}
 use Rattle.channel_tables.specs.declared.separation.Separation.{Separation}
-use Rattle.bad_tuples.specs.Apart.{extra, AreClose, IsBad, IsApart}
-use Rattle.bad_tuples.specs.Laws.{TuplesSuffice}
-use Rattle.clause_check.specs.Clauses.{is_same_value, is_true_literal, Holds}
+use Rattle.channel_tables.specs.Apart.{extra, AreClose, IsBad, IsApart}
+use Rattle.channel_tables.specs.Laws.{TuplesSuffice}
+use Rattle.table_formula.specs.Clauses.{is_same_value, is_true_literal, Holds}
 use Rattle.table_formula.specs.declared.conflict.Conflict.{Conflict}
 use Rattle.table_formula.specs.Problems.{Problem}
 use Rattle.table_formula.specs.Formula.{windows_of, tuples_of, variable_of, has_channel, some_channel, is_close, close_to, close_pairs, conflicts_of, window_in, not_both, not_too_close, formula}

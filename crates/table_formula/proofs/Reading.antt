@@ -13,8 +13,8 @@ use Rattle.std.proofs.lemmas.Option.{slice_get_within, slice_get-get_or, same_So
 use Rattle.std.proofs.lemmas.Str.Parse.{IsNumeralModel, numerals_by_value, tells_all_ascii_digits, not_in_digits}
 use Rattle.win_index.specs.Laws.{WindowOfNumber, PrefixesHaveNumbers}
 use Rattle.win_index.specs.Windows.{windows, number_of}
-use Rattle.bad_tuples.specs.Apart.{extra}
-use Rattle.clause_check.specs.declared.literal.Literal.{Literal}
+use Rattle.channel_tables.specs.Apart.{extra}
+use Rattle.table_formula.specs.declared.literal.Literal.{Literal}
 use Rattle.table_formula.specs.Problems.{Problem}
 use Rattle.table_formula.specs.Formula.{windows_of, tuples_of, variable_count, some_channel, conflicts_of, not_both, not_too_close, IsPair, formula}
 use Rattle.table_formula.specs.Texts.{literal_text, clause_text, formula_text}

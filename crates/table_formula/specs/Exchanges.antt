@@ -2,7 +2,7 @@
 use Rattle.std.specs.Prelude.{◌==◌, ℕ, ◌+◌, ◌-◌, ◌*◌, ◌/◌, ◌%◌, Bool, ◌&&◌, [], map, nat_le, nat_lt, unwrap_or, slice_index_or, if◌then◌else◌}
 use Rattle.node_program.specs.declared.limits.TheConstants.{MAX_CHANNELS}
 use Rattle.win_index.specs.Windows.{number_of}
-use Rattle.clause_check.specs.declared.literal.Literal.{Literal}
+use Rattle.table_formula.specs.declared.literal.Literal.{Literal}
 use Rattle.table_formula.specs.declared.exchange.Exchange.{Exchange}
 use Rattle.table_formula.specs.declared.exchange.Exchange.TheVariants.{Identifiers, Channels, Mirror}
 use Rattle.table_formula.specs.Problems.{Problem}

@@ -7,8 +7,8 @@ use Rattle.win_index.specs.Arcs.{part_at}
 use Rattle.win_index.specs.Windows.{windows, number_of}
 use Rattle.channel_tables.specs.Tables.{ChannelTable}
 use Rattle.channel_tables.specs.declared.separation.Separation.{Separation}
-use Rattle.bad_tuples.specs.Apart.{extra}
-use Rattle.clause_check.specs.declared.literal.Literal.{Literal}
+use Rattle.channel_tables.specs.Apart.{extra}
+use Rattle.table_formula.specs.declared.literal.Literal.{Literal}
 use Rattle.table_formula.specs.declared.conflict.Conflict.{Conflict}
 use Rattle.table_formula.specs.Problems.{Problem}
 

@@ -4,8 +4,8 @@ use Rattle.node_program.specs.declared.limits.TheConstants.{MAX_CHANNELS}
 use Rattle.win_index.specs.declared.limits.TheConstants.{MAX_ROUNDS}
 use Rattle.win_index.specs.ShapeRange.{IsShape}
 use Rattle.channel_tables.specs.Tables.{ChannelTable}
-use Rattle.clause_check.specs.Clauses.{is_true_literal, Holds}
-use Rattle.clause_check.specs.declared.literal.Literal.{Literal}
+use Rattle.table_formula.specs.Clauses.{is_true_literal, Holds}
+use Rattle.table_formula.specs.declared.literal.Literal.{Literal}
 use Rattle.table_formula.specs.Problems.{Problem, IsSolution, IsImpossible}
 use Rattle.table_formula.specs.Formula.{formula, values_of, variable_count}
 use Rattle.table_formula.specs.Limits.{IsWithinLimits}

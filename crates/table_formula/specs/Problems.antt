@@ -4,7 +4,7 @@ use Rattle.std.specs.Coded.{Coded, code_by, coded×, coded_ℕ}
 use Rattle.win_index.specs.declared.shape.Shape.{Shape}
 use Rattle.channel_tables.specs.Tables.{ChannelTable, IsTable}
 use Rattle.channel_tables.specs.declared.separation.Separation.{Separation}
-use Rattle.bad_tuples.specs.Apart.{IsApartEverywhere}
+use Rattle.channel_tables.specs.Apart.{IsApartEverywhere}
 
 -- the numbers of identifiers and rounds, the maximum number of channels, and the separation that a table shall keep
 pub record Problem : Type 0 where

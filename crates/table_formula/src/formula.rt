@@ -1,6 +1,6 @@
 //! The formula of all tables of a shape that keep a separation.
 ghost use Rattle.std.specs.Prelude.{◌≡◌, ◌+◌, ◌*◌, ◌<◌, ◌≤◌, [], IfOk, IfErr, OnOk, MatchOption, length};
-ghost use Rattle.bad_tuples.specs.Apart.{extra};
+ghost use Rattle.channel_tables.specs.Apart.{extra};
 ghost use Rattle.table_formula.specs.declared.limits.TheConstants.{MAX_CLAUSES};
 ghost use Rattle.table_formula.specs.Formula.{close_in, formula, tuples_of};
 ghost use Rattle.table_formula.specs.Problems.{problem_of};
@@ -10,9 +10,8 @@ ghost use Rattle.table_formula.specs.FormulaFaults.{IsFormulaFault};
 use crate::conflict::{Conflict, conflict_count, conflicts_in};
 use crate::exchange::{Exchange, exchanged_number, other_of};
 use crate::limits::{MAX_CLAUSES, MAX_VARIABLES};
-use bad_tuples::TupleLists;
-use channel_tables::Separation;
-use clause_check::Literal;
+use crate::literal::Literal;
+use channel_tables::{Separation, TupleLists};
 use node_program::MAX_CHANNELS;
 use std::alloc::{AllocError, Global};
 use std::marker::Model;
@@ -58,7 +57,7 @@ impl Formula {
     ghost use Rattle.std.specs.Prelude.{◌≡◌, ◌+◌, ◌*◌, ◌<◌, ◌≤◌, IfOk, IfErr, OnOk, Some, length, take, true, All, slice_get, slice_index_or};
     ghost use Rattle.win_index.specs.declared.limits.TheConstants.{MAX_TUPLE_LEN};
     ghost use Rattle.win_index.specs.Windows.{IsWindow};
-    ghost use Rattle.bad_tuples.specs.Apart.{extra};
+    ghost use Rattle.channel_tables.specs.Apart.{extra};
     ghost use Rattle.table_formula.specs.declared.limits.TheConstants.{MAX_CLAUSES, MAX_VARIABLES};
     ghost use Rattle.table_formula.specs.Formula.{windows_of, tuples_of, variable_of, variable_count, conflicts_of, window_in, some_channel, not_both, IsPair, formula, longest_len};
     ghost use Rattle.table_formula.specs.Exchanges.{can_exchange, exchanged_window, exchanged_literal};

@@ -1,7 +1,7 @@
 //! Laws of the formula: it has a model exactly where there is such a table, and its text states it.
 ghost use Rattle.table_formula.specs.Laws as law;
 
-use bad_tuples::tuples_suffice;
+use channel_tables::tuples_suffice;
 use win_index::{
     number_of_window, prefixes_have_numbers, rings_have_windows, tuples_are_rings,
     window_of_number, windows_have_numbers,

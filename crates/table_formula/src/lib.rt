@@ -1,4 +1,4 @@
-//! The formula of all tables of a shape with some number of channels.
+//! Clauses, and the formula of all tables of a shape with some number of channels.
 #![tactic(auto)]
 
 mod conflict;
@@ -6,6 +6,7 @@ mod exchange;
 mod formula;
 mod laws;
 mod limits;
+mod literal;
 mod text;
 
 pub use channel_tables::Separation;
@@ -17,4 +18,5 @@ pub use laws::{
     solutions_satisfy,
 };
 pub use limits::{MAX_CLAUSES, MAX_VARIABLES};
+pub use literal::{Literal, negation};
 pub use text::write_formula;

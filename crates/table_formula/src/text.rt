@@ -10,7 +10,7 @@ ghost use Rattle.table_formula.specs.Formula.{formula as clauses_of, longest_len
 ghost use Rattle.table_formula.specs.Texts.{literal_text, clause_text, head_text, formula_text};
 
 use crate::formula::Formula;
-use clause_check::Literal;
+use crate::literal::Literal;
 use devices::chunk::Chunk;
 use devices::fault::{EngineFault, OutFault};
 use devices::watched::Watched;

@@ -6,7 +6,7 @@ ghost use Rattle.win_index.specs.declared.limits.TheConstants.{MAX_IDS, MAX_ROUN
 ghost use Rattle.source_places.specs.Lists.{joined};
 ghost use Rattle.table_notes.specs.VerdictNotes.{distance_text, pair_text, channels_text, no_tuples_note, windows_text, verdict_note, HasPlaces};
 
-use bad_tuples::Witness;
+use channel_tables::Witness;
 use node_program::OutOfMemory;
 use source_places::write_joined;
 use std::alloc::{AllocError, Global};

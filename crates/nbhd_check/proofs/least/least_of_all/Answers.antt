@@ -2,9 +2,9 @@ use Rattle.std.proofs.Common.{◌≡◌, ◌*◌, ◌≤◌, subst, arith, ℕ, 
 use Rattle.std.proofs.lemmas.Bool.{cases_lt}
 use Rattle.channel_tables.specs.Tables.{ChannelTable}
 use Rattle.channel_tables.specs.declared.separation.Separation.{Separation}
-use Rattle.bad_tuples.specs.Apart.{NoneIsBad}
-use Rattle.bad_tuples.specs.Apart.{run_len}
-use Rattle.bad_tuples.specs.Searches.{IsLeastIn}
+use Rattle.channel_tables.specs.Apart.{NoneIsBad}
+use Rattle.channel_tables.specs.Apart.{run_len}
+use Rattle.channel_tables.specs.Searches.{IsLeastIn}
 use Rattle.nbhd_check.proofs.Runs.{none_of_free}
 use Rattle.nbhd_check.proofs.least.least_of_all.Goals as goal
 

@@ -3,7 +3,7 @@ use Rattle.std.proofs.Math.Nat.{mul-le-mul}
 use Rattle.std.proofs.lemmas.List.{get_or-take, length-take-le}
 use Rattle.win_index.specs.Windows.{unused, windows, IsWindow}
 use Rattle.nbhd_check.specs.Runs.{wide}
-use Rattle.bad_tuples.proofs.Prefixes.{place_of_last, run_of, one_run, window_drop, window_take}
+use Rattle.channel_tables.proofs.Prefixes.{place_of_last, run_of, one_run, window_drop, window_take}
 use Rattle.win_index.proofs.Numbers.{windows_all}
 use Rattle.nbhd_check.proofs.Suffixes.{shared_cut}
 use Rattle.nbhd_check.proofs.near.second_runs.Goals as goal

@@ -1,7 +1,7 @@
 use Rattle.std.proofs.Common.{◌||◌, ap, sym, ◌∙◌, Some}
-use Rattle.clause_check.specs.Clauses.{is_same}
-use Rattle.clause_check.specs.Marked.{is_marked}
-use Rattle.clause_check.specs.declared.literal.Literal.{Literal}
+use Rattle.table_formula.specs.Clauses.{is_same}
+use Rattle.refutation.specs.Marked.{is_marked}
+use Rattle.table_formula.specs.declared.literal.Literal.{Literal}
 use Rattle.refutation.specs.Stored.{clause_of}
 use Rattle.refutation.proofs.HintSteps.{at_nothing, at_one}
 use Rattle.refutation.proofs.hints.outcome_of_hints.Goals as goal

@@ -1,6 +1,6 @@
 use Rattle.std.proofs.Common.{◌≡◌, drop, map, length}
-use Rattle.clause_check.specs.Hints.{outcome_of}
-use Rattle.clause_check.specs.Marked.{is_marked, variables_of}
+use Rattle.refutation.specs.Hints.{outcome_of}
+use Rattle.refutation.specs.Marked.{is_marked, variables_of}
 use Rattle.refutation.specs.Stored.{clause_of}
 use Rattle.refutation.proofs.hints.outcome_of_hints.Given as goal
 

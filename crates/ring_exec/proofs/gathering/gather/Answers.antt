@@ -4,9 +4,9 @@ use Rattle.std.proofs.lemmas.List.FromFn.{fill_by_all}
 use Rattle.std.proofs.lemmas.Nat.{mul-le}
 use Rattle.win_index.specs.declared.limits.TheConstants.{MAX_IDS}
 use Rattle.node_program.specs.GlobalRounds.{channel_at}
-use Rattle.ring_segments.specs.SegmentPlaces.{first_place}
-use Rattle.ring_segments.specs.Segments.{RingSegment, first_of, places_of}
-use Rattle.ring_segments.specs.declared.limits.TheConstants.{MAX_SEGMENTS}
+use Rattle.border_exchange.specs.SegmentPlaces.{first_place}
+use Rattle.border_exchange.specs.Segments.{RingSegment, first_of, places_of}
+use Rattle.border_exchange.specs.declared.limits.TheConstants.{MAX_SEGMENTS}
 use Rattle.ring_exec.proofs.gathering.gather.Goals as goal
 
 pub loop-index-init : goal.loop-index-init

@@ -1,6 +1,6 @@
 use Rattle.std.proofs.Common.{◌≡◌, ℕ, ◌+◌, ◌<◌, length, get_or, vec_len}
 use Rattle.node_program.specs.GlobalRounds.{channel_at}
-use Rattle.ring_segments.specs.SegmentPlaces.{first_place}
+use Rattle.border_exchange.specs.SegmentPlaces.{first_place}
 use Rattle.ring_exec.proofs.gathering.gather.Given as goal
 
 -- the channels of the segments so far are written, and the others are still in the list

@@ -5,7 +5,7 @@ use Rattle.lang_check.specs.Plans.{ProgramForIds}
 use Rattle.node_program.specs.Node.{channel}
 use Rattle.node_program.specs.GlobalRounds.{state, channel_at}
 use Rattle.round_eval.specs.Rows.{rows}
-use Rattle.ring_segments.specs.Segments.{first_of, places_of}
+use Rattle.border_exchange.specs.Segments.{first_of, places_of}
 use Rattle.ring_exec.proofs.gathering.write_part.Goals as goal
 
 pub loop-place-preserved : goal.loop-place-preserved

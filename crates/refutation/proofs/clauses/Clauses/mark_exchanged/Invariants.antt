@@ -1,8 +1,8 @@
 use Rattle.std.proofs.Common.{◌≡◌, map, take, drop, true}
 use Rattle.std.specs.List.{list_all}
-use Rattle.clause_check.specs.Clauses.{has_literal}
-use Rattle.clause_check.specs.Marked.{is_marked, variables_of}
-use Rattle.clause_check.specs.declared.literal.Literal.{Literal as Lit}
+use Rattle.table_formula.specs.Clauses.{has_literal}
+use Rattle.refutation.specs.Marked.{is_marked, variables_of}
+use Rattle.table_formula.specs.declared.literal.Literal.{Literal as Lit}
 use Rattle.table_formula.specs.Exchanges.{exchanged_literal}
 use Rattle.refutation.specs.Derivations.{is_known}
 use Rattle.refutation.proofs.clauses.Clauses.mark_exchanged.Given as goal

@@ -1,6 +1,6 @@
 use Rattle.std.proofs.Common.{◌<◌, ℕ, ap, sym, option_map, subst, All}
-use Rattle.clause_check.specs.Marked.{variables_of}
-use Rattle.clause_check.specs.declared.literal.Literal.{Literal}
+use Rattle.refutation.specs.Marked.{variables_of}
+use Rattle.table_formula.specs.declared.literal.Literal.{Literal}
 use Rattle.refutation.proofs.clauses.Clauses.remaining.Goals as goal
 
 pub remaining-requires : goal.remaining-requires

@@ -1,6 +1,6 @@
 use Rattle.std.proofs.Common.{◌≡◌, ◌+◌, ◌<◌, length, subst, sym, ◌∙◌, ap}
 use Rattle.std.proofs.lemmas.List.{get_or_default}
-use Rattle.ring_segments.specs.Needs.{from_left, from_right}
+use Rattle.border_exchange.specs.Needs.{from_left, from_right}
 use Rattle.ring_core.specs.Machine.{Machine, CanAdvance, Steps, segment_at}
 use Rattle.ring_core.specs.MachinePromises.{segment_after_rounds}
 use Rattle.ring_core.specs.Parts.{Progress, Parts, no_part, part_at, at_round, machine_of}

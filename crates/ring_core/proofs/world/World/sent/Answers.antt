@@ -1,6 +1,6 @@
 use Rattle.std.proofs.Common.{length, sym, ◌∙◌, ap}
 use Rattle.border_exchange.specs.declared.Side.TheVariants.{Rightward, Leftward}
-use Rattle.ring_segments.specs.Segments.{RingSegment}
+use Rattle.border_exchange.specs.Segments.{RingSegment}
 use Rattle.ring_core.specs.Machine.{BorderState}
 use Rattle.ring_core.specs.MachinePromises.{sent_at}
 use Rattle.ring_core.specs.Parts.{rightward_headings, leftward_headings}

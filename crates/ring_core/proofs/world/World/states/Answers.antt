@@ -1,5 +1,5 @@
 use Rattle.std.proofs.Common.{◌≡◌, ◌*◌, length, subst, sym, ◌∙◌, ap}
-use Rattle.ring_segments.specs.Segments.{RingSegment, places_of}
+use Rattle.border_exchange.specs.Segments.{RingSegment, places_of}
 use Rattle.ring_core.proofs.Readings.{rows_are, places_are}
 use Rattle.ring_core.proofs.world.World.states.Goals as goal
 

@@ -25,8 +25,8 @@ use Rattle.ring_exec.proofs.border_name.Blanks.TheLaws as blanks_laws
 use Rattle.ring_exec.specs.contracts.border_name.Blanks.new as new
 use Rattle.ring_exec.proofs.border_name.Blanks.new.Met as new_met
 use Rattle.ring_exec.specs.contracts.end.Edge as edge
-use Rattle.ring_segments.specs.contracts.message.Msg as message
-use Rattle.ring_segments.specs.contracts.message.MsgDated.TheImpl as dated
+use Rattle.border_exchange.specs.contracts.message.Msg as message
+use Rattle.border_exchange.specs.contracts.message.MsgDated.TheImpl as dated
 use Rattle.round_eval.specs.declared.gate.Gate as Gate
 use Rattle.round_eval.specs.contracts.gate.Gate.TheBound as gate_bound
 use Rattle.ring_exec.specs.declared.border_name.BorderName as BorderName

@@ -1,5 +1,5 @@
 use Rattle.std.proofs.Common.{◌<◌, List, Some, All, length, sym, ap, ◌∙◌, subst, arith}
-use Rattle.clause_check.specs.declared.literal.Literal.{Literal}
+use Rattle.table_formula.specs.declared.literal.Literal.{Literal}
 use Rattle.table_formula.specs.Formula.{windows_of, variable_count}
 use Rattle.table_formula.proofs.Numbered.{window_clause, some_within}
 use Rattle.table_formula.proofs.ClauseLengths.{channels_fit, two_fit}

@@ -1,5 +1,5 @@
 use Rattle.std.proofs.Common.{◌<◌, List, [], ◌∷◌, sym, ap, ◌∙◌, length, subst, All}
-use Rattle.clause_check.specs.declared.literal.Literal.{Literal}
+use Rattle.table_formula.specs.declared.literal.Literal.{Literal}
 use Rattle.table_formula.specs.Formula.{windows_of, variable_count, lacks_channel}
 use Rattle.table_formula.proofs.Numbered.{two_cells, pair_within}
 use Rattle.table_formula.proofs.formula.Formula.write_not_both.Goals as goal

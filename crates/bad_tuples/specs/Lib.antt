@@ -1,6 +1,0 @@
--- The definitions that the contracts cite: separations, proper tables, searches for bad tuples, witnesses, and the laws.
-pub mod Apart
-pub mod Proper
-pub mod Searches
-pub mod Witnesses
-pub mod Laws
