@@ -4,8 +4,8 @@ ghost use Rattle.node_program.specs.declared.limits.TheConstants.{MAX_ROUNDS};
 ghost use Rattle.round_eval.specs.Rows.{rows};
 ghost use Rattle.border_exchange.specs.Segments.{RingSegment, places_of, states_of};
 
-use crate::message::Msg;
 use crate::Side;
+use crate::message::Msg;
 use lang_check::Plan;
 use node_program::OutOfMemory;
 use round_eval::{

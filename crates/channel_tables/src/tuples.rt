@@ -8,11 +8,11 @@ ghost use Rattle.channel_tables.specs.Apart.{extra, run_len, tuples, AreClose, I
 ghost use Rattle.channel_tables.specs.Searches.{IsLeastIn};
 ghost use Rattle.channel_tables.specs.Witnesses.{IsWitness};
 
+use crate::separation::Separation;
+use crate::table::Table;
 use crate::tuple_lists::TupleLists;
 use crate::windows::Windows;
 use crate::witness::Witness;
-use crate::separation::Separation;
-use crate::table::Table;
 use node_program::OutOfMemory;
 use std::alloc::Global;
 use win_index::MAX_TUPLE_LEN;

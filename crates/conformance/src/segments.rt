@@ -4,8 +4,8 @@ ghost use Rattle.std.specs.Prelude.{◌≡◌, ◌<◌, ◌≤◌, IfSome, lengt
 
 mod machine;
 
-use lang_check::Plan;
 use border_exchange::Segment;
+use lang_check::Plan;
 use std::alloc::Global;
 use std::test::Fail;
 use test_programs::{CV1, RED, plan_of};

@@ -15,7 +15,6 @@ mod run_search;
 mod search;
 mod verdict;
 
-pub use channel_tables::{Tuples, Witness, judge_part};
-pub use channel_tables::Separation;
+pub use channel_tables::{Separation, Tuples, Witness, judge_part};
 pub use laws::pairs_that_avoid_two;
 pub use verdict::{Verdict, judge, judge_with_workers};

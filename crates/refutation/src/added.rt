@@ -2,9 +2,9 @@
 ghost use Rattle.std.specs.Prelude.{◌≡◌, ◌==◌, ℕ, None, Some, OnOk, OnErr, if◌then◌else◌};
 ghost use Rattle.refutation.specs.Added.{added_clause};
 
-use table_formula::Literal;
 use std::alloc::AllocError;
 use std::collections::BTreeMap;
+use table_formula::Literal;
 
 // Adds a clause to those that were added.
 pub(crate) fn insert_clause(

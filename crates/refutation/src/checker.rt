@@ -9,9 +9,8 @@ use crate::forms::Form;
 use crate::hints::outcome_of_hints;
 use crate::marks::Marks;
 use crate::outcome::Outcome;
-use table_formula::Literal;
 use std::alloc::{AllocError, Global};
-use table_formula::{Exchange, Formula};
+use table_formula::{Exchange, Formula, Literal};
 
 /// A refutation so far.
 #[derive(Drop)]

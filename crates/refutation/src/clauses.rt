@@ -5,10 +5,9 @@ ghost use Rattle.refutation.specs.Added.{AreWithin};
 
 use crate::added::{delete_clause, insert_clause};
 use crate::marks::{Marks, Remaining};
-use table_formula::Literal;
 use std::alloc::{AllocError, Global};
 use std::collections::BTreeMap;
-use table_formula::{Exchange, Formula};
+use table_formula::{Exchange, Formula, Literal};
 
 /// The clauses that a hint can name: those of a formula and those that were added, without the
 /// deleted ones.

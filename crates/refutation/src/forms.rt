@@ -9,9 +9,8 @@ ghost use Rattle.table_formula.specs.declared.literal.Literal.{Literal as Lit};
 
 use crate::parts::Parts;
 use crate::words::{Spelled, is_end, number_in};
-use table_formula::Literal;
 use std::alloc::AllocError;
-use table_formula::Exchange;
+use table_formula::{Exchange, Literal};
 
 /// The form of a line. The clause, and the hints or the deleted numbers, stand beside it.
 #[derive(Clone, Copy, Debug, PartialEq, Eq)]

@@ -12,9 +12,8 @@ use crate::forms::{Form, read_line};
 use crate::laws::refutations_are_sound;
 use crate::limits::LONGEST_REFUTATION;
 use crate::parts::Parts;
-use table_formula::Literal;
 use std::alloc::{AllocError, Global};
-use table_formula::Formula;
+use table_formula::{Formula, Literal};
 
 /// Checks that a text is a refutation of a formula, so that no table solves its problem. The text
 /// is LRAT in text form, with steps of unit propagation alone: it adds clauses, each of which

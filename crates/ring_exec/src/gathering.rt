@@ -5,8 +5,8 @@ ghost use Rattle.border_exchange.specs.Segments.{first_of, places_of};
 ghost use Rattle.border_exchange.specs.SegmentCounts.{IsSegmentCount};
 ghost use Rattle.round_eval.specs.declared.fault.WorkFault.TheVariants.{Stranger};
 
-use lang_check::Plan;
 use border_exchange::{Segment, segments_cover_the_ring};
+use lang_check::Plan;
 use round_eval::{WorkFault, channel, row_at, width_of};
 use win_index::Ring;
 

@@ -13,6 +13,6 @@ mod progress;
 mod relay;
 mod runner;
 
+pub use border_exchange::{MAX_SEGMENTS, Msg, Segment, Strange};
 pub use fault::RunFault;
 pub use message_run::run;
-pub use border_exchange::{MAX_SEGMENTS, Msg, Segment, Strange};
