@@ -79,7 +79,7 @@ pub(crate) fn has_token(text: &[u8], token: Token) -> bool {
 }
 
 // Returns the number of registers that the header of a program says.
-pub(crate) fn registers_in(text: &[u8]) -> Option<u32> {
+fn registers_in(text: &[u8]) -> Option<u32> {
     let mut is_told = false;
     let mut at = 0;
     'tokens: while let Some(placed) = token_from(text, at) {
@@ -249,7 +249,7 @@ pub(crate) fn is_token(bytes: &[u8]) -> bool {
 }
 
 // Returns whether the token of a word is what can follow.
-pub(crate) fn is_wanted(word: &[u8], wanted: Expected) -> bool {
+fn is_wanted(word: &[u8], wanted: Expected) -> bool {
     match token_from(word, 0) {
         Some(placed) => wanted == Expected::This(placed.token),
         None => false,
@@ -275,7 +275,7 @@ pub(crate) fn is_keyword(word: &[u8]) -> bool {
 }
 
 // Returns whether a word begins as a register does.
-pub(crate) fn begins_register(word: &[u8]) -> bool {
+fn begins_register(word: &[u8]) -> bool {
     matches!(word, [b'r', b'0'..=b'9', ..])
 }
 
@@ -306,4 +306,38 @@ pub(crate) fn is_joined(place: Place) -> bool {
         }
     }
     false
+}
+
+// Returns whether what is expected at a place follows its word.
+fn is_followed(place: Place) -> bool {
+    match place.wanted {
+        Expected::This(Token::Equals) => false,
+        Expected::This(Token::Open) | Expected::This(Token::Close) => true,
+        Expected::This(Token::Register(_)) => matches!(place.next, [b'r', _]),
+        Expected::This(_) => is_wanted(place.next, place.wanted),
+        Expected::End => place.next != b"=".as_slice(),
+        _ => true,
+    }
+}
+
+// Returns whether the word of a place stands twice: what is expected follows it. Else a word may have
+// been left out before it.
+pub(crate) fn is_doubled(place: Place) -> bool {
+    place.last == place.word && is_followed(place)
+}
+
+// Returns whether a register is one that the header does not have.
+pub(crate) fn is_no_register(place: Place) -> bool {
+    match (place.word, registers_in(place.before)) {
+        ([b'r', digit], Some(registers)) => u32::from(*digit)
+            >= u32::from(b'0').saturating_add(registers),
+        _ => false,
+    }
+}
+
+// Returns whether the number of rounds stands before the word `rounds`, alone with it on a line.
+pub(crate) fn is_turned(place: Place) -> bool {
+    let line = &place.rest[..first_line_len(place.rest)];
+    let own = place_in(&place.rest[..0], line, place.wanted);
+    is_number(own.word) && own.next == b"rounds".as_slice() && own.second.is_empty()
 }

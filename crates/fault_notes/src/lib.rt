@@ -1,19 +1,22 @@
-//! Notes on program texts and programs that are refused: the cause and its place, and what can stand
-//! there.
+//! Notes on program texts and programs that are refused: the cause and its place, what can stand there,
+//! and advice, by rules.
 #![tactic(auto)]
 
-mod advice;
 mod around;
 mod bounds;
-mod misplaced;
-mod operands;
+mod bytes;
+mod conditions;
+mod ends;
+mod mark_rules;
+mod operations;
+mod parts;
+mod place_rules;
 mod placed;
 mod programs;
+mod rules;
 mod scanning;
-mod signs;
-mod tex;
 mod texts;
-mod wanted;
+mod word_rules;
 mod words;
 
 pub use programs::{check_note, ids_note};

@@ -9,11 +9,11 @@ ghost use Rattle.source_places.specs.Heads.{place_head};
 ghost use Rattle.source_places.specs.Shown.{marked_line};
 ghost use Rattle.fault_notes.specs.TextNotes.{quoted, cause_of, IsTextNote, too_long_note};
 
-use crate::advice::{end_advice, large_advice, range_advice, word_advice};
-use crate::around::place_in;
-use crate::misplaced::place_advice;
-use crate::signs::byte_advice;
-use crate::words::{first_word, write_wanted_part};
+use crate::around::{Place, place_in};
+use crate::bytes::byte_advice;
+use crate::ends::end_advice;
+use crate::rules::advice_by;
+use crate::words::{first_word, is_word_byte, write_wanted_part};
 use node_lang::{Expected, FaultKind, TextFault, expected_in};
 use node_program::OutOfMemory;
 use source_places::{TextKind, kind_advice, write_marked_line, write_place_head, write_shown};
@@ -142,10 +142,21 @@ fn advice_on(text: &[u8], fault: TextFault, wanted: Option<Expected>) -> &'stati
     match (fault.kind, wanted) {
         (FaultKind::NotAscii, _) => byte_advice(before, rest),
         (FaultKind::BadWord, Some(wanted)) => word_advice(place_in(before, rest, wanted)),
-        (FaultKind::Unexpected, Some(wanted)) => place_advice(place_in(before, rest, wanted)),
+        (FaultKind::Unexpected, Some(wanted)) => advice_by("place", place_in(before, rest, wanted)),
         (FaultKind::EndOfText, wanted) => end_advice(text, wanted),
-        (FaultKind::HeaderRange, _) => range_advice(place_in(before, rest, Expected::Number)),
-        (FaultKind::NumberTooLarge, _) => large_advice(place_in(before, rest, Expected::Number)),
+        (FaultKind::HeaderRange, _) => advice_by("range", place_in(before, rest, Expected::Number)),
+        (FaultKind::NumberTooLarge, _) => advice_by(
+            "large",
+            place_in(before, rest, Expected::Number),
+        ),
         _ => "",
+    }
+}
+
+// Returns advice on a word or a mark that is not of the language.
+fn word_advice(place: Place) -> &'static str {
+    match place.word {
+        [byte] if !is_word_byte(*byte) => advice_by("mark", place),
+        _ => advice_by("word", place),
     }
 }

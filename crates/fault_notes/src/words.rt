@@ -6,7 +6,7 @@ ghost use Rattle.node_lang.specs.Words.{is_word_byte as word_byte};
 ghost use Rattle.fault_notes.specs.Words.{spelled, wanted_text, wanted_part, first_word as first};
 
 use node_lang::{Expected, Token};
-use source_places::{first_of, is_one_of};
+use source_places::first_of;
 use std::alloc::AllocError;
 use std::fmt::Write;
 
@@ -34,16 +34,6 @@ pub(crate) fn first_word(text: &[u8]) -> &[u8]
         return first_of(text, 1);
     }
     first_of(text, len)
-}
-
-// Returns the advice on a word in a table of words with advice.
-pub(crate) fn advice_in(table: &[(&str, &'static str)], word: &[u8]) -> Option<&'static str> {
-    for (words, advice) in table {
-        if is_one_of(words, word) {
-            return Some(advice);
-        }
-    }
-    None
 }
 
 // Returns the text for a word or a mark that can follow.
