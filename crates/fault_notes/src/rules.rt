@@ -12,7 +12,7 @@ use crate::mark_rules::MARKS;
 use crate::place_rules::PLACES;
 use crate::word_rules::WORDS;
 
-// The most sections that are gone through. Rules lead to later ones, so that this is never too few.
+// The most sections that follow one another, which `tools/inventory` compares.
 const MOST_SECTIONS: usize = 8;
 
 // Returns the advice of a section at a place, an empty text if there is none.
