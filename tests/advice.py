@@ -278,7 +278,23 @@ ROWS = [
         r"one expression is assigned to each register, then comes (`round`|`finish`)",
         lambda place, then: place.is_in(then) and place.token() in OPERANDS,
     ),
-    (r"there are as many rounds as `rounds` says", lambda place: {place.token(), place.wanted} & {"round", "finish"}),
+    (
+        r"there are as many rounds as `rounds` says(?:, and each is written out)?",
+        lambda place: {place.token(), place.wanted} & {"round", "finish"},
+    ),
+    (
+        r"`round` stands alone on its line: each round is written out, and a comment begins with `#`",
+        lambda place: place.last() == "round" and place.is_in("`send`") and not place.begins_line(),
+    ),
+    (r"the header has three lines, then comes `start`", lambda place: place.is_in("`start`")),
+    (
+        r"a comma is too many, or an operand is missing before it",
+        lambda place: place.token() == place.last() == "," and place.text[: place.at].endswith(","),
+    ),
+    (
+        r"the name of an operation is missing before it, or these are more values than the one that is sent",
+        lambda place: place.token() == "(" and place.last() in ("left", "right") and place.has_comma(0),
+    ),
     (r"the expression of `finish` ends the program", lambda place: place.is_in("the end of the text")),
     (r"(?:`registers` is at most 8, and )?registers are `r0` to `r7`(?:, and have no other names)?", lambda place: not re.fullmatch("r[0-7]", place.token())),
     (r"a number has only digits(?:, and there is no product: twice x is `shl\(x, 1\)`)?", lambda place: place.token()[0].isdecimal() and not is_number(place.token())),

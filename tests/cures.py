@@ -242,7 +242,7 @@ ROWS = [
     (r"an expression follows `finish`, and no assignment(?:: write `eq\(a, b\)` to compare)?", one_register),
     (r"a branch of `if` is a value, not an assignment: .*", one_register),
     (r"`registers` says how many registers there are, from r0 on", more_registers),
-    (r"there are as many rounds as `rounds` says", other_rounds),
+    (r"there are as many rounds as `rounds` says(?:, and each is written out)?", other_rounds),
     (r"the expression of `finish` ends the program|nothing follows the expression of `finish`", cut),
     (r"nothing is received by a word: .*", without_line),
     (r"where `\.\.` stands in an example, an expression is written", dots),

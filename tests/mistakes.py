@@ -364,7 +364,7 @@ COPIED = [
     (
         "finish r0",
         "output = r0",
-        "line 10, column 1: unknown word `output`; expected `finish`; registers are `r0` to `r7`, and have no other names",
+        "line 10, column 1: unknown word `output`; expected `finish`; the last line is `finish` and an expression",
     ),
     ("r0 = id", "r0 == id", "line 5, column 5: unexpected `=`; expected an expression; an assignment is written with one `=`"),
     ("r0 = id", "r0 = r1 = id", "line 5, column 9: unexpected `=`; expected `round`; each assignment has one register"),

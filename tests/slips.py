@@ -41,7 +41,7 @@ WORD = re.compile("[A-Za-z0-9]+")
 
 # The advice that does not mislead where this token was left out.
 LEFT_OUT = {
-    "operation": [BRACKETS, "the name of an operation is missing before it"],
+    "operation": [BRACKETS, "the name of an operation is missing before it(?:, or these are more values than the one that is sent)?"],
     "operand": [TAKES, MISSING, "write a number in digits", ONLY_ASSIGNED, READ],
     "(": [IN_BRACKETS, NOT_IN_BRACKETS, "a `\\(` is missing in it", "there is no operation of this name", SAME],
     ")": [TAKES, "a bracket is open"],

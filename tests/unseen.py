@@ -211,6 +211,18 @@ EXPRESSIONS = [
     ("++L", "`add(a, 1)`"),
     ("L bsl 1", "`shl(a, k)`"),
     ("r0 ** 2", "2 to the power k"),
+    ("xor(r0, r0.left)", "`L`"),
+    ("xor(r0, R.)", "without parts"),
+    ("let i = ldb(r0, L) in add(shl(i, 1), bit(r0, i))", "no names"),
+    ("if(r0 in {5, 6, 7}, 1, 0)", "sets", "`or("),
+    ("if(r0, 0, iff(L, 1, 2))", "`if(c, a, b)`"),
+    ("if(r0 => L, R)", "`if(c, a, b)`"),
+    ("ne(L, O)", "letter", "`0`"),
+    ("min(r0, delta)", "two neighbours"),
+    ("min(old, 6)", "before it"),
+    ("min(r0, t)", "number of rounds"),
+    ("ldb(r0,, L)", "a comma is too many"),
+    ("ldb(r0, &L)", "no mark before it"),
 ]
 
 # Parts of `CV1`, their replacements, and the words.
@@ -420,6 +432,35 @@ PARTS = [
         "come last",
     ),
     ("registers 1\nstart\nr0 = id", "registers 2\nstart\nr0 = max(id,\nr1 = 0", "a bracket is open", "read as an operand"),
+    ("send right r0", "send right (r0, L)", "one that is sent"),
+    ("finish r0", "finish inf", "`channels`"),
+    ("finish r0", "channel = r0", "`finish`"),
+    ("finish r0", "color = r0", "`finish`"),
+    ("finish r0", "end\nfinish r0", "leave out"),
+    ("finish r0", "end round\nfinish r0", "leave out"),
+    ("round\n", "round x3\n", "written out"),
+    ("round\n", "round 3\n", "written out"),
+    ("round\n", "for i in 1..3:\nround\n", "no loops", "written out"),
+    ("round\n", "== round 1: Cole-Vishkin ==\nround\n", "`#`"),
+    ("round\n", "** round 1 **\nround\n", "`#`"),
+    ("round\n", "... round 1\nround\n", "`#`"),
+    ("round\n", "! round 1\nround\n", "`#`"),
+    ("send left 0", "again\nsend left 0", "written out"),
+    ("send left 0", "skip\nsend left 0", "written out"),
+    ("send left 0", "<<<<<<< HEAD\nsend left 0", "merge"),
+    ("send left 0", "- send left 0", "leave out"),
+    ("r0 = add", "| r0 = add", "leave out"),
+    ("r0 = add", "keep r0\nr0 = add", "`r0 = r0`"),
+    ("r0 = add", "i = ldb(r0, L)\nr0 = add", "as they were before it"),
+    ("rounds 1", "rounds l", "letter"),
+    ("channels 6", "channels 0 5", "one number"),
+    ("start\n", "messages 2\nstart\n", "three lines"),
+    ("start\n", "def cv(a, b):\nstart\n", "no functions"),
+    ("start\n", "const K = 6\nstart\n", "no names for numbers"),
+    ("r0 = id", "r0 = input", "`id`"),
+    ("r0 = id", "r0 = place", "`id`"),
+    ("r0 = id", "r0=$id", "no mark before it"),
+    ("rounds 1", "rounds 2", "written out"),
 ]
 
 # What stands before `CV1`, and the words.
@@ -451,6 +492,8 @@ HEADS = [
     ("-module(cv1).\n", "begins with `rounds`"),
     ("PK\x03\x04\x14\x00", "document of an office program", "as plain text"),
     ("cm91bmRzIDEKY2hhbm5lbHMgNgpyZWdpc3RlcnMgMQpzdGFydApyMCA9IGlkCg==\n", "base64", "`base64 -d` decodes it"),
+    ("--ids 8\n", "options", "`nbhd check --ids 8`"),
+    ("---\n", "leave out what is before it"),
 ]
 
 # A table of three windows.

@@ -341,3 +341,20 @@ pub(crate) fn is_turned(place: Place) -> bool {
     let own = place_in(&place.rest[..0], line, place.wanted);
     is_number(own.word) && own.next == b"rounds".as_slice() && own.second.is_empty()
 }
+
+// Returns the number of bytes at the start that are no part of a word, on the first line and outside of
+// comments.
+fn marks_len(text: &[u8]) -> usize
+    ensures { result ≤ length text.now }
+{
+    text.iter()
+        .take_while(|byte| !is_word_byte(**byte) && !matches!(**byte, b'\n' | b'#'))
+        .count()
+}
+
+// Returns whether a line of a program stands behind the marks at a place.
+pub(crate) fn has_line_behind(place: Place) -> bool {
+    let line = &place.rest[marks_len(place.rest)..];
+    let own = place_in(&place.rest[..0], line, place.wanted);
+    is_keyword(own.word) || is_register(own.word) && own.next == b"=".as_slice()
+}

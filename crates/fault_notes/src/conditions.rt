@@ -11,8 +11,8 @@
 
 use crate::around::{
     Place, begins_line, follows_comment, follows_expression, follows_first_word, has_comma,
-    has_operands, has_token, is_doubled, is_end, is_joined, is_no_register, is_number, is_operand,
-    is_register, is_repeated, is_token, is_turned, open_operation,
+    has_line_behind, has_operands, has_token, is_doubled, is_end, is_joined, is_no_register,
+    is_number, is_operand, is_register, is_repeated, is_token, is_turned, open_operation,
 };
 use crate::operations::{is_glued, is_glued_to_number, is_operation};
 use crate::parts::{begins_feed, begins_so, is_based};
@@ -96,7 +96,10 @@ fn token_of<'a>(name: &str, place: Place<'a>) -> &'a [u8] {
     if name == "second" {
         return place.second;
     }
-    open_operation(place.before)
+    if name == "open" {
+        return open_operation(place.before);
+    }
+    &place.word[..0]
 }
 
 // Returns whether a token is this word, or of this class.
@@ -133,7 +136,10 @@ fn is_of_class(class: &str, token: &[u8]) -> bool {
     if class == "long" {
         return token.len() > 1;
     }
-    token.is_empty()
+    if class == "letters" {
+        return token.iter().all(|byte| byte.is_ascii_alphabetic());
+    }
+    class == "nothing" && token.is_empty()
 }
 
 // Returns whether the word here is such a word, or has such a part.
@@ -144,7 +150,7 @@ fn fits_word(name: &str, part: &[u8], word: &[u8]) -> bool {
     if name == "ends" {
         return word.ends_with(part);
     }
-    word.eq_ignore_ascii_case(part)
+    name == "any-case" && word.eq_ignore_ascii_case(part)
 }
 
 // Returns whether the text from a place on, or before it, has such a mark.
@@ -156,7 +162,7 @@ fn fits_text(name: &str, mark: &[u8], place: Place) -> bool {
         return place.before.ends_with(mark);
     }
     match place.rest.strip_prefix(mark) {
-        Some(rest) => rest.starts_with(b" "),
+        Some(rest) => name == "spaced" && rest.starts_with(b" "),
         None => false,
     }
 }
@@ -171,7 +177,7 @@ fn is_so(name: &str, place: Place) -> bool {
         return is_on_line(name, place);
     }
     if is_one_of(
-        "doubled joined turned touching no-register operands-follow comma-inside",
+        "doubled joined turned touching no-register operands-follow comma-inside line-behind",
         name.as_bytes(),
     ) {
         return has_tokens(name, place);
@@ -202,7 +208,7 @@ fn is_on_line(name: &str, place: Place) -> bool {
     if name == "after-first-word" {
         return follows_first_word(place);
     }
-    is_repeated(place.before, place.rest)
+    name == "repeated" && is_repeated(place.before, place.rest)
 }
 
 // Returns whether a condition on the tokens around a place holds.
@@ -222,10 +228,13 @@ fn has_tokens(name: &str, place: Place) -> bool {
     if name == "no-register" {
         return is_no_register(place);
     }
+    if name == "line-behind" {
+        return has_line_behind(place);
+    }
     if name == "operands-follow" {
         return has_operands(place);
     }
-    has_comma(place.rest)
+    name == "comma-inside" && has_comma(place.rest)
 }
 
 // Returns whether a condition on the word of a place, or on a word behind it, holds.
@@ -242,5 +251,5 @@ fn has_word(name: &str, place: Place) -> bool {
     if name == "glued-number" {
         return is_glued_to_number(place.word);
     }
-    is_based(place.word)
+    name == "based" && is_based(place.word)
 }

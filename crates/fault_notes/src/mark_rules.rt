@@ -11,9 +11,15 @@ linked & mark +
 ; this is a part of a link, in which `+` stands for a blank and `%0A` for a line feed
 entity
 > entity
+starts-line & mark <<<<<<< >>>>>>>
+; a merge left this mark: keep one of the two sides
 starts-line & mark {- ;
 starts-line & spaced '
 ; a comment begins with `#`
+starts-line & line-behind & at channels registers start round send register finish
+; leave out the marks before it, or begin a comment with `#`
+starts-line & mark ... & at channels registers start round send register finish
+; where dots stand in an example, the lines are written out
 mark <br <p> <div <span <pre <code </
 ; this is a mark of HTML: leave it out
 at rounds & program-follows & mark " ' `
@@ -37,7 +43,10 @@ at expression & last left right & ends-line & mark - _ .
 not at expression & ends-line & mark .
 ; lines end without a mark
 last L R & name-follows & mark .
+touching & last L R & mark .
 ; a message is one number, without parts
+touching & not last :number & next left right prev next & mark .
+; a register is one number, without parts: what the neighbours sent is `L` and `R`
 touching & last :number & mark 'b 'd 'h 'o
 ; numbers are decimal
 touching & last :register & mark '
@@ -142,14 +151,18 @@ else
 ; a program has no `\`
 
 first-mark
+mark --ids --near --far --ring --workers --rounds --channels
+; options stand behind the name of the command, as in `nbhd check --ids 8`
 mark // /* {-
 ; a comment begins with `#`
 next rounds & spaced *
 spaced -
 mark | **
 ; leave out the marks around the program
-mark ---
+spaced ---
 ; this is a patch, not a program
+rounds-follow & mark ---
+; a program begins with `rounds`: leave out what is before it
 mark --
 ; a comment begins with `#`
 mark + @@
@@ -191,6 +204,8 @@ mark-before-expression
 mark ' "
 ; there are no texts in programs: leave out the quotation marks
 mark @
+; an expression has no mark before it
+letter-follows & not mark $r0 $r1 $r2 $r3 $r4 $r5 $r6 $r7 & mark $ &
 ; an expression has no mark before it
 mark ..
 ; where `..` stands in an example, an expression is written

@@ -23,6 +23,10 @@ else
 > known
 
 equals
+starts-line & mark =======
+; a merge left this mark: keep one of the two sides
+starts-line & not at comma close & mark ==
+; a comment begins with `#`
 at expression & last =
 ; an assignment is written with one `=`
 last :end & mark =/= =\= =!=
@@ -31,6 +35,8 @@ last :end & mark =:= ==
 ; write `eq(a, b)` to compare
 last :end & mark =<
 ; write `le(a, b)` for a <= b
+last :end & open if & mark =>
+; write `le(b, a)` for a >= b, and `if(c, a, b)` without an arrow
 last :end & mark =>
 ; write `le(b, a)` for a >= b
 at rounds
@@ -66,6 +72,8 @@ at rounds
 ; a program begins with `rounds`, without brackets
 last :operand & not starts-line
 ; no bracket follows a number, a register, `id`, `L` or `R`, and a comment begins with `#`
+at expression & comma-inside & last left right
+; the name of an operation is missing before it, or these are more values than the one that is sent
 at expression & comma-inside & not last (
 ; the name of an operation is missing before it
 at expression
@@ -92,6 +100,8 @@ else
 > operands
 
 comma
+at expression & last , & behind ,
+; a comma is too many, or an operand is missing before it
 not open :nothing
 > operands
 last :operand & previous left right
@@ -221,10 +231,12 @@ at finish & here round
 ; there are as many rounds as `rounds` says
 at finish register & no-register
 > no-register
-at expression & last ( , = finish
-> in-expression
 at expression & after-comment
 ; an expression is missing before it: what follows `#` on a line is a comment
+at expression & last ( , = finish
+> in-expression
+at send & last round & here :number & not starts-line
+; `round` stands alone on its line: each round is written out, and a comment begins with `#`
 else
 > expected
 
@@ -232,7 +244,7 @@ round
 here finish & round-follows
 ; `finish` and its expression come last, after the rounds
 here finish
-; there are as many rounds as `rounds` says
+; there are as many rounds as `rounds` says, and each is written out
 here send
 ; a round begins with the word `round`
 no-register
@@ -293,6 +305,7 @@ at close
 range
 next . & second .
 next -
+next :number
 ; one number is written here, not a range
 
 large

@@ -9,6 +9,8 @@ at expression & any-case left
 ; the message from the left is `L`, which the assignments of a round read
 at expression & any-case right
 ; the message from the right is `R`, which the assignments of a round read
+at expression & last finish & here MAX Max inf Inf infinity Infinity infty maxint MAXINT & not next (
+; a channel is a number below that of `channels`
 at expression & here MAX Max & not next (
 ; the greatest number is 4294967295
 at expression & here MIN Min & not next (
@@ -111,6 +113,10 @@ at left right
 ;
 at comma close & next = & not second =
 ; a bracket is open
+at finish & next = & here channel output result color colour out answer
+; the last line is `finish` and an expression
+at register & next = & not second = & not last start & here :letters & not here ro rO
+; registers are `r0` to `r7`, and have no other names; each block reads them as they were before it
 not at expression & next = & not second =
 > spelling
 else
@@ -133,8 +139,18 @@ here near far
 ; `--near` and `--far` are options of the commands
 at rounds & rounds-follow
 ; a program begins with `rounds`: leave out what is before it
+at number & here l I O o
+; this is a letter: write a number in digits
 at number
 ; write a number in digits
+at start & here def fn func function
+; there are no functions
+at start & here const let var int uint set
+; there are no names for numbers: write the number where it is read
+at start & next :number
+; the header has three lines, then comes `start`
+at rounds & not next :number
+; a program begins with `rounds`, `channels` and `registers`
 
 foreign-word
 here mul times mult multiply product
@@ -175,6 +191,8 @@ here minimum
 ; write `min(a, b)`
 here then else elif elsif elseif endif fi ite cond case switch select choose mux when match
 ; write `if(c, a, b)`
+here iff & next (
+; for 0 and 1, write `eq(a, b)`; with three operands it is `if(c, a, b)`
 here iff xnor
 ; for 0 and 1, write `eq(a, b)`
 here lsh lshift sll bsl
@@ -200,14 +218,16 @@ here getbit testbit nth
 here lsb ctz ffs
 ; the least index of a bit that is 1 in x is `ldb(x, 0)`
 here while for do repeat until
-; there are no loops: `rounds` says how often nodes exchange messages
+; there are no loops: the block of a round is written out as often as `rounds` says
 here def fn func function
 ; there are no functions
 here print echo printf
 ; nothing is printed: the channel is the expression of `finish`
 here rand random
 ; nothing is random
-here receive received receives recv
+here wait sync synchronize barrier
+; all nodes do each round at once: nothing waits
+here receive received receives recv listen get
 ; nothing is received by a word: `L` and `R` are what the neighbours sent in this round
 here REM dnl
 ; a comment begins with `#`
@@ -241,10 +261,22 @@ here self me my uid ident identifier myid node
 ; the identifier is `id`, which is read in `start` alone: a register keeps it
 here ids
 ; the identifier is `id`, which is read in `start` alone, and there is no word for the number of identifiers
-here return let yield
+here let
+; values have no names: an expression is written out wherever it is read
+here return yield
 ; an expression has no word before it
 here inf Inf infinity Infinity infty maxint MAXINT
 ; the greatest number is 4294967295
+here input place position pos index
+; a node knows only its identifier: `id` is read in `start`
+here old
+; each block reads the registers as they were before it: the old value of r0 is `r0`
+here t T
+; there is no word for the number of rounds, and registers are `r0` to `r7`
+here delta Delta degree deg
+; each node has two neighbours, and there is no word for their number
+here O o
+; this is a letter: the digit is `0`
 here m n M N
 ; there is no word for the number of nodes or for the number of identifiers, and registers are `r0` to `r7`
 next ( & here succ
@@ -277,11 +309,19 @@ at comma close & here is
 ; write `eq(a, b)`
 at send & here broadcast
 ; write `send left` and `send right`, each with an expression
+at send & last round & not starts-line
+; `round` stands alone on its line: each round is written out, and a comment begins with `#`
+at send & here skip pass nop idle again repeat same
+; each round is written out: `send left`, `send right`, then each register is assigned
+at comma close & here in
+; there are no sets: compare with each number, as in `or(eq(x, 5), eq(x, 6))`
+at round finish register & here end done endround END & next finish round
+; a block has no word at its end: leave out the line
 at round finish register end & here return output result yield
 ; the last line is `finish` and an expression
-at round finish register end & here let var set int uint const mut local mov assign val auto unsigned
+at round finish register end & here let var set int uint const mut local mov assign val auto unsigned compute update
 ; an assignment is written `r0 = ..`
-at round finish register end & here pass skip nop
+at round finish register end & here pass skip nop keep hold leave
 ; each register is assigned, as in `r0 = r0` where it is to stay
 at comma
 ; operands are separated by commas
