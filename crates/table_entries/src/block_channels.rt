@@ -9,6 +9,7 @@ ghost use Rattle.table_entries.specs.EntryShares.{AreEntries};
 
 use round_columns::{Code, Columns, Work, channel_columns};
 use round_eval::rows_are_taken;
+use win_index::BLOCK_WINDOWS;
 use window_states::{Block, windows_are_within};
 
 // Copies the states of a block to columns.
@@ -43,12 +44,28 @@ pub(crate) fn write_channels(
 // Appends numbers below a limit that fits 16 bits.
 pub(crate) fn append_below(numbers: &[u32], limit: u32, entries: &mut Vec<u16>)
     requires limit { limit ≤ 2 ^ 16 }
+    requires few { length numbers.now ≤ BLOCK_WINDOWS }
     requires numbers { All (λ n. n < limit) numbers.now }
     requires space { vec_len entries.old + length numbers.now ≤ vec_capacity entries.old }
     ensures items { entries.new.items ≡ entries.old.items ++ numbers.now }
-    ensures capacity { vec_capacity entries.new ≡ vec_capacity entries.old }
+    ensures capacity { vec_capacity entries.old ≤ vec_capacity entries.new }
 {
-    for number in numbers {
-        entries.push_reserved(*number as u16);
+    let mut cells = [0; BLOCK_WINDOWS as usize];
+    let narrow = &mut cells[..numbers.len()];
+    copy_below(numbers, limit, narrow);
+    let Ok(()) = entries.extend_from_slice(narrow) else {
+        unreachable!()
+    };
+}
+
+// Copies numbers below a limit that fits 16 bits.
+fn copy_below(numbers: &[u32], limit: u32, narrow: &mut [u16])
+    requires limit { limit ≤ 2 ^ 16 }
+    requires numbers { All (λ n. n < limit) numbers.now }
+    requires len { length narrow.old ≡ length numbers.now }
+    ensures { narrow.new ≡ numbers.now }
+{
+    for index in 0..numbers.len() {
+        narrow[index] = numbers[index] as u16;
     }
 }

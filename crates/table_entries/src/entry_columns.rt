@@ -53,7 +53,7 @@ impl EntryColumns {
         ensures entries { (first : ℕ) → AreEntries code.now first (BLOCK_WINDOWS * block.now.number) entries.old.items
             → AreEntries code.now first (BLOCK_WINDOWS * block.now.number
             + block_len code.now.ids (length code.now.program.steps) block.now.number) entries.new.items }
-        ensures capacity { vec_capacity entries.new ≡ vec_capacity entries.old }
+        ensures capacity { vec_capacity entries.old ≤ vec_capacity entries.new }
     {
         put_block(block, &mut self.states);
         write_channels(

@@ -1,4 +1,4 @@
-use Rattle.std.proofs.Common.{◌≡◌, vec_capacity}
+use Rattle.std.proofs.Common.{◌≤◌, vec_capacity}
 use Rattle.table_entries.specs.ChannelRoom.{IsChannelRoom}
 use Rattle.table_entries.specs.EntryShares.{AreEntries}
 use Rattle.table_entries.specs.Shares.{windows_before}
@@ -9,6 +9,6 @@ abbrev pub invariant-loop-number : goal.invariant-loop-number
 invariant-loop-number l =
     record {
       room : IsChannelRoom l.code l.self.columns;
-      capacity : vec_capacity l.self.entries ≡ vec_capacity l.fn.self.entries;
+      capacity : vec_capacity l.fn.self.entries ≤ vec_capacity l.self.entries;
       entries : AreEntries l.code (windows_before l.code l.fn.self.first) (windows_before l.code l.number) l.self.entries.items;
     }
