@@ -2,8 +2,13 @@
 -- The bytes that a writer holds are known or not, as `Some` or `None`.
 use Rattle.std.specs.Prelude.{◌≡◌, ◌↔◌, ℕ, Bool, List, ◌++◌, take, Option, Result, IsErrOf, IsTrue, OnOk}
 use Rattle.std.specs.Io.KnownBytes.{Appends, Keeps}
+use Rattle.devices.specs.declared.part.Part.{Part}
 use Rattle.devices.specs.declared.fault.OutFault.{OutFault}
 use Rattle.devices.specs.declared.fault.OutFault.TheVariants.{Write, Memory}
+
+-- The bytes of a text in a buffer.
+abbrev pub part_text : Part → List ℕ
+part_text part = take part.len part.buffer.now
 
 -- A prefix of the bytes was appended, perhaps an empty one.
 abbrev pub AppendsFront : Option (List ℕ) → Option (List ℕ) → List ℕ → Type 0

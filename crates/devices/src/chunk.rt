@@ -2,11 +2,12 @@
 
 ghost use Rattle.std.specs.Prelude.{◌≡◌, ◌+◌, ◌≤◌, ◌++◌, ℕ, [], false, length, take, IfOk, OnOk, OnErr};
 ghost use Rattle.std.specs.Io.KnownBytes.{Appends};
-ghost use Rattle.devices.specs.Output.{AppendsFront, IsWrittenSoFar};
+ghost use Rattle.devices.specs.Output.{part_text, AppendsFront, IsWrittenSoFar};
 ghost use Rattle.devices.specs.Watched.{device_of, has_failed, FailsByWrites};
 
 use crate::fault::EngineFault;
 use crate::output::send;
+use crate::part::Part;
 use crate::watched::Watched;
 use std::alloc::{AllocError, Global};
 use std::io::Write;
@@ -62,6 +63,18 @@ impl Chunk {
         self.filled += len;
     }
 
+    /// Appends three texts. There must be space for all bytes of their buffers.
+    #[inline(always)]
+    pub fn push_three(&mut self, first: Part<'_>, second: Part<'_>, third: Part<'_>)
+        requires room { length self.old + (length first.buffer.now + (length second.buffer.now + length third.buffer.now)) ≤ CHUNK_LEN }
+        ensures { self.new ≡ self.old ++ (part_text first.entry ++ (part_text second.entry ++ part_text third.entry)) }
+    {
+        let bytes: &mut [u8] = &mut self.bytes;
+        let second_start = write_part(bytes, self.filled, first);
+        let third_start = write_part(bytes, second_start, second);
+        self.filled = write_part(bytes, third_start, third);
+    }
+
     /// Writes the contents and empties the chunk.
     ///
     /// Fails with `Write` exactly if a write failed or took no byte; a prefix of the contents was
@@ -113,4 +126,17 @@ pub fn write_at(bytes: &mut [u8], start: usize, text: &[u8])
     ensures fronts { (n : ℕ) → n ≤ length text.now → take (start + n) bytes.new ≡ take start bytes.old ++ take n text.now }
 {
     bytes[start..start + text.len()].copy_from_slice(text);
+}
+
+// Copies the buffer of a text over the bytes from index `start` on. Returns the index of the end of
+// the text.
+#[inline(always)]
+fn write_part(bytes: &mut [u8], start: usize, part: Part<'_>) -> usize
+    requires room { start + length part.buffer.now ≤ length bytes.old }
+    ensures end { result ≡ start + part.entry.len }
+    ensures len { length bytes.new ≡ length bytes.old }
+    ensures text { take result bytes.new ≡ take start bytes.old ++ part_text part.entry }
+{
+    write_at(bytes, start, part.buffer);
+    start + part.len
 }

@@ -13,7 +13,6 @@ mod piece;
 mod pieces;
 mod reading;
 mod sections;
-mod storing;
 mod version;
 mod writing;
 

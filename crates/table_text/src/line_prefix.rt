@@ -1,13 +1,17 @@
 //! The text of the identifiers that the windows of a run share.
 ghost use Rattle.std.specs.Prelude.{◌≡◌, ◌<◌, ◌≤◌, [], All, length, take};
-ghost use Rattle.table_text.specs.declared.line_prefix.TheConstants.{PREFIX_LEN};
+ghost use Rattle.table_text.specs.declared.line_prefix.TheConstants.{PREFIX_LEN, SHORT_LEN};
 
 use crate::piece::Piece;
 use devices::chunk::write_at;
+use devices::part::Part;
 use win_index::MAX_WINDOW_LEN;
 
 // The length of a prefix's buffer: 8 bytes for each identifier of a window except the last.
 pub(crate) const PREFIX_LEN: usize = 8 * (MAX_WINDOW_LEN - 1);
+
+// A prefix that is not longer is copied with this many bytes of the buffer. Nearly all are.
+pub(crate) const SHORT_LEN: usize = 16;
 
 // A text of at most `PREFIX_LEN` bytes: the first `len` of a buffer of fixed length, which is
 // stored by one copy.
@@ -25,6 +29,7 @@ impl LinePrefix {
     ghost use Rattle.table_text.specs.TableText.{ids_then};
     ghost use Rattle.table_text.specs.Pieces.{prefix_text, id_text, AreTexts};
     ghost use Rattle.table_text.specs.Prefixes.{HasTexts};
+    ghost use Rattle.devices.specs.Output.{part_text};
 
     // Returns the prefix of no identifiers.
     pub(crate) fn empty() -> LinePrefix
@@ -34,6 +39,29 @@ impl LinePrefix {
             bytes: [0; PREFIX_LEN],
             len: 0,
             ends: [0; MAX_WINDOW_LEN],
+        }
+    }
+
+    // Returns the text and its buffer.
+    pub(crate) fn part(&self) -> Part<'_>
+        ensures text { part_text result ≡ prefix_text self.now }
+        ensures buffer { length result.buffer.now ≡ PREFIX_LEN }
+    {
+        Part {
+            buffer: &self.bytes,
+            len: self.len,
+        }
+    }
+
+    // Returns the text and the start of its buffer, if it is short.
+    pub(crate) fn short_part(&self) -> Part<'_>
+        requires { self.now.len ≤ SHORT_LEN }
+        ensures text { part_text result ≡ prefix_text self.now }
+        ensures buffer { length result.buffer.now ≡ SHORT_LEN }
+    {
+        Part {
+            buffer: &self.bytes[..SHORT_LEN],
+            len: self.len,
         }
     }
 

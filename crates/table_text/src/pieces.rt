@@ -51,7 +51,7 @@ fn text_of(alloc: Global, kind: Kind, number: u32) -> Result<String, AllocError>
 }
 
 // Copies a text of at most 8 bytes into a piece.
-pub(crate) fn piece_of(text: &[u8]) -> Piece
+fn piece_of(text: &[u8]) -> Piece
     requires { length text.now ≤ 8 }
     ensures { piece_text result ≡ text.now }
 {

@@ -8,10 +8,9 @@ ghost use Rattle.table_text.specs.declared.sections.TheConstants.{LINES_LEN};
 ghost use Rattle.table_text.specs.Sections.{lines_from, Shows};
 ghost use Rattle.table_text.specs.Pieces.{prefix_text, piece_text, id_text, channel_text, AreTexts, ArePieces};
 
-use crate::line_prefix::{LinePrefix, PREFIX_LEN};
+use crate::line_prefix::{LinePrefix, PREFIX_LEN, SHORT_LEN};
 use crate::odometer::Odometer;
 use crate::piece::{Piece, Pieces};
-use crate::storing::{store, store_prefix};
 use channel_tables::Table;
 use devices::chunk::Chunk;
 
@@ -134,7 +133,11 @@ fn store_line(chunk: &mut Chunk, prefix: &LinePrefix, last: Piece, end: Piece)
     ensures line { chunk.new ≡ chunk.old ++ (prefix_text prefix.now ++ (piece_text last ++ piece_text end)) }
     ensures filled { length chunk.new ≤ length chunk.old + length (prefix_text prefix.now) + 16 }
 {
-    store_prefix(chunk, prefix);
-    store(chunk, last);
-    store(chunk, end);
+    let last = last.part();
+    let end = end.part();
+    if prefix.len <= SHORT_LEN {
+        chunk.push_three(prefix.short_part(), last, end);
+    } else {
+        chunk.push_three(prefix.part(), last, end);
+    }
 }

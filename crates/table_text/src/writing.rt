@@ -11,9 +11,8 @@ ghost use Rattle.table_text.specs.TableText.{written, head_then, table_text};
 ghost use Rattle.table_text.specs.Pieces.{ArePieces};
 
 use crate::piece::Pieces;
-use crate::pieces::{piece_of, pieces_of};
+use crate::pieces::pieces_of;
 use crate::sections::{LINE_LEN, Lines, SECTION_LEN};
-use crate::storing::store;
 use channel_tables::{Separation, Table};
 use devices::chunk::Chunk;
 use devices::fault::{EngineFault, OutFault};
@@ -94,6 +93,6 @@ fn write_lines<W: Write>(
         lines.store_next(&mut odometer, chunk, section * lines.size);
     }
     chunk.make_room(LINE_LEN, writer)?;
-    store(chunk, piece_of(b"end\n"));
+    chunk.push(b"end\n");
     chunk.send(writer)
 }

@@ -98,7 +98,7 @@ with_end w a b chunk more end told held is =
 
 module _ (g : Over) (c : After-send g) where
   told : IsWrittenSoFar (g.W.Write.contents (device_of c.args.writer.now))
-      (g.W.Write.contents (device_of c.make_room-2.new.writer)) c.store.new.chunk
+      (g.W.Write.contents (device_of c.make_room-2.new.writer)) c.push.new.self
       (lines_then (written Two c.args.table.now c.args.separation) [] ++ end_then [])
   told =
       let t = c.args.table.now in
@@ -113,7 +113,7 @@ module _ (g : Over) (c : After-send g) where
         ap (λ u. length (windows_of u)) c.new-lines.ensures.table,
       )) c.loop-section.invariant.told in
       let moved = tells_moved _ _ _ c.loop-section.chunk _ _ lines c.in_ok-make_room-2.ensures.ok in
-      with_end (written Two t c.args.separation) _ _ _ c.store.new.chunk _ moved c.store.ensures.held c.piece_of.ensures
+      with_end (written Two t c.args.separation) _ _ _ c.push.new.self _ moved c.push.ensures refl
 
 pub returns-clause-ok : goal.returns-clause-ok
 unfolding text_of
@@ -121,14 +121,14 @@ returns-clause-ok g c =
     let w = written Two c.args.table.now c.args.separation in
     on_ok_weaker c.send.result
     (λ sent. tells_all _ _ _ _ _
-    (subst (IsWrittenSoFar _ _ c.store.new.chunk) (lines_append w [] (end_then [])) (told g c)) sent) c.send.ensures.ok
+    (subst (IsWrittenSoFar _ _ c.push.new.self) (lines_append w [] (end_then [])) (told g c)) sent) c.send.ensures.ok
 
 pub returns-clause-err : goal.returns-clause-err
 unfolding text_of
 returns-clause-err g c =
     let w = written Two c.args.table.now c.args.separation in
     on_err_weaker c.send.result
-    (λ failed. tells_front _ _ _ c.store.new.chunk _ _ [] (told g c) failed
+    (λ failed. tells_front _ _ _ c.push.new.self _ _ [] (told g c) failed
     (append-nil (lines_then w [] ++ end_then []) ∙ lines_append w [] (end_then [])))
     c.send.ensures.err
 
