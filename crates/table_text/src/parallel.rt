@@ -1,6 +1,6 @@
 //! Writing the text of a table whose lines are made by threads.
 
-ghost use Rattle.std.specs.Prelude.{◌≡◌, ◌+◌, ◌*◌, ◌^◌, ◌<◌, ◌≤◌, [], false, length, vec_len, IfOk, OnOk, OnErr, flat_map};
+ghost use Rattle.std.specs.Prelude.{◌≡◌, ℕ, ◌+◌, ◌*◌, ◌^◌, ◌<◌, ◌≤◌, List, [], false, length, vec_len, slice_index_or, IfOk, OnOk, OnErr, flat_map};
 ghost use Rattle.std.specs.Io.KnownBytes.{Appends};
 ghost use Rattle.devices.specs.Output.{AppendsFront, WritesText};
 ghost use Rattle.devices.specs.Watched.{device_of, has_failed, FailsByWrites};
@@ -20,7 +20,7 @@ use devices::output::send;
 use devices::watched::Watched;
 use std::alloc::{AllocError, Global};
 use std::io::Write;
-use std::thread::{Threads, for_each_mut};
+use std::thread::{Threads, for_each_chunk_mut};
 
 // The number of sections that are made before they are written.
 const CHUNKS: usize = 32;
@@ -97,7 +97,7 @@ fn write_rest<R: Threads + Sync, W: Write>(
 }
 
 // Stores the lines of a section in each chunk, in order, from the section that begins with this
-// window. At most `threads` threads do so.
+// window. At most `threads` threads do so, each in consecutive chunks.
 fn fill_chunks<R: Threads + Sync>(
     rt: &R,
     threads: u32,
@@ -106,26 +106,29 @@ fn fill_chunks<R: Threads + Sync>(
     chunks: &mut [Chunk],
 )
     requires threads { 0 < threads }
-    requires empty { AreEmpty chunks.old }
-    requires fits { first + length chunks.old * lines.size < 2 ^ 32 }
+    requires empty { (length chunks.old ≡ CHUNKS) × AreEmpty chunks.old }
+    requires fits { first + CHUNKS * lines.size < 2 ^ 32 }
     ensures { AreFilled lines.entry.table.now first lines.entry.size chunks.new }
 {
-    for_each_mut(
-        rt,
-        chunks,
-        threads as usize,
-        &|index, chunk: &mut Chunk| store_section(lines, first, index, chunk),
-    );
+    let each = CHUNKS.div_ceil(threads as usize);
+    let part = move |start: usize, part: &mut [Chunk]|
+        requires { (start + length part.now ≤ CHUNKS) × AreEmpty part.now × (first + CHUNKS * lines.size < 2 ^ 32) }
+        ensures { (k : ℕ) (d : List ℕ) → k < length part.entry.now → slice_index_or part.exit.now k d
+            ≡ lines_from lines.entry.table.now (first + (start + k) * lines.entry.size) lines.entry.size }
+    { store_part(lines, first, start, part) };
+    for_each_chunk_mut(rt, chunks, each, &part);
 }
 
-// Stores the lines of the section with this index, from the section that begins with the window
-// `first`.
-fn store_section(lines: Lines<'_>, first: u32, index: usize, chunk: &mut Chunk)
-    requires empty { chunk.old ≡ [] }
-    requires fits { first + index * lines.size < 2 ^ 32 }
-    ensures { chunk.new ≡ lines_from lines.entry.table.now (first + index * lines.entry.size) lines.entry.size }
+// Stores the lines of a section in each of these chunks, in order. The section at the index `start` is
+// the first of them; that at the index 0 begins with the window `first`.
+fn store_part(lines: Lines<'_>, first: u32, start: usize, part: &mut [Chunk])
+    requires within { start + length part.old ≤ CHUNKS }
+    requires empty { AreEmpty part.old }
+    requires fits { first + CHUNKS * lines.size < 2 ^ 32 }
+    ensures { (k : ℕ) (d : List ℕ) → k < length part.old → slice_index_or part.new k d
+        ≡ lines_from lines.entry.table.now (first + (start + k) * lines.entry.size) lines.entry.size }
 {
-    lines.store(chunk, first + index as u32 * lines.size);
+    lines.store(part, first + start as u32 * lines.size);
 }
 
 // Writes the contents of all chunks, in order, and empties them.

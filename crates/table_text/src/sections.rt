@@ -1,11 +1,11 @@
 //! Sections of the lines of a table: those of consecutive windows, as many as a chunk has space for.
 
-ghost use Rattle.std.specs.Prelude.{◌≡◌, ◌+◌, ◌*◌, ◌<◌, ◌≤◌, ◌++◌, length};
+ghost use Rattle.std.specs.Prelude.{◌≡◌, ◌+◌, ◌*◌, ◌^◌, ◌<◌, ◌≤◌, [], ◌++◌, length};
 ghost use Rattle.devices.specs.declared.chunk.TheConstants.{CHUNK_LEN};
 ghost use Rattle.win_index.specs.declared.limits.TheConstants.{MAX_ROUNDS, MAX_WINDOWS};
 ghost use Rattle.channel_tables.specs.Tables.{windows_of};
 ghost use Rattle.table_text.specs.declared.sections.TheConstants.{LINES_LEN};
-ghost use Rattle.table_text.specs.Sections.{lines_from, Shows};
+ghost use Rattle.table_text.specs.Sections.{lines_from, AreEmpty, AreFilled, Shows};
 ghost use Rattle.table_text.specs.Pieces.{prefix_text, piece_text, id_text, channel_text, AreTexts, ArePieces};
 
 use crate::line_prefix::{LinePrefix, PREFIX_LEN, SHORT_LEN};
@@ -80,15 +80,43 @@ impl Lines<'_> {
         Odometer::at(self.table.shape(), number, &self.pieces.ids)
     }
 
-    /// Appends to a chunk the lines of the section that begins with this window, as far as there are
-    /// windows.
-    pub(crate) fn store(self, chunk: &mut Chunk, first: u32)
-        requires { length chunk.old + SECTION_LEN ≤ CHUNK_LEN }
-        ensures { chunk.new ≡ chunk.old ++ lines_from self.entry.table.now first self.entry.size }
+    /// Stores the lines of a section in each of these empty chunks, in order, from the section that
+    /// begins with this window, as far as there are windows.
+    pub(crate) fn store(self, chunks: &mut [Chunk], first: u32)
+        requires empty { AreEmpty chunks.old }
+        requires fits { first + length chunks.old * self.size < 2 ^ 32 }
+        ensures { AreFilled self.entry.table.now first self.entry.size chunks.new }
     {
         if first < self.count() {
             let mut odometer = self.odometer_at(first);
-            self.store_next(&mut odometer, chunk, first);
+            self.store_sections(&mut odometer, chunks, first);
+        }
+    }
+
+    // Stores the same lines. The odometer shows this window.
+    fn store_sections(self, odometer: &mut Odometer, chunks: &mut [Chunk], first: u32)
+        requires empty { AreEmpty chunks.old }
+        requires fits { first + length chunks.old * self.size < 2 ^ 32 }
+        requires shows { Shows self.table.now first odometer.old }
+        ensures { AreFilled self.entry.table.now first self.entry.size chunks.new }
+    {
+        let mut next = first;
+        for index in 0..chunks.len() {
+            self.store_section(odometer, &mut chunks[index], next);
+            next += self.size;
+        }
+    }
+
+    // Stores in an empty chunk the lines of the section that begins with this window, which the odometer
+    // shows, as far as there are windows. It then shows the first window behind the section.
+    fn store_section(self, odometer: &mut Odometer, chunk: &mut Chunk, first: u32)
+        requires empty { chunk.old ≡ [] }
+        requires shows { Shows self.table.now first odometer.old }
+        ensures lines { chunk.new ≡ lines_from self.entry.table.now first self.entry.size }
+        ensures shows { Shows self.entry.table.now (first + self.entry.size) odometer.new }
+    {
+        if first < self.count() {
+            self.store_next(odometer, chunk, first);
         }
     }
 
