@@ -342,19 +342,19 @@ pub(crate) fn is_turned(place: Place) -> bool {
     is_number(own.word) && own.next == b"rounds".as_slice() && own.second.is_empty()
 }
 
-// Returns the number of bytes at the start that are no part of a word, on the first line and outside of
-// comments.
+// Returns the number of bytes at the start that are no part of a word or of a comment.
 fn marks_len(text: &[u8]) -> usize
     ensures { result ≤ length text.now }
 {
     text.iter()
-        .take_while(|byte| !is_word_byte(**byte) && !matches!(**byte, b'\n' | b'#'))
+        .take_while(|byte| !is_word_byte(**byte) && **byte != b'#')
         .count()
 }
 
-// Returns whether a line of a program stands behind the marks at a place.
+// Returns whether what begins a line of a program stands behind the marks at a place, on its line.
 pub(crate) fn has_line_behind(place: Place) -> bool {
-    let line = &place.rest[marks_len(place.rest)..];
-    let own = place_in(&place.rest[..0], line, place.wanted);
-    is_keyword(own.word) || is_register(own.word) && own.next == b"=".as_slice()
+    let line = &place.rest[..first_line_len(place.rest)];
+    let own = place_in(&place.rest[..0], &line[marks_len(line)..], place.wanted);
+    let is_line = is_keyword(own.word) && !is_one_of("left right", own.word);
+    is_line || is_register(own.word) && own.next == b"=".as_slice()
 }

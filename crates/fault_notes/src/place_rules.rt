@@ -25,7 +25,7 @@ else
 equals
 starts-line & mark =======
 ; a merge left this mark: keep one of the two sides
-starts-line & not at comma close & mark ==
+starts-line & not at rounds comma close & mark ==
 ; a comment begins with `#`
 at expression & last =
 ; an assignment is written with one `=`
