@@ -620,6 +620,7 @@ TABLE_PARTS = [
     ("1 : 1", "1 : 1\nend", "lines of windows follow"),
     ("2 : 2", "  \n2 : 2", "the line is blank"),
     ("nbhd-table 2", "nbhd-table 2 ", "it ends with a blank"),
+    ("2 : 2", "1 : 1\n2 : 2", "not the line of window 2", "the same line stands right before it"),
 ]
 
 # Parts of `ONE_CHANNEL`, their replacements, and the words.

@@ -1,8 +1,10 @@
 -- The notes on a text that is not the text of a table.
-use Rattle.std.specs.Prelude.{◌≡◌, ℕ, ◌++◌, List, ◌∷◌, codes}
+use Rattle.std.specs.Prelude.{◌≡◌, ℕ, ◌-◌, ◌++◌, List, ◌∷◌, codes, bytes_eq, if◌then◌else◌}
 use Rattle.std.specs.Fmt.{decimal}
 use Rattle.source_places.specs.Heads.{place_head}
+use Rattle.source_places.specs.Kinds.{first_line}
 use Rattle.source_places.specs.Lists.{joined}
+use Rattle.source_places.specs.Places.{after_lines}
 use Rattle.source_places.specs.Shown.{marked_line}
 use Rattle.table_notes.specs.TableSizes.{IsDue}
 
@@ -17,14 +19,24 @@ pub record IsFormNote (text : List ℕ) (offset : ℕ) (note : List ℕ) : Type 
       ++ (codes "this line does not have the form that `nbhd table` writes"
       ++ (advice ++ 10 ∷ marked_line text offset))
 
--- a line that should have this window
-abbrev pub line_note : ℕ → List ℕ → List ℕ
-line_note line window = codes "nbhd: line "
-    ++ (decimal line ++ (codes " is not the line of window " ++ (joined (codes " ") window ++ codes ", which comes there by line 2; windows stand in lexicographic order\n")))
+-- the line with this number, without its end; lines are counted from 1
+abbrev pub line_at : List ℕ → ℕ → List ℕ
+line_at text number = first_line (after_lines (number - 1) text)
+
+-- what is said of a line that is the line before it once more
+abbrev pub doubled_text : List ℕ → ℕ → List ℕ
+doubled_text text line = if bytes_eq (line_at text line) (line_at text (line - 1))
+    then codes "; the same line stands right before it" else codes ""
+
+-- a line that should have this window, with an end
+abbrev pub line_note : ℕ → List ℕ → List ℕ → List ℕ
+line_note line window end = codes "nbhd: line "
+    ++ (decimal line ++ (codes " is not the line of window " ++ (joined (codes " ") window
+    ++ (codes ", which comes there by line 2; windows stand in lexicographic order" ++ (end ++ codes "\n")))))
 
 -- a line with another window than it is to have; a line that is to have none has a note of its own
 pub data IsWindowNote (text : List ℕ) (line : ℕ) (note : List ℕ) : Type 0 where
-  of_window : (window : List ℕ) → IsDue text line window → note ≡ line_note line window → IsWindowNote text line note
+  of_window : (window : List ℕ) → IsDue text line window → note ≡ line_note line window (doubled_text text line) → IsWindowNote text line note
   of_none : ((window : List ℕ) → ¬ IsDue text line window) →
       note ≡ codes "nbhd: line " ++ (decimal line ++ codes " is not the line of the window that follows there\n") →
       IsWindowNote text line note

@@ -2,15 +2,16 @@
 
 ghost use Rattle.std.specs.Prelude.{◌≡◌, ◌+◌, ◌*◌, ◌<◌, ◌≤◌, ℕ, List, Some, length, slice_get, IfOk, IfSome, IfNone, string_bytes};
 ghost use Rattle.win_index.specs.Windows.{windows};
+ghost use Rattle.table_notes.specs.TableNotes as notes;
 ghost use Rattle.table_notes.specs.TableSizes.{IsDue};
-ghost use Rattle.table_notes.specs.TableNotes.{long_note, IsFormNote, IsWindowNote, line_note, channel_note};
+ghost use Rattle.table_notes.specs.TableNotes.{long_note, IsFormNote, IsWindowNote, line_note, doubled_text, channel_note};
 
 use crate::headers::header_advice;
 use crate::sizes::shape_of;
 use node_program::OutOfMemory;
 use numerals::field;
 use source_places::{
-    TextKind, after_line, first_line_len, kind_advice, write_joined, write_marked_line,
+    TextKind, after_line, first_line_len, from_line, kind_advice, write_joined, write_marked_line,
     write_place_head,
 };
 use std::alloc::{AllocError, Global};
@@ -387,21 +388,42 @@ pub fn window_note(alloc: Global, text: &[u8], line: u32) -> Result<String, OutO
 {
     let due = due_window(alloc, text, line)?;
     match due {
-        Some(window) => line_note(alloc, line, &window),
+        Some(window) => line_note(alloc, line, &window, doubled_text(text, line)),
         None => Ok(format!(in alloc;
             "nbhd: line {line} is not the line of the window that follows there\n"
         )?),
     }
 }
 
-// Returns the note on the line that should have this window.
-fn line_note(alloc: Global, line: u32, window: &[u32]) -> Result<String, OutOfMemory>
-    ensures { IfOk result (λ note. string_bytes note ≡ line_note line window.now) }
+// Returns the line of a text with this number, without its end.
+fn line_at(text: &[u8], line: u64) -> &[u8]
+    ensures { result.now ≡ notes.line_at text.entry.now line }
+{
+    let rest = from_line(text, line);
+    &rest[..first_line_len(rest)]
+}
+
+// Returns what the note on a line says if it is the line before it once more.
+fn doubled_text(text: &[u8], line: u32) -> &'static str
+    ensures { result.now ≡ doubled_text text.now line }
+{
+    let number = u64::from(line);
+    if line_at(text, number) == line_at(text, number.saturating_sub(1)) {
+        return "; the same line stands right before it";
+    }
+    ""
+}
+
+// Returns the note on the line that should have this window, with an end.
+fn line_note(alloc: Global, line: u32, window: &[u32], end: &str) -> Result<String, OutOfMemory>
+    ensures { IfOk result (λ note. string_bytes note ≡ line_note line window.now end.now) }
 {
     let mut note = String::new(alloc);
     write!(note, "nbhd: line {line} is not the line of window ")?;
     write_joined(&mut note, window, " ")?;
-    note.push_str(", which comes there by line 2; windows stand in lexicographic order\n")?;
+    note.push_str(", which comes there by line 2; windows stand in lexicographic order")?;
+    note.push_str(end)?;
+    note.push_str("\n")?;
     Ok(note)
 }
 

@@ -7,4 +7,5 @@ pub returns-in-Some : goal.returns-in-Some
 returns-in-Some c =
     IfOk-weaker c.line_note.result _ _
     (λ note is. of_window c.in-Some.window.items (let due = rw c.in-Some.is at c.in_ok-due.ensures.window in due)
-    (is ∙ ap (line_note c.args.line) c.deref.ensures.value)) c.line_note.ensures
+    (is ∙ ap (λ items. line_note c.args.line items c.doubled_text.result.now) c.deref.ensures.value
+    ∙ ap (line_note c.args.line c.in-Some.window.items) c.doubled_text.ensures)) c.line_note.ensures
