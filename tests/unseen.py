@@ -620,7 +620,15 @@ TABLE_PARTS = [
     ("1 : 1", "1 : 1\nend", "lines of windows follow"),
     ("2 : 2", "  \n2 : 2", "the line is blank"),
     ("nbhd-table 2", "nbhd-table 2 ", "it ends with a blank"),
+    ("nbhd-table 2", "\nnbhd-table 2", "line is blank: take it out"),
+    ("nbhd-table 2", " \n\nnbhd-table 2", "line is blank: take it out"),
     ("2 : 2", "1 : 1\n2 : 2", "not the line of window 2", "the same line stands right before it"),
+    (TABLE, "x1,x2,x3,c\n0,1,2,0\n", "a table has no commas", "two lines of a head", "`0 1 2 : 0`", "`end`"),
+    (TABLE, "0,1,2,0\n0,1,3,1\n", "a table has no commas", "two lines of a head", "`0 1 2 : 0`", "`end`"),
+    (TABLE, "".join("%6d\t%s\n" % line for line in enumerate(TABLE.splitlines(), 1)), "leave out the numbers of the lines"),
+    (TABLE, "".join("%d: %s\n" % line for line in enumerate(TABLE.splitlines(), 1)), "leave out the numbers of the lines"),
+    (TABLE, "".join("%d:%s\n" % line for line in enumerate(TABLE.splitlines(), 1)), "leave out the numbers of the lines"),
+    *((TABLE, "".join(mark + line for line in TABLE.splitlines(True)), "leave out the marks before the lines") for mark in ["> ", "< ", "+", ">"]),
 ]
 
 # Parts of `ONE_CHANNEL`, their replacements, and the words.

@@ -22,6 +22,9 @@ const WINDOW: &str = "; a line is the identifiers of a window, ` : ` and a chann
 
 const TAB: &str = "; words are parted by single blanks, and this line has a tab";
 
+const NO_COMMAS: &str =
+    "; a table has no commas: two lines of a head, lines as `0 1 2 : 0`, then `end`";
+
 const STOPPED: &str = "; the text stops in this line: lines are missing";
 
 /// Returns the note on a text that is too long. Fails if memory was refused.
@@ -111,16 +114,70 @@ fn other_advice(text: &[u8]) -> &'static str {
     if text.starts_with(b" ") && text[blanks_len(text)..].starts_with(b"nbhd-table") {
         return "; it begins with a blank";
     }
-    if text[..first_line_len(text)].contains(&b'\t') {
+    if let Some(advice) = advice_before(text) {
+        return advice;
+    }
+    line_one_advice(&text[..first_line_len(text)])
+}
+
+// Returns advice on the first line of a text, which does not have its form.
+fn line_one_advice(line: &[u8]) -> &'static str {
+    if line.contains(&b'\t') {
         return TAB;
     }
-    if text[..first_line_len(text)].contains(&b'\\') {
+    if line.contains(&b'\\') {
         return "; `\\n` stands for a line feed only in other texts: begin a new line";
     }
-    if text.starts_with(b"nbhd-table ") {
-        return version_advice(&text[..first_line_len(text)]);
+    if line.starts_with(b"nbhd-table ") {
+        return version_advice(line);
+    }
+    if line.contains(&b',') {
+        return NO_COMMAS;
     }
     "; its first line is `nbhd-table` and the version"
+}
+
+// Returns advice on what stands before a table or before each of its lines.
+fn advice_before(text: &[u8]) -> Option<&'static str> {
+    if is_blank(&text[..first_line_len(text)]) && is_table_behind(text, b" \t\n") {
+        return Some("; its first line is blank: take it out");
+    }
+    if has_lines_behind(text, b"0123456789", b"0123456789 \t:.)|") {
+        return Some("; leave out the numbers of the lines");
+    }
+    if has_lines_behind(text, b"<>+-*#|", b"<>+-*#| \t") {
+        return Some("; leave out the marks before the lines");
+    }
+    None
+}
+
+// Returns whether the two lines of a table's head stand in a text behind such bytes, with one of these
+// marks before each.
+fn has_lines_behind(text: &[u8], marks: &[u8], bytes: &[u8]) -> bool {
+    let next = after_line(text);
+    is_table_behind(text, bytes)
+        && next[len_of(next, bytes)..].starts_with(b"rounds ")
+        && has_mark_before(text, marks, bytes)
+        && has_mark_before(next, marks, bytes)
+}
+
+// Returns whether one of these marks is among such bytes at the start.
+fn has_mark_before(text: &[u8], marks: &[u8], bytes: &[u8]) -> bool {
+    text[..len_of(text, bytes)]
+        .iter()
+        .any(|byte| marks.contains(byte))
+}
+
+// Returns whether a text is a table behind such bytes.
+fn is_table_behind(text: &[u8], bytes: &[u8]) -> bool {
+    text[len_of(text, bytes)..].starts_with(b"nbhd-table ")
+}
+
+// Returns the number of such bytes at the start.
+fn len_of(text: &[u8], bytes: &[u8]) -> usize
+    ensures { result ≤ length text.now }
+{
+    text.iter().take_while(|byte| bytes.contains(*byte)).count()
 }
 
 // Returns the number of blanks at the start.
