@@ -730,6 +730,8 @@ HELP = "nbhd: `nbhd --help` tells of the program, and `nbhd run --help` of a com
 FIRST = "nbhd: the name of a command comes first, as in `nbhd check --ids 8`\n"
 RING_OF = "nbhd: `--ring` is an option of `run`, `trace`, `explain`, `plan` and `apply`\n"
 IN_TABLE = "nbhd: the numbers of a table are in its text\n"
+SHELL = "nbhd: `|`, `;` and `&` are read by the shell, outside of quotes\n"
+REDIRECTED = "nbhd: `<` and `>` are read by the shell, outside of quotes\n"
 
 # Words and the end of the standard error, which names what was probably meant.
 ADVICE = [
@@ -780,10 +782,18 @@ ADVICE = [
     ("check 8", "nbhd: each number is the value of an option, as in `--ids 8`\n"),
     ("audit migrate", "nbhd: one command is given at a time\n"),
     *((f"judge {word}", ONE_MINUS) for word in ["ids 8", "ids=8", "--ids 8 near 2", "-- ids 8"]),
-    (["judge", "--ids", "8", "<", "mine"], "nbhd: `<` and `>` are read by the shell, outside of quotes\n"),
+    (["judge", "--ids", "8", "<", "mine"], REDIRECTED),
     ("run --ids 8 -r 5,1,3,7", "nbhd: a ring is given by `--ring`, of `run`, `trace`, `explain`, `plan` and `apply`\n"),
     ("audit --table old.table", TABLE_NAME),
     ("migrate --version 2", "nbhd: `nbhd migrate` prints a table in the newest version\n"),
+    # What the shell reads, and what stands for a part of the usage.
+    *((["judge", "--ids", "8", word, "less"], SHELL) for word in ["|", "||", ";", "&", "&&"]),
+    *((["judge", "--ids", "8", word, "out.txt"], REDIRECTED) for word in [">", ">>", "<", "2>", "2>&1", "&>"]),
+    *((["judge", "--ids", "8", word, "mine.txt"], NO_TIP) for word in ["#", "..."]),
+    (["judge", "--ids", "8", "\\"], NO_TIP),
+    (["judge", "--ids", "|"], NO_IDS),
+    ("table --ids 8 [--workers 4]", "an option may be left out; they are not written\n"),
+    ("audit --hepl", NO_TIP),
     # A word that is like a name, and of which nothing else is known, has what `clap` says of it alone.
     ("chek --ids 8", NO_TIP),
     ("table --ids 8 --worker 1", NO_TIP),

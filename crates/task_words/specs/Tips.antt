@@ -227,10 +227,18 @@ tip_on reads before last word =
     else if is_near_and_far last word then Some tip.NearAndFar
     else tip_on_value (without_number last word) word
 
--- the tip on the first word that has one; `before` and `last` are the two words before these words
+-- whether a word is a sign that the shell reads, or that stands for what was left out, and not the value of an option
+abbrev pub is_for_shell : List ℕ → List ℕ → Bool
+is_for_shell last word = not (begins_with_minus last)
+    && is_one_of (codes "< > >> << | || |& ; & && 2> 2>> 2>&1 1> 1>> 1>&2 &> &>> # ...") word
+
+-- the tip on the first word that has one, of those before the first that is for the shell; `before` and `last` are the
+-- two words before these words
 abbrev pub tip_after : Input → List ℕ → List ℕ → List (List ℕ) → Option Tip
 tip_after reads before last [] = None
-tip_after reads before last (word ∷ words) = option_or (tip_on reads before last word) (tip_after reads last word words)
+tip_after reads before last (word ∷ words) =
+    if is_for_shell last word then None
+    else option_or (tip_on reads before last word) (tip_after reads last word words)
 
 -- what the command with this name reads
 abbrev pub input_of_command : List ℕ → Input

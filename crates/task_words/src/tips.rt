@@ -122,7 +122,8 @@ impl Tip {
     }
 }
 
-/// Returns the tip on the first of the words after the program's name that has one.
+/// Returns the tip on the first of the words after the program's name that has one, of those before the
+/// first that is for the shell.
 pub fn usage_tip(words: &[String]) -> Option<Tip>
     ensures { result ≡ tips.usage_tip (map string_bytes words.now) }
 {
@@ -131,6 +132,9 @@ pub fn usage_tip(words: &[String]) -> Option<Tip>
     let mut last = "";
     for word in words {
         let word = word.as_str();
+        if is_for_shell(last, word) {
+            return None;
+        }
         if let Some(tip) = tip_on(input, before, last, word) {
             return Some(tip);
         }
@@ -138,6 +142,18 @@ pub fn usage_tip(words: &[String]) -> Option<Tip>
         last = word;
     }
     None
+}
+
+// Returns whether a word is a sign that the shell reads, or that stands for what was left out, and not the
+// value of an option.
+fn is_for_shell(last: &str, word: &str) -> bool
+    ensures { result ≡ tips.is_for_shell last.now word.now }
+{
+    !begins_with_minus(last)
+        && is_one_of(
+            "< > >> << | || |& ; & && 2> 2>> 2>&1 1> 1>> 1>&2 &> &>> # ...",
+            word.as_bytes(),
+        )
 }
 
 // Returns what the command of these words reads. Without a command it is taken to be a program.

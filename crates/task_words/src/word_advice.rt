@@ -11,6 +11,8 @@ const TWO_WORDS: &str =
 const PRINTS: &str =
     "nbhd: `nbhd print` has no options; `nbhd check` tells whether a program is accepted for M identifiers";
 
+const REDIRECTED: &str = "nbhd: `<` and `>` are read by the shell, outside of quotes";
+
 const TWO_MINUSES: &str =
     "nbhd: the name of an option has two minus signs before it, as in `--ids 8`";
 
@@ -148,6 +150,9 @@ fn argument_advice(command: &[u8], word: &str) -> Option<&'static str> {
     if matches!(name, [b'-', _, ..]) {
         return option_advice(command, name);
     }
+    if is_one_of("# \\ ...", name) {
+        return None;
+    }
     Some(stray_advice(command, name))
 }
 
@@ -191,7 +196,11 @@ fn stray_advice(command: &[u8], word: &[u8]) -> &'static str {
     }
     match word {
         [b'0'..=b'9', ..] | [] => number_advice(command, word),
-        [b'<' | b'>', ..] => "nbhd: `<` and `>` are read by the shell, outside of quotes",
+        [b'<' | b'>', ..] | [b'&', b'>', ..] => REDIRECTED,
+        [b'|' | b';' | b'&', ..] =>
+            "nbhd: `|`, `;` and `&` are read by the shell, outside of quotes",
+        [b'['] | [b'[', b'-' | b'O', ..] =>
+            "nbhd: brackets in the usage mean that an option may be left out; they are not written",
         [b'L', b'(', ..] => LABELLING,
         [b'/', rest @ ..] if is_bare_option(part_before(rest, b':')) => TWO_MINUSES,
         _ => text_advice(command, word),
@@ -200,6 +209,9 @@ fn stray_advice(command: &[u8], word: &[u8]) -> &'static str {
 
 // Returns advice on a word that is empty or begins with a digit.
 fn number_advice(command: &[u8], word: &[u8]) -> &'static str {
+    if matches!(word, [_, b'>', ..]) {
+        return REDIRECTED;
+    }
     if is_one_of("run trace explain plan apply", command) && word.contains(&b',') {
         return "nbhd: a ring is given by `--ring`, as in `--ring 5,1,3,7`";
     }
