@@ -814,6 +814,7 @@ LINES = [
     ("trace --ids 8 --ring 5,1,3,7 --id 7", "the nodes by `--ring`"),
     ("run --ids 8 --ring 5,1,3,7 --size 4", "the nodes by `--ring`"),
     ("audit -n 8", "the numbers of a table are in its text"),
+    ("-v", "the first line of `nbhd --help` has the version"),
     ("table --ids 8 [--workers 4]", "brackets in the usage", "an option may be left out", "they are not written"),
     ("table [OPTIONS] --ids 8", "brackets in the usage", "they are not written"),
     *(
@@ -821,6 +822,8 @@ LINES = [
         for word in ["|", "||", ";", "&", "&&", "2>&1", "2>", ">", ">>", "<"]
     ),
     ("run --ids 8 --ring 5,1,3,7 '2>&1'", "read by the shell, outside of quotes"),
+    ("--judge --ids 8", "the name of a command has no minus signs", "`nbhd judge --ids 8`"),
+    ("-check --ids 8", "the name of a command has no minus signs", "`nbhd judge --ids 8`"),
 ]
 
 # A refutation of a table with three identifiers and two channels.

@@ -793,6 +793,10 @@ ADVICE = [
     (["judge", "--ids", "8", "\\"], NO_TIP),
     (["judge", "--ids", "|"], NO_IDS),
     ("table --ids 8 [--workers 4]", "an option may be left out; they are not written\n"),
+    # The version, and names of commands behind minus signs.
+    *((line, VERSION) for line in ["-v", "-version"]),
+    ("-v judge --ids 8", FIRST),
+    *((f"{word} --ids 8", "nbhd: the name of a command has no minus signs, as in `nbhd judge --ids 8`\n") for word in ["--judge", "-check", "--check=8"]),
     ("audit --hepl", NO_TIP),
     # A word that is like a name, and of which nothing else is known, has what `clap` says of it alone.
     ("chek --ids 8", NO_TIP),

@@ -38,6 +38,8 @@ pub(crate) enum Foreign {
 
 pub(crate) const NO_OPTION: &str = "nbhd: the numbers of a table are in its text";
 
+pub(crate) const VERSION: &str = "nbhd: the first line of `nbhd --help` has the version";
+
 const NODE: &str =
     "nbhd: the node that `nbhd explain` explains is given by its place in the ring, as in `--place 0`";
 
@@ -109,7 +111,7 @@ impl Foreign {
         match self {
             Foreign::Help =>
                 "nbhd: `nbhd --help` tells of the program, and `nbhd run --help` of a command",
-            Foreign::Version => "nbhd: the first line of `nbhd --help` has the version",
+            Foreign::Version => VERSION,
             Foreign::Run =>
                 "nbhd: `nbhd run` runs a program on a ring, and `nbhd trace` prints each round",
             Foreign::Verify =>

@@ -1,6 +1,8 @@
 //! Texts on refused words as they are printed.
 
+use crate::foreign_names::VERSION;
 use crate::word_advice::advice_on;
+use source_places::is_one_of;
 use std::alloc::{AllocError, Global};
 use std::fmt::Write;
 
@@ -12,6 +14,14 @@ fn command_of(words: &[String]) -> &str {
     }
 }
 
+// Returns whether the one word asks for the version.
+fn is_version_alone(words: &[String]) -> bool {
+    match words {
+        [word] => is_one_of("-v -version", word.as_bytes()),
+        _ => false,
+    }
+}
+
 /// Returns advice on words that `clap` refuses with this text, or `None` if there is none. Fails if
 /// memory was refused.
 pub(crate) fn usage_advice(
@@ -19,6 +29,9 @@ pub(crate) fn usage_advice(
     text: &str,
     words: &[String],
 ) -> Result<Option<&'static str>, AllocError> {
+    if is_version_alone(words) {
+        return Ok(Some(VERSION));
+    }
     let lower = text.to_ascii_lowercase(alloc)?;
     Ok(advice_on(text, lower.as_str(), command_of(words)))
 }

@@ -1,6 +1,6 @@
 //! Advice on a word that `clap` refuses, which its text names. It promises nothing.
 
-use crate::foreign_names::{COMMANDS, Foreign, LABELLING, NO_OPTION, OPTIONS, file_line};
+use crate::foreign_names::{COMMANDS, Foreign, LABELLING, NO_OPTION, OPTIONS, VERSION, file_line};
 use source_places::is_one_of;
 
 const NO_COMMAND: &str = "nbhd: the name of a command comes first, as in `nbhd check --ids 8`";
@@ -95,6 +95,23 @@ fn is_command_in_capitals(word: &str, lower: &str) -> bool {
     !is_command(word.as_bytes()) && is_command(lower.as_bytes())
 }
 
+// Returns a word without the minus signs before it.
+fn after_minuses(word: &[u8]) -> &[u8] {
+    match word {
+        [b'-', b'-', rest @ ..] => rest,
+        [b'-', rest @ ..] => rest,
+        _ => word,
+    }
+}
+
+// Returns advice on a first word that begins with a minus sign, or is empty.
+fn first_advice(command: &[u8]) -> &'static str {
+    if is_command(after_minuses(part_before(command, b'='))) {
+        return "nbhd: the name of a command has no minus signs, as in `nbhd judge --ids 8`";
+    }
+    NO_COMMAND
+}
+
 // Returns whether a word can be no name: it begins with a digit or a minus sign, or is empty.
 fn is_no_name(word: &[u8]) -> bool {
     matches!(word, [b'0'..=b'9' | b'-', ..] | [])
@@ -123,7 +140,7 @@ fn version_line(command: &[u8], name: &[u8]) -> &'static str {
     if is_one_of("migrate", command) && is_one_of("--version", name) {
         return "nbhd: `nbhd migrate` prints a table in the newest version";
     }
-    "nbhd: the first line of `nbhd --help` has the version"
+    VERSION
 }
 
 // Returns advice on a word that is no option of a command.
@@ -139,7 +156,7 @@ fn argument_advice(command: &[u8], word: &str) -> Option<&'static str> {
         return Some(version_line(command, name));
     }
     if matches!(command, [b'-', ..] | []) {
-        return Some(NO_COMMAND);
+        return Some(first_advice(command));
     }
     if is_one_of("audit apply migrate", command) && is_in_table(name) {
         return Some(NO_OPTION);
