@@ -824,6 +824,14 @@ LINES = [
     ("run --ids 8 --ring 5,1,3,7 '2>&1'", "read by the shell, outside of quotes"),
     ("--judge --ids 8", "the name of a command has no minus signs", "`nbhd judge --ids 8`"),
     ("-check --ids 8", "the name of a command has no minus signs", "`nbhd judge --ids 8`"),
+    ("migrate --to 1", "`nbhd migrate` has no options", "it writes the newest version only"),
+    ("audit --workers 4", "`nbhd audit` has no options"),
+    ("audit --strict", "`nbhd audit` has no options"),
+    ("audit -j 4", "`nbhd audit` has no options"),
+    ("judge --ids:8 --near:2", "a blank or `=` separates an option from its value", "`--ids 8`"),
+    ("run --ids 8 --ring 5,1,3,7 --workers 4", "an option of `table`, `judge` and `plan`", "`--segments 4`"),
+    ("table --ids 8 --segments 2", "an option of `run`", "`--workers 4`"),
+    ("plan --ids 8 --ring 5,1,3,7 --segments 2", "an option of `run`", "`--workers 4`"),
 ]
 
 # A refutation of a table with three identifiers and two channels.

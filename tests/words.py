@@ -732,6 +732,10 @@ RING_OF = "nbhd: `--ring` is an option of `run`, `trace`, `explain`, `plan` and 
 IN_TABLE = "nbhd: the numbers of a table are in its text\n"
 SHELL = "nbhd: `|`, `;` and `&` are read by the shell, outside of quotes\n"
 REDIRECTED = "nbhd: `<` and `>` are read by the shell, outside of quotes\n"
+AUDIT_THREADS = (
+    "nbhd: `nbhd audit` has no options, and at most as many threads as there are processors"
+    "; `--workers` is an option of `table`, `judge` and `plan`\n"
+)
 
 # Words and the end of the standard error, which names what was probably meant.
 ADVICE = [
@@ -797,7 +801,16 @@ ADVICE = [
     *((line, VERSION) for line in ["-v", "-version"]),
     ("-v judge --ids 8", FIRST),
     *((f"{word} --ids 8", "nbhd: the name of a command has no minus signs, as in `nbhd judge --ids 8`\n") for word in ["--judge", "-check", "--check=8"]),
+    # Commands without options, and values behind a colon.
+    ("migrate --to 1", "nbhd: `nbhd migrate` has no options; it writes the newest version only\n"),
+    ("audit --strict", "nbhd: `nbhd audit` has no options\n"),
+    *((f"audit {word} 4", AUDIT_THREADS) for word in ["--workers", "-j"]),
     ("audit --hepl", NO_TIP),
+    *((f"{line}:8", "nbhd: a blank or `=` separates an option from its value, as in `--ids 8`, and no colon\n") for line in ["judge --ids", "print --near"]),
+    # The options for threads at a command that has another one.
+    (f"{RUN} --workers 4", "; a run has a thread for each segment, as in `--segments 4`\n"),
+    *((f"{line} --segments 2", "; the number of threads is given by `--workers`, as in `--workers 4`\n") for line in ["table --ids 8", "judge --ids 8"]),
+    ("check --ids 8 --segments 2", "nbhd: `--segments` is an option of `run`\n"),
     # A word that is like a name, and of which nothing else is known, has what `clap` says of it alone.
     ("chek --ids 8", NO_TIP),
     ("table --ids 8 --worker 1", NO_TIP),

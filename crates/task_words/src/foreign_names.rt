@@ -40,6 +40,9 @@ pub(crate) const NO_OPTION: &str = "nbhd: the numbers of a table are in its text
 
 pub(crate) const VERSION: &str = "nbhd: the first line of `nbhd --help` has the version";
 
+pub(crate) const AUDIT_THREADS: &str =
+    "nbhd: `nbhd audit` has no options, and at most as many threads as there are processors; `--workers` is an option of `table`, `judge` and `plan`";
+
 const NODE: &str =
     "nbhd: the node that `nbhd explain` explains is given by its place in the ring, as in `--place 0`";
 
@@ -194,6 +197,9 @@ fn threads_line(command: &[u8]) -> &'static str {
     }
     if is_one_of("run", command) {
         return "nbhd: a run has a thread for each segment, as in `--segments 4`";
+    }
+    if is_one_of("audit", command) {
+        return AUDIT_THREADS;
     }
     "nbhd: this command has one thread"
 }

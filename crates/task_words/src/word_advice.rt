@@ -1,6 +1,8 @@
 //! Advice on a word that `clap` refuses, which its text names. It promises nothing.
 
-use crate::foreign_names::{COMMANDS, Foreign, LABELLING, NO_OPTION, OPTIONS, VERSION, file_line};
+use crate::foreign_names::{
+    AUDIT_THREADS, COMMANDS, Foreign, LABELLING, NO_OPTION, OPTIONS, VERSION, file_line,
+};
 use source_places::is_one_of;
 
 const NO_COMMAND: &str = "nbhd: the name of a command comes first, as in `nbhd check --ids 8`";
@@ -173,12 +175,57 @@ fn argument_advice(command: &[u8], word: &str) -> Option<&'static str> {
     Some(stray_advice(command, name))
 }
 
+// Returns whether this is the name of an option, a colon and a value.
+fn has_colon(name: &[u8]) -> bool {
+    name.contains(&b':') && is_option(part_before(name, b':'))
+}
+
 // Returns advice on the name of an option that the command does not have.
 fn option_advice(command: &[u8], name: &[u8]) -> Option<&'static str> {
+    if has_colon(name) {
+        return Some(
+            "nbhd: a blank or `=` separates an option from its value, as in `--ids 8`, and no colon",
+        );
+    }
+    if let Some(advice) = threads_advice(command, name) {
+        return Some(advice);
+    }
     match foreign_in(&OPTIONS, name) {
         Some(foreign) => Some(foreign.line(command)),
         None => advice_in(&OF_COMMANDS, name),
     }
+}
+
+// Returns advice on the option for threads of other commands, at a command that has another one or none.
+fn threads_advice(command: &[u8], name: &[u8]) -> Option<&'static str> {
+    if is_one_of("--workers", name) && is_one_of("run", command) {
+        return Some(
+            "nbhd: `--workers` is an option of `table`, `judge` and `plan`; a run has a thread for each segment, as in `--segments 4`",
+        );
+    }
+    if is_one_of("--workers", name) && is_one_of("audit", command) {
+        return Some(AUDIT_THREADS);
+    }
+    if is_one_of("--segments", name) && is_one_of("table judge plan", command) {
+        return Some(
+            "nbhd: `--segments` is an option of `run`; the number of threads is given by `--workers`, as in `--workers 4`",
+        );
+    }
+    None
+}
+
+// Returns the line on a command without options, at which `clap` finds no option that is alike.
+fn no_options_line(text: &str, command: &[u8], word: &str) -> Option<&'static str> {
+    if text.split_once("  tip: ").is_some() || !matches!(word.as_bytes(), [b'-', _, ..]) {
+        return None;
+    }
+    if is_one_of("migrate", command) {
+        return Some("nbhd: `nbhd migrate` has no options; it writes the newest version only");
+    }
+    if is_one_of("audit", command) {
+        return Some("nbhd: `nbhd audit` has no options");
+    }
+    None
 }
 
 // Returns whether this is the name of an option of some command.
@@ -250,8 +297,9 @@ pub(crate) fn advice_on(text: &str, lower: &str, command: &str) -> Option<&'stat
     if let Some(word) = quoted_after(text, beginning) {
         return command_advice(word, quoted_after(lower, beginning).unwrap_or(""));
     }
-    argument_advice(
-        command.as_bytes(),
-        quoted_after(text, "error: unexpected argument '")?,
-    )
+    let word = quoted_after(text, "error: unexpected argument '")?;
+    match argument_advice(command.as_bytes(), word) {
+        Some(advice) => Some(advice),
+        None => no_options_line(text, command.as_bytes(), word),
+    }
 }
