@@ -32,7 +32,7 @@ line_cause line_fault.NumberNotAscending = codes "the number of this step is not
 line_cause line_fault.UnknownVariable = codes "this clause has a variable that the formula lacks; the numbers may be those of another formula"
 line_cause line_fault.Exchange =
     codes "tables need not stay right by this exchange: identifiers are below `--ids` and channels below `--channels`, and two channels are exchanged only if near and far are at most 1"
-line_cause line_fault.UnknownHint = codes "a hint names no clause: there is none of its number yet, or it was deleted"
+line_cause line_fault.UnknownHint = codes "a hint names no clause: there is none of its number yet, or it was deleted; the options may be those of another formula"
 line_cause line_fault.HintNotUnit = codes "the clause of a hint has several literals left, or none before the last hint; the options may be those of another formula"
 line_cause line_fault.NoConflict = codes "after the last hint no clause has all its literals false; the options may be those of another formula"
 line_cause line_fault.NoEmptyClause = codes "the text ends here, before the empty clause"

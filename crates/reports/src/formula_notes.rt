@@ -92,7 +92,7 @@ fn line_cause(fault: LineFault) -> &'static str
             "tables need not stay right by this exchange: identifiers are below `--ids` and channels below `--channels`, and two channels are exchanged only if near and far are at most 1"
         }
         LineFault::UnknownHint => {
-            "a hint names no clause: there is none of its number yet, or it was deleted"
+            "a hint names no clause: there is none of its number yet, or it was deleted; the options may be those of another formula"
         }
         LineFault::HintNotUnit => {
             "the clause of a hint has several literals left, or none before the last hint; the options may be those of another formula"
