@@ -38,6 +38,7 @@ TEXTS = [
     ("proof", b"-1 0\n0\n", PROOF),
     ("proof", b"d -1 2 0\n-3 0\n0\n", PROOF),
     ("proof", b"1 -2 3 0\n0\n", PROOF),
+    ("proof", b"1 -2 3 0\n4 5 0\n-3 0\n0\n", PROOF),
     ("answer", b"s SATISFIABLE\nv 1 -2 0\n", ANSWER),
     ("answer", b"c CaDiCaL\nc\ns UNSATISFIABLE\n", ANSWER),
     ("answer", b"s UNSATISFIABLE\n", ANSWER),

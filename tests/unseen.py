@@ -885,6 +885,10 @@ TEXTS = [
     ("refute --ids 3 --rounds 0 --channels 2", b"16 -1 0 4 6 2 3 11 0\n17d 16 0\n", "a blank follows"),
     ("refute --ids 3 --rounds 0 --channels 2", b"16 -1 0 4 6 2 3 11 0\n17 d\n", "behind `d`"),
     ("refute --ids 3 --rounds 0 --channels 2", b"16. -1 0 4 6 2 3 11 0\n", "a blank follows"),
+    *(
+        ("refute --ids 3 --rounds 0 --channels 2", PROOF.replace(*step).encode(), "the hints of this step are missing", "on the next line, join the two")
+        for step in [("-1 0 4", "-1 0\n4"), ("-6 0 17", "-6 0\n17")]
+    ),
     ("check --ids 8", b"# one round " + CV1.replace(b"\n", b" "), "a comment goes up to"),
     ("apply --ring 5,1,3,7", CV1, "run"),
     ("migrate", CV1, "`nbhd table`"),

@@ -115,6 +115,29 @@ fn is_step_like_proof(rest: &[u8]) -> bool {
     line_kind(line) == Some(TextKind::Proof) && line_kind(next_line) == Some(TextKind::Refutation)
 }
 
+// Returns whether a line is of positive numbers, and then one 0.
+fn is_of_hints(line: &[u8]) -> bool {
+    let has_bytes = line.iter().all(|byte| matches!(*byte, b'0'..=b'9' | b' '));
+    has_bytes && matches!(line, [b'1'..=b'9', .., b' ', b'0']) && count_of_lists(line) == 1
+}
+
+// Returns whether the first line of a text looks like the start of a step, and the next one like its
+// hints: a clause that begins with a positive number, then positive numbers. A proof in DRAT ends with
+// a line `0`.
+fn is_broken_step(rest: &[u8]) -> bool {
+    let line = &rest[..first_line_len(rest)];
+    let next = after_line(rest);
+    let is_start = matches!(line, [b'1'..=b'9', ..]) && line_kind(line) == Some(TextKind::Proof);
+    let is_proof = rest.ends_with(b"\n0\n") || rest.ends_with(b"\n0");
+    is_start && is_of_hints(&next[..first_line_len(next)]) && !is_proof
+}
+
+// Returns whether the first line of a text is no part of a refutation, if it looks like one of a proof
+// in DRAT.
+fn is_line_of_proof(rest: &[u8]) -> bool {
+    !is_step_like_proof(rest) && !is_broken_step(rest)
+}
+
 // Returns advice on the first line of a text, which is no step, no deletion and no comment.
 fn form_advice(rest: &[u8]) -> &'static str {
     let line = &rest[..first_line_len(rest)];
@@ -122,8 +145,11 @@ fn form_advice(rest: &[u8]) -> &'static str {
         return "; lines end with a carriage return, which `tr -d '\\r'` takes out";
     }
     let is_of_proof = line == b"0".as_slice() || line_kind(line) == Some(TextKind::Proof);
-    if is_of_proof && !is_step_like_proof(rest) {
+    if is_of_proof && is_line_of_proof(rest) {
         return "; `tools/lrat` adds the hints that a proof in DRAT lacks";
+    }
+    if is_broken_step(rest) {
+        return "; the hints of this step are missing: if they stand on the next line, join the two";
     }
     if line.contains(&b'\t') {
         return "; words are parted by single blanks, and this line has a tab";
@@ -232,7 +258,7 @@ pub(crate) fn line_advice(text: &[u8], rest: &[u8], fault: LineFault) -> &'stati
 {
     match fault {
         LineFault::Form => match kind_advice(text, TextKind::Refutation) {
-            Some(advice) if !is_step_like_proof(rest) => advice,
+            Some(advice) if is_line_of_proof(rest) => advice,
             _ => form_advice(rest),
         },
         LineFault::NoEmptyClause if text.is_empty() =>
