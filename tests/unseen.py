@@ -699,6 +699,9 @@ REFUTATIONS = [
     ("a \x03\x00\x08\x0c\x04\x00", "binary", "`cadical --no-binary`"),
     ("pseudo-Boolean proof version 2.0\nf 15\nrup >= 1;\n", "LRAT"),
     ("o 1 1 2 0\na 16 -1 0 l 4 6 2 3 11 0\nf 16 0\n", "LRAT"),
+    ("o 1 1 2 0\na 16 -1 0 l 4 6 2 3 11 0\nf 16 0\n", "looks like a proof in FRAT", "write LRAT", "DRAT for `tools/lrat`"),
+    ("a 16 -1 0 l 4 6 2 3 11 0\n", "looks like a proof in FRAT"),
+    ("f 16 -1 0\n", "looks like a proof in FRAT"),
     ("5 -1 0 7 0\n", "a hint names no clause", "the options may be those of another formula"),
 ]
 

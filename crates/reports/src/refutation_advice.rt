@@ -8,6 +8,9 @@ use source_places::{TextKind, after_line, first_line_len, kind_advice, line_kind
 
 const BINARY: &str = "; this may be a proof in binary: `cadical --no-binary` writes text";
 
+const FRAT: &str =
+    "; this looks like a proof in FRAT: let the solver write LRAT, or DRAT for `tools/lrat`";
+
 // Returns whether a line has a blank too many.
 fn has_wrong_blanks(line: &[u8]) -> bool {
     let is_doubled = (1..line.len()).any(|index| line[index - 1] == b' ' && line[index] == b' ');
@@ -18,6 +21,16 @@ fn has_wrong_blanks(line: &[u8]) -> bool {
 fn is_of_literals(text: &[u8]) -> bool {
     text.iter()
         .all(|byte| matches!(*byte, b'0'..=b'9' | b' ' | b'-'))
+}
+
+// Returns whether a line is one of FRAT: a letter, a number, and lists that end with 0.
+fn is_of_frat(line: &[u8]) -> bool {
+    let has_bytes = line.iter().all(|byte| matches!(
+        *byte,
+        b'0'..=b'9' | b' ' | b'-' | b'a' | b'f' | b'l' | b'o' | b'r'
+    ));
+    let has_letter = matches!(line, [b'a' | b'f' | b'o' | b'r', b' ', b'1'..=b'9', ..]);
+    has_bytes && has_letter && line.ends_with(b" 0")
 }
 
 // Returns the number of bytes before the first blank.
@@ -156,6 +169,9 @@ fn form_advice(rest: &[u8]) -> &'static str {
     }
     if has_wrong_blanks(line) {
         return "; words are parted by single blanks, and a line ends without one";
+    }
+    if is_of_frat(line) {
+        return FRAT;
     }
     match line {
         [b'#' | b'%' | b'/' | b';', ..] => "; a comment begins with `c`",
