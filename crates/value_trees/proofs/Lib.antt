@@ -2,4 +2,4 @@
 mod Roots
 mod Shown
 mod TraceLines
-pub mod PartLines
+mod PartLines

@@ -48,12 +48,17 @@ line_count env (Choose c x y) =
     2 + (line_count env c + (if value c env == 0 then line_count env y else line_count env x))
 line_count env _ = 1
 
--- the line of a part: a blank and one more for each step of its depth, its word, its value, and whether it is not taken
+-- what stands before the value of a part: a blank and one more for each step of its depth, its word, and a blank
+abbrev pub beginning : Part → List ℕ
+beginning p = codes " " ++ (replicate p.depth 32 ++ (own_word p.term ++ codes " "))
+
+-- what ends the line of a part, by whether it counts
+abbrev pub ending : Bool → List ℕ
+ending counts = if counts then codes "\n" else codes " (not taken)\n"
+
+-- the line of a part in an environment
 abbrev pub told_part : Form → Env → Part → List ℕ
-told_part form env p =
-    replicate (p.depth + 1) 32
-    ++ (own_word p.term
-    ++ (codes " " ++ (padded form (value p.term env) ++ (if p.counts then codes "\n" else codes " (not taken)\n"))))
+told_part form env p = beginning p ++ (padded form (value p.term env) ++ ending p.counts)
 
 -- the text has the lines of all parts of an expression that count, that of the whole one first, and of all branches
 -- that are not taken, and no others. The values are written together, so the widest of them gives the width of all

@@ -1,50 +1,45 @@
 -- The tree of an expression at a node: a line for each of its parts that counts, with the part's value, and one for
 -- each branch of an `if` that is not taken.
-use Rattle.std.specs.Prelude.{ℕ, ◌+◌, ◌==◌, if◌then◌else◌, Bool, false, true, List, [], ◌∷◌, ◌++◌, codes, replicate}
-use Rattle.node_program.specs.Term.{Term, One, Two, Choose}
+use Rattle.std.specs.Prelude.{ℕ, ◌+◌, ◌==◌, if◌then◌else◌, false, true, List, [], ◌∷◌, ◌++◌, map}
+use Rattle.std.specs.List.{flat_map}
+use Rattle.node_program.specs.Term.{Term, One, Two, Choose, term_of}
 use Rattle.node_program.specs.Value.{Env, value}
-use Rattle.node_lang.specs.Printed.{own_word}
-use Rattle.numerals.specs.Numerals.{form_of, padded}
+use Rattle.numerals.specs.Numerals.{form_of}
 use Rattle.numerals.specs.declared.base.Base.{Base}
-use Rattle.numerals.specs.declared.rows.Form.{Form}
+use Rattle.value_trees.specs.Parts.{Part, told_part}
+use Rattle.value_trees.specs.declared.tree.Line.{Line}
 
--- the values in the tree of an expression in this environment, in the order of its lines: first its own, and then those
--- of its operands; of a branch that is not taken its own value alone
-abbrev pub part_values : Env → Term → List ℕ
-part_values env (One o x) = value (One o x) env ∷ part_values env x
-part_values env (Two o x y) = value (Two o x y) env ∷ (part_values env x ++ part_values env y)
-part_values env (Choose c x y) =
-    value (Choose c x y) env
-    ∷ (part_values env c
-    ++ (if value c env == 0 then value x env ∷ part_values env y else part_values env x ++ value y env ∷ []))
-part_values env e = value e env ∷ []
+-- an expression at a depth that counts, and a branch that is not taken
+abbrev pub counted : ℕ → Term → Part
+counted depth term = record { depth = depth; term = term; counts = true }
 
--- what ends the line of a part, by whether it counts
-abbrev pub ending : Bool → List ℕ
-ending counts = if counts then codes "\n" else codes " (not taken)\n"
+abbrev pub folded : ℕ → Term → Part
+folded depth term = record { depth = depth; term = term; counts = false }
 
--- the line of a part: a blank for each level above it, its word, its value in this environment, and whether it counts
-abbrev pub part_line : Form → Env → ℕ → Bool → Term → List ℕ
-part_line form env level counts e =
-    replicate level 32 ++ (own_word e ++ (codes " " ++ (padded form (value e env) ++ ending counts)))
+-- the parts of an expression at a depth that have a line, in the order of their lines: the expression, and then those of
+-- its operands, one deeper; of a branch that is not taken the branch alone
+abbrev pub parts_at : Env → ℕ → Term → List Part
+parts_at env d (One o x) = counted d (One o x) ∷ parts_at env (d + 1) x
+parts_at env d (Two o x y) = counted d (Two o x y) ∷ (parts_at env (d + 1) x ++ parts_at env (d + 1) y)
+parts_at env d (Choose c x y) =
+    counted d (Choose c x y)
+    ∷ (parts_at env (d + 1) c
+    ++ (if value c env == 0 then folded (d + 1) x ∷ parts_at env (d + 1) y
+    else parts_at env (d + 1) x ++ folded (d + 1) y ∷ []))
+parts_at env d e = counted d e ∷ []
 
--- the lines of an expression: its own, and then those of its operands in reading order, one level deeper; of a branch
--- that is not taken its own line alone
-abbrev pub part_lines : Form → Env → ℕ → Term → List ℕ
-part_lines form env level (One o x) = part_line form env level true (One o x) ++ part_lines form env (level + 1) x
-part_lines form env level (Two o x y) =
-    part_line form env level true (Two o x y) ++ (part_lines form env (level + 1) x ++ part_lines form env (level + 1) y)
-part_lines form env level (Choose c x y) =
-    part_line form env level true (Choose c x y)
-    ++ (part_lines form env (level + 1) c
-    ++ (if value c env == 0 then part_line form env (level + 1) false x ++ part_lines form env (level + 1) y
-    else part_lines form env (level + 1) x ++ part_line form env (level + 1) false y))
-part_lines form env level e = part_line form env level true e
+-- the part of a line, as the code holds it
+abbrev pub part_of : Line → Part
+part_of line = record { depth = line.depth; term = term_of line.expression.now; counts = line.counts }
 
--- the form of the values in an expression's tree
-abbrev pub form_in : Base → Env → Term → Form
-form_in b env e = form_of b (part_values env e)
+-- the values of parts
+abbrev pub values_of : Env → List Part → List ℕ
+values_of env parts = map (λ p. value p.term env) parts
+
+-- the lines of parts, all values in the form of values that are written together in this base
+abbrev pub part_lines : Base → Env → List Part → List ℕ
+part_lines b env parts = flat_map (told_part (form_of b (values_of env parts)) env) parts
 
 -- the tree of an expression in a base, below a heading
-abbrev pub tree_lines : Base → Env → Term → List ℕ
-tree_lines b env e = part_lines (form_in b env e) env 1 e
+unfoldable pub tree_lines : Base → Env → Term → List ℕ
+tree_lines b env e = part_lines b env (parts_at env 0 e)
