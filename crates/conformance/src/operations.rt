@@ -1,14 +1,14 @@
 //! Rounds of many nodes at once, compared with rounds of single nodes.
 
 ghost use Rattle.std.specs.Prelude.{◌≡◌, ◌<◌, ◌≤◌, length};
-ghost use Rattle.round_columns.specs.Room.{HasRoomFor};
-ghost use Rattle.round_columns.specs.States.{SameSize};
+ghost use Rattle.unroll.specs.Room.{HasRoomFor};
+ghost use Rattle.unroll.specs.States.{SameSize};
 
 use lang_check::Plan;
-use round_columns::{Code, Columns, Work, step_columns};
 use round_eval::{messages, step};
 use std::alloc::Global;
 use test_programs::plan_of;
+use unroll::{Code, Columns, Work, step_columns};
 
 // Three rounds of six registers, which compute each of the seventeen operations.
 const OPERATIONS: &[u8] =

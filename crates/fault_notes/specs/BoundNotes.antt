@@ -4,7 +4,7 @@ use Rattle.std.specs.List.{range_with_len}
 use Rattle.std.specs.Fmt.{decimal}
 use Rattle.node_program.specs.Term.{ProgramTree}
 use Rattle.node_program.specs.Bounds.{register_bounds}
-use Rattle.program_analysis.specs.Misplaced.{register_over_channels}
+use Rattle.lang_check.specs.Misplaced.{register_over_channels}
 use Rattle.source_places.specs.Lists.{joined}
 
 abbrev pub bounds_heading : ℕ → List ℕ

@@ -4,8 +4,8 @@ ghost use Rattle.std.specs.Prelude.{◌≡◌, ◌≤◌, ◌++◌, length, slic
 ghost use Rattle.node_program.specs.Bounds as bounds;
 ghost use Rattle.fault_notes.specs.BoundNotes as notes;
 
+use lang_check::{bounds_after, register_over_channels};
 use node_lang::{MAX_REGISTERS, Program};
-use program_analysis::{bounds_after, register_over_channels};
 use source_places::write_joined;
 use std::alloc::{AllocError, Global};
 use std::fmt::Write;

@@ -4,7 +4,7 @@ use Rattle.node_program.specs.Term.{ProgramTree}
 use Rattle.node_program.specs.Bounds.{register_bounds, IsWithin}
 use Rattle.node_program.specs.GlobalRounds.{left_of, right_of, state, channel_at}
 use Rattle.std.proofs.Math.Nat.{mod-lt}
-use Rattle.program_analysis.specs.Laws.{StartIsWithin, NextIsWithin, ChannelIsWithin}
+use Rattle.lang_check.specs.BoundLaws.{StartIsWithin, NextIsWithin, ChannelIsWithin}
 use Rattle.lang_check.specs.Laws.{RegistersAreWithin, AcceptedChannelsAreBelow, ChannelsAreBelow}
 
 module _ (start_is_within : StartIsWithin) (next_is_within : NextIsWithin) where

@@ -3,7 +3,7 @@ use Rattle.std.specs.Prelude.{◌≡◌, ℕ, ◌<◌, false, None, length}
 use Rattle.node_program.specs.Term.{ProgramTree}
 use Rattle.node_program.specs.Bounds.{finish_bound}
 use Rattle.win_index.specs.ShapeRange.{IsShape}
-use Rattle.program_analysis.specs.Misplaced.{first_missing_register, reads_id_outside_start, reads_message_outside_step}
+use Rattle.lang_check.specs.Misplaced.{first_missing_register, reads_id_outside_start, reads_message_outside_step}
 
 -- the program is accepted for m identifiers
 pub record IsAccepted (m : ℕ) (p : ProgramTree) : Type 0 where

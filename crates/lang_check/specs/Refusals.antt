@@ -5,7 +5,7 @@ use Rattle.node_program.specs.Bounds.{finish_bound}
 use Rattle.win_index.specs.ShapeRange.{IsShape}
 use Rattle.win_index.specs.ShapeFaults.{IsFirstShapeFault}
 use Rattle.win_index.specs.declared.shape.ShapeFault.TheVariants as shape
-use Rattle.program_analysis.specs.Misplaced.{first_missing_register, reads_id_outside_start, reads_message_outside_step}
+use Rattle.lang_check.specs.Misplaced.{first_missing_register, reads_id_outside_start, reads_message_outside_step}
 use Rattle.lang_check.specs.declared.acceptance.CheckFault.{CheckFault}
 use Rattle.lang_check.specs.declared.acceptance.CheckFault.TheVariants.{IdsOutOfRange, TooManyWindows, RegisterOutOfRange, IdOutsideStart, MessageOutsideStep, ChannelBound}
 

@@ -6,8 +6,8 @@ ghost use Rattle.lang_check.specs.Acceptance.{IsAccepted};
 ghost use Rattle.lang_check.specs.Refusals.{IsFirstRefusal};
 
 use crate::plan::Plan;
+use crate::{bound_of_finish, id_is_misplaced, message_is_misplaced, missing_register};
 use node_program::Program;
-use program_analysis::{bound_of_finish, id_is_misplaced, message_is_misplaced, missing_register};
 use win_index::{Shape, ShapeFault};
 
 /// Why a program is not accepted for a number of identifiers.

@@ -1,7 +1,7 @@
 //! Laws of accepted programs: registers and channels are within their bounds.
 ghost use Rattle.lang_check.specs.Laws as law;
 
-use program_analysis::{channel_is_within, next_is_within, start_is_within};
+use crate::{channel_is_within, next_is_within, start_is_within};
 
 /// Bounds are sound: on every ring and after each round, the registers of each place are within
 /// their bounds.

@@ -1,6 +1,6 @@
 //! Plans: an accepted program with its shape.
+use crate::same_program;
 use node_program::Program;
-use program_analysis::same_program;
 use std::marker::Model;
 use win_index::Shape;
 

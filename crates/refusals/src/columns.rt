@@ -1,15 +1,15 @@
 //! Rows of evaluation in columns.
 ghost use Rattle.std.specs.Prelude.{◌≡◌, length, IfOk};
-ghost use Rattle.round_columns.specs.Room.{HasRoomFor};
-ghost use Rattle.round_columns.specs.States.{HasSize};
+ghost use Rattle.unroll.specs.Room.{HasRoomFor};
+ghost use Rattle.unroll.specs.States.{HasSize};
 
 use crate::miss::Miss;
 use crate::plans::plan_of;
 use crate::tell::{again, tell, tell_numbers, value_or};
 use lang_check::Plan;
 use node_lang::OutOfMemory;
-use round_columns::{Code, Columns, Work, channel_columns, step_columns};
 use test_programs::{CV1, LDB};
+use unroll::{Code, Columns, Work, channel_columns, step_columns};
 
 /// `Code::new`, `Columns::new` and `Work::new`: prints the numbers of columns that the expressions
 /// of two programs need, then the registers of three nodes after a round of the second program, and

@@ -3,8 +3,8 @@ use Rattle.std.specs.Prelude.{◌≡◌, ℕ, ◌<◌, ◌≤◌, [], length, sl
 use Rattle.node_program.specs.Term.{terms}
 use Rattle.win_index.specs.declared.limits.TheConstants.{BLOCK_WINDOWS}
 use Rattle.lang_check.specs.Plans.{ProgramForIds}
-use Rattle.round_columns.specs.Room.{Room}
-use Rattle.round_columns.specs.States.{NodeStates, HasSize}
+use Rattle.unroll.specs.Room.{Room}
+use Rattle.unroll.specs.States.{NodeStates, HasSize}
 use Rattle.column_machine.specs.StackNeed.{most_columns}
 use Rattle.window_states.specs.BlockStates.{MadeBlock, block_len, block_state}
 use Rattle.table_entries.specs.declared.entry_columns.EntryColumns.{EntryColumns}

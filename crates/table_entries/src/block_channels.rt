@@ -3,12 +3,12 @@
 ghost use Rattle.std.specs.Prelude.{◌≡◌, ◌+◌, ◌*◌, ◌^◌, ◌<◌, ◌≤◌, ◌++◌, length, take, vec_len, vec_capacity, All};
 ghost use Rattle.win_index.specs.declared.limits.TheConstants.{BLOCK_WINDOWS};
 ghost use Rattle.window_states.specs.BlockStates.{IsKeyedBlock, block_len};
-ghost use Rattle.round_columns.specs.States.{HasSize};
+ghost use Rattle.unroll.specs.States.{HasSize};
 ghost use Rattle.table_entries.specs.ChannelRoom.{IsWorkRoom, HoldStates};
 ghost use Rattle.table_entries.specs.EntryShares.{AreEntries};
 
-use round_columns::{Code, Columns, Work, channel_columns};
 use round_eval::rows_are_taken;
+use unroll::{Code, Columns, Work, channel_columns};
 use win_index::BLOCK_WINDOWS;
 use window_states::{Block, windows_are_within};
 

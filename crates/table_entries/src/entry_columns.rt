@@ -2,9 +2,9 @@
 
 use crate::block_channels::{append_below, put_block, write_channels};
 use node_program::OutOfMemory;
-use round_columns::{Code, Columns, Work};
 use round_eval::width_of;
 use std::alloc::Global;
+use unroll::{Code, Columns, Work};
 use win_index::BLOCK_WINDOWS;
 use window_states::Block;
 

@@ -4,10 +4,10 @@ use crate::share::Share;
 use crate::shares::{entries_of, shares_of};
 use channel_tables::Table;
 use node_program::OutOfMemory;
-use round_columns::Code;
 use std::alloc::Global;
 use std::marker::Model;
 use std::thread::Threads;
+use unroll::Code;
 use win_index::BLOCK_WINDOWS;
 use window_states::Block;
 

@@ -2,8 +2,8 @@
 
 use crate::entry_columns::EntryColumns;
 use node_program::OutOfMemory;
-use round_columns::Code;
 use std::alloc::Global;
+use unroll::Code;
 use window_states::Block;
 
 // The entries of the windows of consecutive blocks of the last level, and scratch to read them.

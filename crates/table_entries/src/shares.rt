@@ -6,9 +6,9 @@ ghost use Rattle.table_entries.specs.Shares.{AllRead, AreReadFrom, AreShares, Is
 
 use crate::share::Share;
 use node_program::OutOfMemory;
-use round_columns::Code;
 use std::alloc::Global;
 use std::thread::{Threads, for_each_mut};
+use unroll::Code;
 use win_index::BLOCK_WINDOWS;
 use window_states::Block;
 

@@ -3,7 +3,7 @@
 use Rattle.node_program.proofs.tree.BinOp.TheSendSync as bin_op
 use Rattle.node_program.proofs.tree.UnOp.TheSendSync as un_op
 use Rattle.node_program.proofs.tree.Expr.TheLaws.TheKnot
-use Rattle.round_columns.proofs.code.RoundCode.TheSendSync as round_code
+use Rattle.unroll.proofs.code.RoundCode.TheSendSync as round_code
 use Rattle.column_machine.proofs.postfix.Postfix.TheSendSync as postfix
 use Rattle.shared_memo.below.once_cell.proofs.race.once_box.OnceBox.TheSendSync as once_box
 use Rattle.win_index.proofs.shape.Shape.TheSendSync as shape
@@ -14,7 +14,7 @@ use denote.Param.Send.{IsSync, sendable}
 use denote.Ref.{NamedLft}
 use Rattle.table_fill.specs.contracts.memo_fill.MemoFill as memo_fill
 use Rattle.shared_memo.specs.contracts.memo.Memo as memo
-use Rattle.round_columns.specs.contracts.code.Code as code
+use Rattle.unroll.specs.contracts.code.Code as code
 
 pub memo_sync : (a : NamedLft) → IsSync (memo.the_row a)
 memo_sync a = search (bin_op.the_field_sync, un_op.the_field_sync, once_box.the_sync, boxed.the_sync, vec.the_sync, shape.the_field_sync, Crossing.crosses, TheKnot.crosses, sendable) depth 60 fits 20000

@@ -4,11 +4,10 @@ ghost use Rattle.std.specs.Prelude.{◌≡◌, MatchResult};
 
 use crate::own_reader::OwnReader;
 use node_program::OutOfMemory;
-use round_columns::Code;
 use round_eval::WorkFault;
 use shared_memo::{Installed, Memo, Stranger, Ticket};
 use std::alloc::Global;
-use unroll::{BlockMaker, MakeFault};
+use unroll::{BlockMaker, Code, MakeFault};
 use win_index::{MAX_BLOCKS, window_of_number};
 
 // A worker's reader of a memo, and its maker of blocks of the memo's plan.

@@ -7,10 +7,10 @@ ghost use Rattle.table_fill.specs.Filled.{AreKnown};
 
 use crate::Jobs;
 use crate::cell_maker::CellMaker;
-use round_columns::Code;
 use round_eval::{Gate, WorkFault};
 use shared_memo::{Desk, Memo, Pass, Ticket};
 use std::alloc::Global;
+use unroll::Code;
 use win_index::jobs_have_numbers;
 
 // A memo to be filled, and the code of its plan, which is compiled once and lent to all workers.

@@ -3,11 +3,11 @@
 use crate::looks::{empty_blocks, last_blocks, look_below};
 use channel_tables::Table;
 use node_program::OutOfMemory;
-use round_columns::Code;
 use shared_memo::{Memo, Pass};
 use std::alloc::Global;
 use std::thread::Threads;
 use table_entries::EntryReader;
+use unroll::Code;
 use window_states::Block;
 
 // Memory to read a table, allocated before the first worker starts: a reader of its entries, and a

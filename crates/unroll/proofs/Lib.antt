@@ -6,3 +6,6 @@ pub mod ColumnStates
 pub mod IgnoredRight
 pub mod SeriesStates
 pub mod Fronts
+pub mod ItemLemmas
+pub mod CodeLemmas
+pub mod Writes

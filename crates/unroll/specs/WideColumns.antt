@@ -4,7 +4,7 @@ use Rattle.node_program.specs.Node.{to_left, to_right}
 use Rattle.node_program.specs.Term.{terms}
 use Rattle.win_index.specs.declared.limits.TheConstants.{BLOCK_WINDOWS}
 use Rattle.lang_check.specs.Plans.{ProgramForIds}
-use Rattle.round_columns.specs.States.{HasSize}
+use Rattle.unroll.specs.States.{HasSize}
 use Rattle.column_machine.specs.StackNeed.{most_columns}
 use Rattle.unroll.specs.Below.{part}
 use Rattle.window_states.specs.BlockStates.{MadeBlock, block_len, block_state}

@@ -1,10 +1,10 @@
 //! Making blocks: one, or several with the same columns.
+use crate::Code;
 use crate::fault::MakeFault;
 use crate::gathering::{send_states, write_states};
 use crate::scratch::{Scratch, zeros};
 use lang_check::Plan;
 use node_program::OutOfMemory;
-use round_columns::Code;
 use round_eval::{rows_are_taken, width_of};
 use std::alloc::Global;
 use std::marker::Model;

@@ -1,12 +1,12 @@
 //! What a maker of blocks reuses.
 ghost use Rattle.std.specs.Prelude.{◌≡◌, ◌+◌, ◌≤◌, ℕ, length, replicate, slice_index, IfOk};
-ghost use Rattle.round_columns.specs.States.{HasSize};
+ghost use Rattle.unroll.specs.States.{HasSize};
 ghost use Rattle.unroll.specs.WideColumns.{AreWritten, IsReady};
 
 use crate::right_reads::rounds_use_right;
+use crate::{Code, Columns, Work};
 use lang_check::Plan;
 use node_program::{MAX_ROUNDS, OutOfMemory};
-use round_columns::{Code, Columns, Work};
 use round_eval::width_of;
 use std::alloc::Global;
 use win_index::BLOCK_WINDOWS;

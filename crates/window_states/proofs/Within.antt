@@ -2,7 +2,7 @@
 use Rattle.std.proofs.Common.{ℕ, zero, suc, ◌+◌, ◌*◌, ◌<◌, List, All, length, get_or, subst, sym, arith}
 use Rattle.node_program.specs.Term.{ProgramTree}
 use Rattle.node_program.specs.Bounds.{register_bounds, IsWithin}
-use Rattle.program_analysis.specs.Laws.{StartIsWithin, NextIsWithin}
+use Rattle.lang_check.specs.BoundLaws.{StartIsWithin, NextIsWithin}
 use Rattle.window_states.specs.Line.{item, line, middle_state}
 use Rattle.window_states.specs.Laws.{WindowsAreWithin}
 use Rattle.window_states.proofs.Lines.{line_start, line_next}

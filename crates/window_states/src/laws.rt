@@ -1,7 +1,7 @@
 //! Laws of the states of windows: locality, and states from parts.
 ghost use Rattle.window_states.specs.Laws as law;
 
-use program_analysis::{next_is_within, start_is_within};
+use lang_check::{next_is_within, start_is_within};
 use win_index::places_of_arcs;
 
 /// A round on a line is a round on the row of its inner nodes, between the messages of its first

@@ -1,5 +1,5 @@
-use Rattle.round_columns.specs.Room.{HasRoomFor}
-use Rattle.round_columns.specs.States.{SameSize}
+use Rattle.unroll.specs.Room.{HasRoomFor}
+use Rattle.unroll.specs.States.{SameSize}
 use Rattle.conformance.proofs.operations.do_each_round.Given as goal
 
 abbrev pub invariant-loop-round : goal.invariant-loop-round

@@ -1,4 +1,4 @@
-use Rattle.round_columns.specs.States.{SameSize}
+use Rattle.unroll.specs.States.{SameSize}
 use Rattle.conformance.proofs.operations.write_states.Given as goal
 
 abbrev pub invariant-loop-i : goal.invariant-loop-i
