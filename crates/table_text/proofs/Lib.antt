@@ -11,3 +11,4 @@ pub mod TextLimit
 pub mod Orders
 pub mod PrefixTexts
 pub mod Odometers
+pub mod RunLines

@@ -1,12 +1,12 @@
 -- The window that an odometer shows.
-use Rattle.std.proofs.Common.{◌≡◌, ℕ, ◌+◌, ◌-◌, ◌*◌, ◌<◌, ◌≤◌, List, [], ◌∷◌, ◌++◌, length, length-take, length-take-le, take, take_all, get_or, All, ap, sym, subst, ◌∙◌, arith}
-use Rattle.std.proofs.lemmas.List.{take-take, get_or-take, length_push}
-use Rattle.std.proofs.lemmas.List.Elements.{All-push}
+use Rattle.std.proofs.Common.{◌≡◌, ℕ, ◌+◌, ◌-◌, ◌*◌, ◌<◌, ◌≤◌, List, [], ◌∷◌, ◌++◌, length, length-take, length-take-le, take, take_all, drop, get_or, All, ap, sym, subst, ◌∙◌, arith}
+use Rattle.std.proofs.lemmas.List.{take-take, get_or-take, get_or-drop, length_push}
+use Rattle.std.proofs.lemmas.List.Elements.{All-push, All-from_get_or}
 use Rattle.win_index.proofs.Kept.{kept_is}
 use Rattle.win_index.specs.Windows.{unused, IsWindow}
 use Rattle.win_index.specs.declared.limits.TheConstants.{MAX_IDS, MAX_WINDOW_LEN}
 use Rattle.win_index.proofs.Unused.{lacks}
-use Rattle.table_text.specs.Orders.{IsOrder, IsFollowedBy, ArePlaces}
+use Rattle.table_text.specs.Orders.{IsOrder, IsLater, ArePlaces}
 use Rattle.table_text.specs.Odometers.{IsOdometer, front_of, last_of, window_of}
 use Rattle.table_text.specs.declared.odometer.Odometer.{Odometer}
 use Rattle.table_text.specs.declared.line_prefix.LinePrefix.{LinePrefix}
@@ -23,6 +23,18 @@ later_below k m last order is from lt =
     let here : k + i ≡ last = omega arith in
     let x : get_or (take m order) (k + i) 0 ≡ get_or order last 0 = rw here (get_or-take m order last 0 lt) in
     rw x at (kept_is (lacks (take k (take m order))) m i _ (lacked_in_turn k m i (take m order) is (omega arith))).below
+
+-- the last identifiers of windows of the run
+pub run_below : (o : Odometer) (count : ℕ) → IsOdometer o → o.last + count ≤ o.ids →
+    All (λ id. id < o.ids) (take count (drop o.last o.order))
+run_below o count is le =
+    let ids = take count (drop o.last o.order) in
+    All-from_get_or (λ id. id < o.ids) ids 0 (λ k lt.
+    let few : k < count = omega (arith, length-take count (drop o.last o.order)) in
+    let item : get_or ids k 0 ≡ get_or o.order (o.last + k) 0 =
+    get_or-take count (drop o.last o.order) k 0 few ∙ get_or-drop o.last o.order k 0 in
+    subst (λ id. id < o.ids) (sym item)
+    (later_below o.front o.ids (o.last + k) o.order is.order (omega (arith, is.from)) (omega arith)))
 
 pub window_below : (o : Odometer) → IsOdometer o → All (λ x. x < o.ids) (window_of o)
 window_below o is =
@@ -60,13 +72,13 @@ prefix_short o is =
       size,
     )
 
--- the next window, of known sizes
-pub followed_at : (k m : ℕ) (old new : Odometer) → old.front ≡ k → old.ids ≡ m →
-    IsFollowedBy (old.front + 1) old.ids (window_of old) (window_of new)
-    → IsFollowedBy (k + 1) m (window_of old) (window_of new)
-followed_at k m old new front_is ids_is next =
-    subst (λ n. IsFollowedBy (k + 1) n (window_of old) (window_of new)) ids_is
-    (subst (λ n. IsFollowedBy (n + 1) old.ids (window_of old) (window_of new)) front_is next)
+-- a later window, of known sizes
+pub later_at : (count k m : ℕ) (old new : Odometer) → old.front ≡ k → old.ids ≡ m →
+    IsLater count (old.front + 1) old.ids (window_of old) (window_of new)
+    → IsLater count (k + 1) m (window_of old) (window_of new)
+later_at count k m old new front_is ids_is later =
+    subst (λ n. IsLater count (k + 1) n (window_of old) (window_of new)) ids_is
+    (subst (λ n. IsLater count (n + 1) old.ids (window_of old) (window_of new)) front_is later)
 
 -- an odometer with the order of a window's prefix shows the window
 pub shows_window : (k m last : ℕ) (window order places : List ℕ) (prefix : LinePrefix) → m ≤ MAX_IDS

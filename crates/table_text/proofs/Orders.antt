@@ -12,7 +12,7 @@ use Rattle.win_index.proofs.Unused.{lacks, length-unused, unused_at}
 use Rattle.win_index.proofs.Numbers.{push_window, window_parts, window_from_parts, length-windows}
 use Rattle.win_index.proofs.Positions.{free_at}
 use Rattle.win_index.proofs.Successors.{shorter_window}
-use Rattle.table_text.specs.Orders.{IsOrder, IsFollowedBy, IsStep, ArePlaces, place_of}
+use Rattle.table_text.specs.Orders.{IsOrder, IsLater, IsFollowedBy, IsStep, ArePlaces, place_of}
 
 -- ---- one number more
 
@@ -216,15 +216,15 @@ ends k m n i x front item at' =
       number = of.number ∙ ap (λ r. of.place * (m - k) + r) (sym own.before ∙ here.before);
     }
 
--- a window is followed by that with the next number that its prefix lacks
-pub followed_here : (k m i x y : ℕ) (front : List ℕ) → slice_get (unused m front) i ≡ Some x →
-    slice_get (unused m front) (i + 1) ≡ Some y
-    → IsFollowedBy (k + 1) m (front ++ x ∷ []) (front ++ y ∷ [])
-followed_here k m i x y front at_x at_y n item more =
+-- a window and that with a later number that its prefix lacks
+pub later_here : (count k m i x y : ℕ) (front : List ℕ) → slice_get (unused m front) i ≡ Some x →
+    slice_get (unused m front) (i + count) ≡ Some y
+    → IsLater count (k + 1) m (front ++ x ∷ []) (front ++ y ∷ [])
+later_here count k m i x y front at_x at_y n item more =
     let step : suc k ≡ k + 1 = omega arith in
     let of = ends k m n i x front item at_x in
-    let number : of.place * (m - k) + (i + 1) ≡ n + 1 = omega (arith, of.number) in
-    rw (number, step) at (window_from_parts k m of.place (i + 1) y front of.front_at at_y)
+    let number : of.place * (m - k) + (i + count) ≡ n + count = omega (arith, of.number) in
+    rw (number, step) at (window_from_parts k m of.place (i + count) y front of.front_at at_y)
 
 -- the last window with a prefix is followed by the first one with the next prefix
 pub followed_later : (k m i x z : ℕ) (front later : List ℕ) → i + 1 ≡ m - k → slice_get (unused m front) i ≡ Some x
@@ -296,7 +296,7 @@ swapped k m old new is within set_is =
       step = record {
         order = rw new_is (rw behind at made);
         next =
-            rw (of.first, first) (followed_here k m (length low) x y front
+            rw (of.first, first) (later_here 1 k m (length low) x y front
             (ap (λ l. slice_get l (length low)) all ∙ item_after low (y ∷ after) x)
             (ap (λ l. slice_get l (length low + 1)) all
             ∙ slice_get-append_right low (x ∷ (y ∷ after)) (length low + 1) 1 (omega arith)));
@@ -469,21 +469,22 @@ last_place k m last window order is ordered same place =
 
 -- ---- the windows of a run
 
--- the next number after the window ends the next window of the run
-pub next_of_run : (k m last : ℕ) (order : List ℕ) → IsOrder k m (take m order) → k ≤ last → last + 1 < m
-    → IsFollowedBy (k + 1) m (take k order ++ get_or order last 0 ∷ []) (take k order ++ get_or order (last + 1) 0 ∷ [])
-next_of_run k m last order is from lt =
+-- a later number after the window ends a later window of the run
+pub later_of_run : (count k m last : ℕ) (order : List ℕ) → IsOrder k m (take m order) → k ≤ last → last + count < m
+    → IsLater count (k + 1) m (take k order ++ get_or order last 0 ∷ [])
+    (take k order ++ get_or order (last + count) 0 ∷ [])
+later_of_run count k m last order is from lt =
     let i : ℕ = last - k in
     let here : k + i ≡ last = omega arith in
-    let there : k + (i + 1) ≡ last + 1 = omega arith in
+    let there : k + (i + count) ≡ last + count = omega arith in
     let at_x = lacked_in_turn k m i (take m order) is (omega arith) in
-    let at_y = lacked_in_turn k m (i + 1) (take m order) is (omega arith) in
+    let at_y = lacked_in_turn k m (i + count) (take m order) is (omega arith) in
     let x : get_or (take m order) (k + i) 0 ≡ get_or order last 0 =
     rw here (get_or-take m order last 0 (omega arith)) in
-    let y : get_or (take m order) (k + (i + 1)) 0 ≡ get_or order (last + 1) 0 =
-    rw there (get_or-take m order (last + 1) 0 lt) in
+    let y : get_or (take m order) (k + (i + count)) 0 ≡ get_or order (last + count) 0 =
+    rw there (get_or-take m order (last + count) 0 lt) in
     let front : take k (take m order) ≡ take k order = take-take k m order (omega arith) in
-    rw (front, x, y) at (followed_here k m i _ _ (take k (take m order)) at_x at_y)
+    rw (front, x, y) at (later_here count k m i _ _ (take k (take m order)) at_x at_y)
 
 -- the last window of a run is followed by the first one of the next run
 pub next_run : (k m last : ℕ) (old new : List ℕ) → IsOrder k m (take m old) → k ≤ last → last + 1 ≡ m →

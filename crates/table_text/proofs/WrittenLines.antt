@@ -56,7 +56,7 @@ entries_more (suc j) (w ∷ ws) (c ∷ cs) window channel at_w at_c =
     ∙ sym (entry_append w c (entries_then ws (take j cs) []) (entry_then window channel []))
 
 -- an item behind the first ones
-dropped_at : {X : Type 0} (first j n : ℕ) (xs : List X) (x : X) → first + j ≡ n → slice_get xs n ≡ Some x →
+pub dropped_at : {X : Type 0} (first j n : ℕ) (xs : List X) (x : X) → first + j ≡ n → slice_get xs n ≡ Some x →
     slice_get (drop first xs) j ≡ Some x
 dropped_at first j n xs x here is =
     slice_get-get_or (drop first xs) j x (omega (arith, length-drop first xs, slice_get_within xs n x is, here))

@@ -9,11 +9,15 @@ pub record IsOrder (k m : ℕ) (order : List ℕ) : Type 0 where
   pub window : IsWindow k m (take k order)
   pub rest : drop k order ≡ unused m (take k order)
 
+-- the number of later is so much higher than the window's, if there is a window with that number
+abbrev pub IsLater : ℕ → ℕ → ℕ → List ℕ → List ℕ → Type 0
+IsLater count k m window later =
+    (n : ℕ) → slice_get (windows k m) n ≡ Some window → n + count < length (windows k m) →
+    slice_get (windows k m) (n + count) ≡ Some later
+
 -- next has the number after the window's, if there is a window with that number
 abbrev pub IsFollowedBy : ℕ → ℕ → List ℕ → List ℕ → Type 0
-IsFollowedBy k m window next =
-    (n : ℕ) → slice_get (windows k m) n ≡ Some window → n + 1 < length (windows k m) →
-    slice_get (windows k m) (n + 1) ≡ Some next
+IsFollowedBy = IsLater 1
 
 -- an order whose window is the next one, if there is a next one
 pub record IsStep (k m : ℕ) (old new : List ℕ) : Type 0 where

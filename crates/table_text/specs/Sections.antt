@@ -1,8 +1,9 @@
 -- Sections of the lines of a table. No public contract cites this file.
-use Rattle.std.specs.Prelude.{◌≡◌, ℕ, ◌+◌, ◌*◌, ◌<◌, List, [], length, take, drop, Some, slice_get, slice_index_or}
+use Rattle.std.specs.Prelude.{◌≡◌, ℕ, ◌+◌, ◌*◌, ◌<◌, List, [], ◌∷◌, ◌++◌, length, take, drop, Some, slice_get, slice_index_or}
 use Rattle.channel_tables.specs.Tables.{ChannelTable, windows_of}
 use Rattle.table_text.specs.TableText.{entries_then}
 use Rattle.table_text.specs.Odometers.{IsOdometer, window_of}
+use Rattle.table_text.specs.Pieces.{id_text, channel_text}
 use Rattle.table_text.specs.declared.odometer.Odometer.{Odometer}
 
 -- the odometer shows the window of this number, if there is one
@@ -15,6 +16,13 @@ pub record Shows (t : ChannelTable) (n : ℕ) (o : Odometer) : Type 0 where
 -- the lines of this many windows from a number on, as far as there are so many
 abbrev pub lines_from : ChannelTable → ℕ → ℕ → List ℕ
 lines_from t first count = entries_then (drop first (windows_of t)) (take count (drop first t.entries)) []
+
+-- a line for each of these identifiers and the channel at its place, each line with the same text before the identifier
+abbrev pub run_lines : List ℕ → List ℕ → List ℕ → List ℕ
+run_lines prefix ids [] = []
+run_lines prefix [] (channel ∷ channels) = []
+run_lines prefix (id ∷ ids) (channel ∷ channels) =
+    prefix ++ (id_text id ++ (channel_text channel ++ run_lines prefix ids channels))
 
 -- the chunks have no bytes
 abbrev pub AreEmpty : List (List ℕ) → Type 0

@@ -53,16 +53,14 @@ impl LinePrefix {
         }
     }
 
-    // Returns the text and the start of its buffer, if it is short.
-    pub(crate) fn short_part(&self) -> Part<'_>
+    // Returns the start of the buffer, which has the text if it is short.
+    pub(crate) fn start(&self) -> [u8; SHORT_LEN]
         requires { self.now.len ≤ SHORT_LEN }
-        ensures text { part_text result ≡ prefix_text self.now }
-        ensures buffer { length result.buffer.now ≡ SHORT_LEN }
+        ensures { take self.now.len result ≡ prefix_text self.now }
     {
-        Part {
-            buffer: &self.bytes[..SHORT_LEN],
-            len: self.len,
-        }
+        let mut start = [0; SHORT_LEN];
+        start.copy_from_slice(&self.bytes[..SHORT_LEN]);
+        start
     }
 
     // Writes the text of these identifiers, each followed by a blank. That of the first `kept` is

@@ -106,11 +106,11 @@ pub(crate) struct Odometer {
 }
 
 impl Odometer {
-    ghost use Rattle.std.specs.Prelude.{◌≡◌, ◌+◌, ◌*◌, ◌<◌, ◌≤◌, Some, length, slice_get};
+    ghost use Rattle.std.specs.Prelude.{◌≡◌, ◌+◌, ◌*◌, ◌<◌, ◌≤◌, Some, length, take, drop, All, slice_get};
     ghost use Rattle.win_index.specs.declared.limits.TheConstants.{MAX_IDS, MAX_WINDOW_LEN};
     ghost use Rattle.win_index.specs.Windows.{windows, IsWindow};
     ghost use Rattle.table_text.specs.Pieces.{id_text, AreTexts};
-    ghost use Rattle.table_text.specs.Orders.{IsFollowedBy};
+    ghost use Rattle.table_text.specs.Orders.{IsLater, IsFollowedBy};
     ghost use Rattle.table_text.specs.Odometers.{IsOdometer, window_of, last_of};
 
     // Shows the window of the last level with this number.
@@ -154,6 +154,38 @@ impl Odometer {
             last,
             prefix,
         }
+    }
+
+    // Returns the number of windows of the run from this one on.
+    pub(crate) fn left(&self) -> u32
+        requires { IsOdometer self.now }
+        ensures count { self.now.last + result ≡ self.now.ids }
+        ensures some { 0 < result }
+    {
+        (self.ids - self.last) as u32
+    }
+
+    // Returns the last identifiers of so many windows of the run from this one on.
+    pub(crate) fn last_ids(&self, count: u32) -> &[u32]
+        requires is { IsOdometer self.now }
+        requires within { self.now.last + count ≤ self.now.ids }
+        ensures ids { result.now ≡ take count (drop self.now.last self.now.order) }
+        ensures below { All (λ id. id < self.now.ids) result.now }
+    {
+        &self.order[self.last..self.last + count as usize]
+    }
+
+    // Shows the window that is so many later, if there is one. Those before it are of the run.
+    pub(crate) fn advance_by(&mut self, count: u32, pieces: &[Piece])
+        requires is { IsOdometer self.old }
+        requires within { (0 < count) × (self.old.last + count ≤ self.old.ids) }
+        requires pieces { AreTexts id_text pieces.now × (length pieces.now ≡ self.old.ids) }
+        ensures is { IsOdometer self.new }
+        ensures same { (self.new.front ≡ self.old.front) × (self.new.ids ≡ self.old.ids) }
+        ensures later { IsLater count (self.old.front + 1) self.old.ids (window_of self.old) (window_of self.new) }
+    {
+        self.last += count as usize - 1;
+        self.advance(pieces);
     }
 
     // Shows the next window, if there is one.

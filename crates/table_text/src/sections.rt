@@ -1,18 +1,20 @@
 //! Sections of the lines of a table: those of consecutive windows, as many as a chunk has space for.
 
-ghost use Rattle.std.specs.Prelude.{◌≡◌, ◌+◌, ◌*◌, ◌^◌, ◌<◌, ◌≤◌, [], ◌++◌, length};
+ghost use Rattle.std.specs.Prelude.{◌≡◌, ◌+◌, ◌*◌, ◌^◌, ◌<◌, ◌≤◌, [], ◌++◌, length, All};
 ghost use Rattle.devices.specs.declared.chunk.TheConstants.{CHUNK_LEN};
+ghost use Rattle.devices.specs.Output.{part_text};
 ghost use Rattle.win_index.specs.declared.limits.TheConstants.{MAX_ROUNDS, MAX_WINDOWS};
 ghost use Rattle.channel_tables.specs.Tables.{windows_of};
 ghost use Rattle.table_text.specs.declared.sections.TheConstants.{LINES_LEN};
-ghost use Rattle.table_text.specs.Sections.{lines_from, AreEmpty, AreFilled, Shows};
-ghost use Rattle.table_text.specs.Pieces.{prefix_text, piece_text, id_text, channel_text, AreTexts, ArePieces};
+ghost use Rattle.table_text.specs.Sections.{lines_from, run_lines, AreEmpty, AreFilled, Shows};
+ghost use Rattle.table_text.specs.Pieces.{id_text, channel_text, AreTexts, ArePieces};
 
-use crate::line_prefix::{LinePrefix, PREFIX_LEN, SHORT_LEN};
+use crate::line_prefix::{PREFIX_LEN, SHORT_LEN};
 use crate::odometer::Odometer;
 use crate::piece::{Piece, Pieces};
 use channel_tables::Table;
 use devices::chunk::Chunk;
+use devices::part::Part;
 
 /// The space for a line: a prefix, the piece of an identifier and that of a channel.
 pub(crate) const LINE_LEN: usize = PREFIX_LEN + 16;
@@ -131,41 +133,66 @@ impl Lines<'_> {
     {
         let end = first + self.size.min(self.count() - first);
         let ids: &[Piece] = &self.pieces.ids;
-        for number in first..end {
-            let last = odometer.last_id();
-            let channel = self.table.entry(number);
-            store_entry(chunk, self.pieces, &odometer.prefix, last, channel);
-            odometer.advance(ids);
+        let mut next = first;
+        while next < end {
+            let count = odometer.left().min(end - next);
+            self.store_run(odometer, chunk, next, count);
+            odometer.advance_by(count, ids);
+            next += count;
+        }
+    }
+
+    // Appends to a chunk the lines of so many windows from this one on, which the odometer shows. They
+    // are of one run.
+    fn store_run(self, odometer: &Odometer, chunk: &mut Chunk, first: u32, count: u32)
+        requires room { length chunk.old + count * (16 * self.table.now.rounds + 16) + LINE_LEN ≤ CHUNK_LEN }
+        requires within { first + count ≤ length (windows_of self.table.now) }
+        requires shows { Shows self.table.now first odometer.now }
+        requires run { odometer.now.last + count ≤ odometer.now.ids }
+        ensures lines { chunk.new ≡ chunk.old ++ lines_from self.entry.table.now first count }
+        ensures filled { length chunk.new ≤ length chunk.old + count * (16 * self.entry.table.now.rounds + 16) }
+    {
+        let start = first as usize;
+        let channels = &self.table.entries()[start..start + count as usize];
+        let last_ids = odometer.last_ids(count);
+        let prefix = &odometer.prefix;
+        if prefix.len <= SHORT_LEN {
+            let start = prefix.start();
+            let text = Part {
+                buffer: &start,
+                len: prefix.len,
+            };
+            store_lines(chunk, self.pieces, text, last_ids, channels);
+        } else {
+            store_lines(chunk, self.pieces, prefix.part(), last_ids, channels);
         }
     }
 }
 
-// Appends to a chunk the line of a window with this prefix, last identifier and channel.
-fn store_entry(chunk: &mut Chunk, pieces: &Pieces, prefix: &LinePrefix, last: u32, channel: u32)
-    requires room { length chunk.old + LINE_LEN ≤ CHUNK_LEN }
+// Appends to a chunk a line for each of these last identifiers and the channel at its place, each line
+// with this prefix.
+#[inline(always)]
+fn store_lines(
+    chunk: &mut Chunk,
+    pieces: &Pieces,
+    prefix: Part<'_>,
+    last_ids: &[u32],
+    channels: &[u16],
+)
+    requires room { length chunk.old + length channels.now * (length (part_text prefix) + 16) + LINE_LEN ≤ CHUNK_LEN }
+    requires buffer { length prefix.buffer.now ≤ PREFIX_LEN }
     requires texts { AreTexts id_text pieces.now.ids.items × AreTexts channel_text pieces.now.channels.items }
-    requires last { last < length pieces.now.ids.items }
-    requires channel { channel < length pieces.now.channels.items }
-    ensures line { chunk.new ≡ chunk.old ++ (prefix_text prefix.now ++ (id_text last ++ channel_text channel)) }
-    ensures filled { length chunk.new ≤ length chunk.old + length (prefix_text prefix.now) + 16 }
+    requires ids { All (λ id. id < length pieces.now.ids.items) last_ids.now }
+    requires channels { All (λ channel. channel < length pieces.now.channels.items) channels.now }
+    requires count { length last_ids.now ≡ length channels.now }
+    ensures lines { chunk.new ≡ chunk.old ++ run_lines (part_text prefix.entry) last_ids.now channels.now }
+    ensures filled { length chunk.new ≤ length chunk.old + length channels.now * (length (part_text prefix.entry) + 16) }
 {
     let ids: &[Piece] = &pieces.ids;
     let ends: &[Piece] = &pieces.channels;
-    store_line(chunk, prefix, ids[last as usize], ends[channel as usize]);
-}
-
-// Appends a line to a chunk: the prefix of a window, the piece of its last identifier and that of
-// its channel.
-fn store_line(chunk: &mut Chunk, prefix: &LinePrefix, last: Piece, end: Piece)
-    requires room { length chunk.old + LINE_LEN ≤ CHUNK_LEN }
-    ensures line { chunk.new ≡ chunk.old ++ (prefix_text prefix.now ++ (piece_text last ++ piece_text end)) }
-    ensures filled { length chunk.new ≤ length chunk.old + length (prefix_text prefix.now) + 16 }
-{
-    let last = last.part();
-    let end = end.part();
-    if prefix.len <= SHORT_LEN {
-        chunk.push_three(prefix.short_part(), last, end);
-    } else {
-        chunk.push_three(prefix.part(), last, end);
+    for index in 0..channels.len() {
+        let last = ids[last_ids[index] as usize];
+        let end = ends[channels[index] as usize];
+        chunk.push_three(prefix, last.part(), end.part());
     }
 }

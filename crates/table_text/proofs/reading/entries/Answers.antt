@@ -6,7 +6,7 @@ use Rattle.table_text.specs.TableText.{written, lines_then}
 use Rattle.table_text.specs.Odometers.{window_of}
 use Rattle.table_text.specs.LineForms.{HasEntry}
 use Rattle.table_text.specs.Faults.{IsWithin, no_entry}
-use Rattle.table_text.proofs.Odometers.{window_size, followed_at}
+use Rattle.table_text.proofs.Odometers.{window_size, later_at}
 use Rattle.table_text.proofs.TableLines.{begun_more, lines_more}
 use Rattle.table_text.proofs.reading.entries.Goals as goal
 
@@ -85,7 +85,7 @@ lines-preserved c =
       shows = advanced.is;
       front_is = advanced.same.0 ∙ inv.front_is;
       ids_is = advanced.same.1 ∙ inv.ids_is;
-      next = followed_at (2 * c.args.header.shape.rounds) c.args.header.shape.ids c.lines.odometer c.advance.new.self
+      next = later_at 1 (2 * c.args.header.shape.rounds) c.args.header.shape.ids c.lines.odometer c.advance.new.self
           inv.front_is inv.ids_is advanced.next
           c.lines.number (inv.next within);
       read = lines_more c.args.version t c.args.header.separation c.args.text.now c.lines.rest.now

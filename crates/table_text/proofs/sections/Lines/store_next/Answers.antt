@@ -1,56 +1,57 @@
-use Rattle.std.proofs.Common.{◌≡◌, ℕ, ◌+◌, ◌-◌, ◌*◌, ◌<◌, ◌≤◌, [], ◌++◌, length, ap, sym, ◌∙◌, arith, rules, add-one, append_assoc}
-use Rattle.std.proofs.Math.Nat.{suc-mul}
+use Rattle.std.proofs.Common.{◌≡◌, ℕ, ◌+◌, ◌-◌, ◌*◌, ◌<◌, ◌≤◌, ◌++◌, length, ap, sym, ◌∙◌, arith, rules, append_assoc}
+use Rattle.std.proofs.Math.Nat.{mul-le-mul_right}
 use Rattle.channel_tables.specs.Tables.{windows_of}
-use Rattle.table_text.specs.TableText.{entry_then}
-use Rattle.table_text.specs.Pieces.{id_text, channel_text}
-use Rattle.table_text.specs.Odometers.{front_of, last_of, window_of}
 use Rattle.table_text.specs.Sections.{lines_from}
-use Rattle.table_text.proofs.Odometers.{followed_at, prefix_short}
-use Rattle.table_text.proofs.WrittenLines.{line_more, line_of_run}
+use Rattle.table_text.proofs.Odometers.{later_at}
+use Rattle.table_text.proofs.WrittenLines.{lines_join}
 use Rattle.table_text.proofs.sections.Lines.store_next.Goals as goal
 
--- one more line of at most this many bytes
-longer : (n first size : ℕ) → first ≤ n → (n + 1 - first) * size ≡ (n - first) * size + size
-longer n first size le =
-    let j : ℕ = n - first in
-    let next : n + 1 - first ≡ j + 1 = omega arith in
-    rw next (rw add-one (suc-mul j size))
+longer : (done count width : ℕ) → (done + count) * width ≡ done * width + count * width
+longer done count width = omega arith
 
-pub loop-number-preserved : goal.loop-number-preserved
-loop-number-preserved c =
+pub store_run-requires-clause-room : goal.store_run-requires-clause-room
+store_run-requires-clause-room c =
     let t = c.args.self.table.now in
-    let n = c.loop-number.number in
+    let width : ℕ = 16 * t.rounds + 16 in
+    let inv = c.loop-next.invariant in
+    let done : ℕ = c.loop-next.next - c.args.first in
+    let count : ℕ = c.min-count.result in
+    let few : done + count ≤ c.args.self.size = omega (arith, inv.from, c.min-count.ensures) in
+    omega (arith, inv.filled, c.requires.room, c.args.self.fits, mul-le-mul_right width few)
+
+-- The lines of the rest of a run are stored, as far as they are of the section.
+pub loop-next-preserved : goal.loop-next-preserved
+loop-next-preserved c =
+    let t = c.args.self.table.now in
+    let inv = c.loop-next.invariant in
     let first = c.args.first in
-    let inv = c.loop-number.invariant in
-    let odometer = c.loop-number.odometer in
-    let channel = c.entry-channel.result in
-    let from : first ≤ n = search rules in
-    let within : n < length (windows_of t) = search rules in
-    let own : n < length t.entries = search rules in
-    let shows = inv.shows in
-    let window = shows.window within in
-    let line = (λ i. shows.odometer.text i ++ (id_text (c.last_id-last.ensures.last i) ++ channel_text channel))
-    ∙ line_of_run (front_of odometer) (last_of odometer) channel in
-    let more = line_more t first n channel (window_of odometer) from own window c.entry-channel.ensures.value in
-    let advanced = c.advance.ensures in
+    let next = c.loop-next.next in
+    let count = c.min-count.result in
+    let done : ℕ = next - first in
+    let here : first + done ≡ next = omega arith in
+    let more : next + count - first ≡ done + count = omega arith in
+    let width : ℕ = 16 * t.rounds + 16 in
+    let wide : (next + count - first) * width ≡ done * width + count * width =
+    ap (λ n. n * width) more ∙ longer done count width in
+    let within : next < length (windows_of t) = search rules in
+    let enough : length t.entries ≤ length (windows_of t) = omega arith in
+    let joined : lines_from t first done ++ lines_from t next count ≡ lines_from t first (next + count - first) =
+    ap (λ n. lines_from t first done ++ lines_from t n count) (sym here) ∙ lines_join t first done count enough
+    ∙ ap (lines_from t first) (sym more) in
+    let advanced = c.advance_by.ensures in
     record {
+      from = omega arith;
+      within = omega (arith, c.min-count.ensures);
       shows = record {
         odometer = advanced.is;
-        front = advanced.same.0 ∙ shows.front;
-        ids = advanced.same.1 ∙ shows.ids;
-        window = followed_at (2 * t.rounds) t.ids odometer c.advance.new.self shows.front shows.ids advanced.next n
-            window;
+        front = advanced.same.0 ∙ inv.shows.front;
+        ids = advanced.same.1 ∙ inv.shows.ids;
+        window = later_at count (2 * t.rounds) t.ids c.loop-next.odometer c.advance_by.new.self inv.shows.front
+            inv.shows.ids advanced.later next (inv.shows.window within);
       };
-      stored = c.store_entry.ensures.line
-          ∙ (λ i. inv.stored i ++ line i)
-          ∙ append_assoc c.args.chunk.now (lines_from t first (n - first)) (entry_then (window_of odometer) channel [])
-          ∙ ap (λ l. c.args.chunk.now ++ l) (sym more);
-      filled = omega (
-        arith,
-        inv.filled,
-        c.store_entry.ensures.filled,
-        prefix_short odometer shows.odometer,
-        shows.front,
-        longer n first (16 * t.rounds + 16) from,
-      );
+      stored = c.store_run.ensures.lines
+          ∙ ap (λ l. l ++ lines_from t next count) inv.stored
+          ∙ append_assoc c.args.chunk.now (lines_from t first done) (lines_from t next count)
+          ∙ ap (λ l. c.args.chunk.now ++ l) joined;
+      filled = omega (arith, inv.filled, c.store_run.ensures.filled, wide);
     }
