@@ -3,7 +3,7 @@ use Rattle.std.proofs.Common.{◌≡◌, ℕ, zero, suc, add-one, ◌*◌, ◌+�
 use Rattle.std.proofs.lemmas.List.{get_or-take, get_or-drop}
 use Rattle.std.proofs.lemmas.Option.{none-some, same_Some, slice_get-get_or}
 use Rattle.channel_tables.specs.Tables.{ChannelTable, windows_of}
-use Rattle.table_text.specs.Odometers.{front_of, window_of}
+use Rattle.table_text.specs.Odometers.{front_of}
 use Rattle.table_text.specs.Pieces.{prefix_text, id_text, channel_text}
 use Rattle.table_text.specs.Sections.{lines_from, run_lines, Shows}
 use Rattle.table_text.specs.TableText.{ids_then, entry_then, entries_then}

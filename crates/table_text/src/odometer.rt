@@ -11,7 +11,8 @@ use crate::piece::Piece;
 use win_index::{MAX_IDS, MAX_WINDOW_LEN, Shape, place_among_unused};
 
 // Moves the last identifier of the first `last + 1`, the largest that those before it lack, to the
-// end.
+// end. It is not inlined, so that most calls of `next_front` need few registers.
+#[inline(never)]
 fn carry(order: &mut [u32], last: usize)
     requires order { IsOrder (last + 1) (length order.old) order.old }
     requires largest { length order.old ≤ place_of last order.old }

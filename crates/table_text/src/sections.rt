@@ -143,7 +143,8 @@ impl Lines<'_> {
     }
 
     // Appends to a chunk the lines of so many windows from this one on, which the odometer shows. They
-    // are of one run.
+    // are of one run. It is not inlined, so that its loop has registers.
+    #[inline(never)]
     fn store_run(self, odometer: &Odometer, chunk: &mut Chunk, first: u32, count: u32)
         requires room { length chunk.old + count * (16 * self.table.now.rounds + 16) + LINE_LEN ≤ CHUNK_LEN }
         requires within { first + count ≤ length (windows_of self.table.now) }
@@ -152,8 +153,8 @@ impl Lines<'_> {
         ensures lines { chunk.new ≡ chunk.old ++ lines_from self.entry.table.now first count }
         ensures filled { length chunk.new ≤ length chunk.old + count * (16 * self.entry.table.now.rounds + 16) }
     {
-        let start = first as usize;
-        let channels = &self.table.entries()[start..start + count as usize];
+        let from = first as usize;
+        let channels = &self.table.entries()[from..from + count as usize];
         let last_ids = odometer.last_ids(count);
         let prefix = &odometer.prefix;
         if prefix.len <= SHORT_LEN {

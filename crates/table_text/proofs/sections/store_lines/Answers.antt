@@ -1,4 +1,4 @@
-use Rattle.std.proofs.Common.{◌≡◌, ◌+◌, ◌*◌, ◌<◌, ◌≤◌, ◌++◌, length, length-append, length-take, take, get_or, ap, sym, ◌∙◌, arith, rules, append_assoc}
+use Rattle.std.proofs.Common.{◌≡◌, ◌<◌, ◌++◌, length, length-append, length-take, take, get_or, ap, sym, ◌∙◌, arith, rules, append_assoc}
 use Rattle.devices.specs.Output.{part_text}
 use Rattle.table_text.specs.Pieces.{piece_text, id_text, channel_text, AreTexts}
 use Rattle.table_text.specs.Sections.{run_lines}
