@@ -53,7 +53,7 @@ impl LinePrefix {
         }
     }
 
-    // Returns the start of the buffer, which has the text if it is short.
+    // Returns the first bytes of the buffer. The text is short, so that they have all of it.
     pub(crate) fn start(&self) -> [u8; SHORT_LEN]
         requires { self.now.len ≤ SHORT_LEN }
         ensures { take self.now.len result ≡ prefix_text self.now }
