@@ -1,6 +1,6 @@
 //! Texts on refused words as they are printed.
 
-use crate::foreign_names::VERSION;
+use crate::foreign_names::{QUESTIONS, advice_in};
 use crate::word_advice::advice_on;
 use source_places::is_one_of;
 use std::alloc::{AllocError, Global};
@@ -30,7 +30,7 @@ pub(crate) fn usage_advice(
     words: &[String],
 ) -> Result<Option<&'static str>, AllocError> {
     if is_version_alone(words) {
-        return Ok(Some(VERSION));
+        return Ok(advice_in(QUESTIONS, b"", b"-V"));
     }
     let lower = text.to_ascii_lowercase(alloc)?;
     Ok(advice_on(text, lower.as_str(), command_of(words)))
