@@ -1,6 +1,6 @@
 //! A buffer that collects bytes, so that they are written in large pieces.
 
-ghost use Rattle.std.specs.Prelude.{◌≡◌, ◌+◌, ◌≤◌, ◌++◌, ℕ, [], false, length, take, IfOk, OnOk, OnErr};
+ghost use Rattle.std.specs.Prelude.{◌≡◌, ◌+◌, ◌≤◌, ◌++◌, ℕ, List, [], false, length, take, IfOk, OnOk, OnErr};
 ghost use Rattle.std.specs.Io.KnownBytes.{Appends};
 ghost use Rattle.devices.specs.Output.{part_text, AppendsFront, IsWrittenSoFar};
 ghost use Rattle.devices.specs.Watched.{device_of, has_failed, FailsByWrites};
@@ -35,6 +35,25 @@ impl Model for Chunk {
     ghost invariant = { λ chunk. (length chunk.bytes.items ≡ CHUNK_LEN) × (chunk.filled ≤ CHUNK_LEN) };
 }
 
+/// A text that is stored over bytes by a function of its own, which keeps its place in a variable.
+pub trait ToBytes {
+    /// The text.
+    ghost text: { Self → List ℕ };
+
+    /// A bound on the length of the text.
+    ghost most: { Self → ℕ };
+
+    /// The number of bytes from the start on that can change.
+    ghost room: { Self → ℕ };
+
+    /// Stores the text from index `start` on. Returns the index of its end.
+    fn store(&self, bytes: &mut [u8], start: usize) -> usize
+        requires { start + room self.now ≤ length bytes.old }
+        ensures end { (start ≤ result) × (result ≤ length bytes.old) }
+        ensures few { result ≤ start + most self.now }
+        ensures text { take result bytes.new ≡ take start bytes.old ++ text self.now };
+}
+
 impl Chunk {
     /// Allocates an empty chunk.
     pub fn new(alloc: Global) -> Result<Chunk, AllocError>
@@ -63,16 +82,15 @@ impl Chunk {
         self.filled += len;
     }
 
-    /// Appends three texts. There must be space for all bytes of their buffers.
+    /// Appends a text. There must be space for all bytes that can change.
     #[inline(always)]
-    pub fn push_three(&mut self, first: Part<'_>, second: Part<'_>, third: Part<'_>)
-        requires room { length self.old + (length first.buffer.now + (length second.buffer.now + length third.buffer.now)) ≤ CHUNK_LEN }
-        ensures { self.new ≡ self.old ++ (part_text first.entry ++ (part_text second.entry ++ part_text third.entry)) }
+    pub fn push_stored<T: ToBytes>(&mut self, text: &T)
+        requires { length self.old + T.room text.now ≤ CHUNK_LEN }
+        ensures text { self.new ≡ self.old ++ T.text text.now }
+        ensures few { length self.new ≤ length self.old + T.most text.now }
     {
         let bytes: &mut [u8] = &mut self.bytes;
-        let second_start = write_part(bytes, self.filled, first);
-        let third_start = write_part(bytes, second_start, second);
-        self.filled = write_part(bytes, third_start, third);
+        self.filled = text.store(bytes, self.filled);
     }
 
     /// Writes the contents and empties the chunk.
@@ -128,10 +146,10 @@ pub fn write_at(bytes: &mut [u8], start: usize, text: &[u8])
     bytes[start..start + text.len()].copy_from_slice(text);
 }
 
-// Copies the buffer of a text over the bytes from index `start` on. Returns the index of the end of
-// the text.
+/// Copies the buffer of a text over the bytes from index `start` on. Returns the index of the end of
+/// the text.
 #[inline(always)]
-fn write_part(bytes: &mut [u8], start: usize, part: Part<'_>) -> usize
+pub fn write_part(bytes: &mut [u8], start: usize, part: Part<'_>) -> usize
     requires room { start + length part.buffer.now ≤ length bytes.old }
     ensures end { result ≡ start + part.entry.len }
     ensures len { length bytes.new ≡ length bytes.old }

@@ -5,7 +5,8 @@ ghost use Rattle.devices.specs.declared.chunk.TheConstants.{CHUNK_LEN};
 ghost use Rattle.devices.specs.Output.{part_text};
 ghost use Rattle.win_index.specs.declared.limits.TheConstants.{MAX_ROUNDS, MAX_WINDOWS};
 ghost use Rattle.channel_tables.specs.Tables.{windows_of};
-ghost use Rattle.table_text.specs.declared.sections.TheConstants.{LINES_LEN};
+ghost use Rattle.table_text.specs.declared.sections.TheConstants.{LINES_LEN, LINE_LEN};
+ghost use Rattle.table_text.specs.declared.line_prefix.TheConstants.{PREFIX_LEN};
 ghost use Rattle.table_text.specs.Sections.{lines_from, run_lines, AreEmpty, AreFilled, Shows};
 ghost use Rattle.table_text.specs.Pieces.{id_text, channel_text, AreTexts, ArePieces};
 
@@ -13,7 +14,7 @@ use crate::line_prefix::{PREFIX_LEN, SHORT_LEN};
 use crate::odometer::Odometer;
 use crate::piece::{Piece, Pieces};
 use channel_tables::Table;
-use devices::chunk::Chunk;
+use devices::chunk::{Chunk, ToBytes, write_part};
 use devices::part::Part;
 
 /// The space for a line: a prefix, the piece of an identifier and that of a channel.
@@ -157,43 +158,65 @@ impl Lines<'_> {
         let channels = &self.table.entries()[from..from + count as usize];
         let last_ids = odometer.last_ids(count);
         let prefix = &odometer.prefix;
+        let pieces = self.pieces;
         if prefix.len <= SHORT_LEN {
             let start = prefix.start();
-            let text = Part {
+            let prefix = Part {
                 buffer: &start,
                 len: prefix.len,
             };
-            store_lines(chunk, self.pieces, text, last_ids, channels);
+            chunk.push_stored(&RunLines {
+                pieces,
+                channels,
+                prefix,
+                last_ids,
+            });
         } else {
-            store_lines(chunk, self.pieces, prefix.part(), last_ids, channels);
+            let prefix = prefix.part();
+            chunk.push_stored(&RunLines {
+                pieces,
+                channels,
+                prefix,
+                last_ids,
+            });
         }
     }
 }
 
-// Appends to a chunk a line for each of these last identifiers and the channel at its place, each line
-// with this prefix.
-#[inline(always)]
-fn store_lines(
-    chunk: &mut Chunk,
-    pieces: &Pieces,
-    prefix: Part<'_>,
-    last_ids: &[u32],
-    channels: &[u16],
-)
-    requires room { length chunk.old + length channels.now * (length (part_text prefix) + 16) + LINE_LEN ≤ CHUNK_LEN }
-    requires buffer { length prefix.buffer.now ≤ PREFIX_LEN }
-    requires texts { AreTexts id_text pieces.now.ids.items × AreTexts channel_text pieces.now.channels.items }
-    requires ids { All (λ id. id < length pieces.now.ids.items) last_ids.now }
-    requires channels { All (λ channel. channel < length pieces.now.channels.items) channels.now }
-    requires count { length last_ids.now ≡ length channels.now }
-    ensures lines { chunk.new ≡ chunk.old ++ run_lines (part_text prefix.entry) last_ids.now channels.now }
-    ensures filled { length chunk.new ≤ length chunk.old + length channels.now * (length (part_text prefix.entry) + 16) }
-{
-    let ids: &[Piece] = &pieces.ids;
-    let ends: &[Piece] = &pieces.channels;
-    for index in 0..channels.len() {
-        let last = ids[last_ids[index] as usize];
-        let end = ends[channels[index] as usize];
-        chunk.push_three(prefix, last.part(), end.part());
+// A line for each of these channels and the last identifier at its place, each line with this prefix.
+#[derive(Clone, Copy)]
+struct RunLines<'t, 'o, 'p> {
+    pieces: &'t Pieces,
+    channels: &'t [u16],
+    prefix: Part<'p>,
+    last_ids: &'o [u32],
+    ghost buffer: { length prefix.buffer.now ≤ PREFIX_LEN },
+    ghost texts: { AreTexts id_text pieces.now.ids.items × AreTexts channel_text pieces.now.channels.items },
+    ghost ids: { All (λ id. id < length pieces.now.ids.items) last_ids.now },
+    ghost below: { All (λ channel. channel < length pieces.now.channels.items) channels.now },
+    ghost count: { length last_ids.now ≡ length channels.now },
+}
+
+impl ToBytes for RunLines<'_, '_, '_> {
+    ghost text = { λ lines. run_lines (part_text lines.prefix) lines.last_ids.now lines.channels.now };
+
+    ghost most = { λ lines. length lines.channels.now * (length (part_text lines.prefix) + 16) };
+
+    ghost room = { λ lines. length lines.channels.now * (length (part_text lines.prefix) + 16) + LINE_LEN };
+
+    // A piece is read right before it is written, so that few registers are needed.
+    #[inline(always)]
+    fn store(&self, bytes: &mut [u8], start: usize) -> usize {
+        let ids: &[Piece] = &self.pieces.ids;
+        let ends: &[Piece] = &self.pieces.channels;
+        let mut end = start;
+        for index in 0..self.channels.len() {
+            end = write_part(bytes, end, self.prefix);
+            let last = ids[self.last_ids[index] as usize];
+            end = write_part(bytes, end, last.part());
+            let channel = ends[self.channels[index] as usize];
+            end = write_part(bytes, end, channel.part());
+        }
+        end
     }
 }

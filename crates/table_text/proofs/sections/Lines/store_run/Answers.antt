@@ -28,20 +28,19 @@ stored t o first count n text ids entries shows run within text_is ids_are entri
     (λ i. run_lines (text_is i) (ids_are i) (take (all i) (drop first (entries_are i))))
     ∙ lines_of_run t first count o shows run within
 
-pub store_lines-requires-else-prefix-le-SHORT_LEN-clause-room :
-    goal.store_lines-requires-else-prefix-le-SHORT_LEN-clause-room
-store_lines-requires-else-prefix-le-SHORT_LEN-clause-room c =
+pub push_stored-requires-else-prefix-le-SHORT_LEN : goal.push_stored-requires-else-prefix-le-SHORT_LEN
+push_stored-requires-else-prefix-le-SHORT_LEN c =
     omega (
       arith,
       c.requires.room,
       fit c.args.self.table.now c.args.odometer.now c.args.first c.args.count _ c.entries.result.now c.requires.shows
-          c.part.ensures.text,
+          c.part-prefix.ensures.text,
     )
 
 pub returns-then-prefix-le-SHORT_LEN-clause-lines : goal.returns-then-prefix-le-SHORT_LEN-clause-lines
 returns-then-prefix-le-SHORT_LEN-clause-lines c =
     let r = c.requires in
-    c.store_lines.ensures.lines
+    c.push_stored.ensures.text
     ∙ ap (λ l. c.args.chunk.now ++ l)
     (stored c.args.self.table.now c.args.odometer.now c.args.first c.args.count _ _ _ _ r.shows r.run r.within
     c.start-start.ensures c.last_ids-last_ids.ensures.ids c.entries.ensures.value (omega arith))
@@ -49,16 +48,16 @@ returns-then-prefix-le-SHORT_LEN-clause-lines c =
 pub returns-else-prefix-le-SHORT_LEN-clause-lines : goal.returns-else-prefix-le-SHORT_LEN-clause-lines
 returns-else-prefix-le-SHORT_LEN-clause-lines c =
     let r = c.requires in
-    c.store_lines-else-prefix-le-SHORT_LEN.ensures.lines
+    c.push_stored-else-prefix-le-SHORT_LEN.ensures.text
     ∙ ap (λ l. c.args.chunk.now ++ l)
     (stored c.args.self.table.now c.args.odometer.now c.args.first c.args.count _ _ _ _ r.shows r.run r.within
-    c.part.ensures.text c.last_ids-last_ids.ensures.ids c.entries.ensures.value (omega arith))
+    c.part-prefix.ensures.text c.last_ids-last_ids.ensures.ids c.entries.ensures.value (omega arith))
 
 pub returns-else-prefix-le-SHORT_LEN-clause-filled : goal.returns-else-prefix-le-SHORT_LEN-clause-filled
 returns-else-prefix-le-SHORT_LEN-clause-filled c =
     omega (
       arith,
-      c.store_lines-else-prefix-le-SHORT_LEN.ensures.filled,
+      c.push_stored-else-prefix-le-SHORT_LEN.ensures.few,
       fit c.args.self.table.now c.args.odometer.now c.args.first c.args.count _ c.entries.result.now c.requires.shows
-          c.part.ensures.text,
+          c.part-prefix.ensures.text,
     )
