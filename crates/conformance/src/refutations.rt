@@ -20,17 +20,19 @@ const REFUTATIONS: [&str; 4] = [
 ];
 
 // Texts that do not, each with the line of its first fault.
-const FAULTS: [(&str, u64, LineFault); 11] = [
+const FAULTS: [(&str, u64, LineFault); 13] = [
     ("5 0 1 2 3", 1, LineFault::Form),
     ("4 0 1 2 3 0", 1, LineFault::NumberNotAscending),
     ("5 -3 0 1 2 3 0", 1, LineFault::UnknownVariable),
     ("5 i 0 -2 0 2 3 0", 1, LineFault::Form),
     ("5 i 0 2 -2 0 2 3 0", 1, LineFault::Exchange),
     ("5 c 0 1 -2 0 2 3 0", 1, LineFault::Exchange),
-    ("5 i 0 1 -2 0 1 3 0", 1, LineFault::NoConflict),
-    ("1 d 3 0\n5 0 1 2 3 0", 2, LineFault::UnknownHint),
-    ("5 0 1 2 3 4 0", 1, LineFault::HintNotUnit),
-    ("5 0 1 2 0", 1, LineFault::NoConflict),
+    ("5 i 0 1 -2 0 1 3 0", 1, LineFault::OneLeft(3)),
+    ("1 d 3 0\n5 0 1 2 3 0", 2, LineFault::UnknownHint(3)),
+    ("5 0 1 2 3 4 0", 1, LineFault::EarlyConflict(3)),
+    ("5 0 3 1 2 0", 1, LineFault::SeveralLeft(3)),
+    ("5 0 1 2 0", 1, LineFault::OneLeft(2)),
+    ("5 -1 0 0", 1, LineFault::NoHints),
     ("5 -1 0 2 3 0\n", 2, LineFault::NoEmptyClause),
 ];
 

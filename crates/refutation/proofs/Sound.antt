@@ -2,7 +2,6 @@
 use Rattle.std.proofs.Common.{◌≡◌, ◌==◌, ℕ, ◌-◌, ◌<◌, Bool, true, false, ◌&&◌, ◌||◌, cond, ltb, List, [], ◌∷◌, Option, None, Some, IfSome, All, map, get_or, slice_get, refl, sym, ◌∙◌, subst}
 use Rattle.std.specs.List.{list_any, list_all}
 use Rattle.std.proofs.lemmas.Bool.{ltb-true}
-use Rattle.std.proofs.lemmas.List.Elements.{All-map}
 use Rattle.std.proofs.lemmas.Option.{slice_get_within, get_or_from_slice_get}
 use Rattle.channel_tables.specs.Tables.{ChannelTable}
 use Rattle.table_formula.specs.Clauses.{is_true_literal, Holds}
@@ -45,9 +44,11 @@ follows true b c o h = cc
 follows false false c o h = cc
 follows false true false o h = cc
 follows false true true outcome.Follows h = (refl, refl, refl)
-follows false true true outcome.UnknownHint h = cc
-follows false true true outcome.HintNotUnit h = cc
-follows false true true outcome.NoConflict h = cc
+follows false true true (outcome.UnknownHint hint) h = cc
+follows false true true (outcome.SeveralLeft hint) h = cc
+follows false true true (outcome.EarlyConflict hint) h = cc
+follows false true true (outcome.OneLeft hint) h = cc
+follows false true true outcome.NoHints h = cc
 
 and_true : (a b : Bool) → (a && b) ≡ true → (a ≡ true) × (b ≡ true)
 and_true true b h = (refl, h)
@@ -66,21 +67,20 @@ any_same n q r f same (l ∷ ls) known =
 module _ (p : Problem) (steps : StepsAreSound) (keep : ExchangesKeepSolutions) where
   -- the clauses that hints name hold
   hints_hold : (d : Derivation) (hints : List ℕ) → AllHold p d → (t : ChannelTable) → IsSolution p t
-      → All (λ hint. IfSome hint (Holds (values_of p t))) (map d.clauses hints)
-  hints_hold d hints hold t solution =
-      All-map (λ hint. IfSome hint (Holds (values_of p t))) d.clauses hints (λ k other within. hold t solution (get_or hints k other))
+      → All (λ hint. IfSome (d.clauses hint) (Holds (values_of p t))) hints
+  hints_hold d hints hold t solution = λ k other within. hold t solution (get_or hints k other)
 
   -- an added clause holds for a table: after an exchange since what it becomes holds for the table after that exchange
   new_holds : (d : Derivation) (by : Option Exchange) (number : ℕ) (clause : List Literal) (hints : List ℕ) → AllHold p d
       → line_fault p d (Some (Addition by number clause hints)) ≡ None → (t : ChannelTable) → IsSolution p t → Holds (values_of p t) clause
   new_holds d None number clause hints hold right t solution =
-      steps (values_of p t) clause (map d.clauses hints) (follows _ _ true _ right).2 (hints_hold d hints hold t solution)
+      steps (values_of p t) d.clauses clause hints (follows _ _ true _ right).2 (hints_hold d hints hold t solution)
   new_holds d (Some x) number clause hints hold right t solution =
       let is = follows _ _ _ _ right in
       let other = keep p t x is.1 solution in
       let u : ChannelTable = other.0 in
       let holds : Holds (values_of p u) (map (exchanged_literal p x) clause) =
-      steps (values_of p u) (map (exchanged_literal p x) clause) (map d.clauses hints) is.2 (hints_hold d hints hold u other.1) in
+      steps (values_of p u) d.clauses (map (exchanged_literal p x) clause) hints is.2 (hints_hold d hints hold u other.1) in
       sym (any_same (variable_count p) (is_true_literal (values_of p u)) (is_true_literal (values_of p t)) (exchanged_literal p x) other.2 clause is.0) ∙ holds
 
   hold_after : (d : Derivation) (line : Option Line) → AllHold p d → line_fault p d line ≡ None → AllHold p (after_line d line)

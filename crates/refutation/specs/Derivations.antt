@@ -46,9 +46,11 @@ is_known p clause = list_all (λ l. nat_lt l.variable (variable_count p)) clause
 -- what is wrong with hints that show this of a clause
 abbrev pub hints_fault : Outcome → Option LineFault
 hints_fault outcome.Follows = None
-hints_fault outcome.UnknownHint = Some fault.UnknownHint
-hints_fault outcome.HintNotUnit = Some fault.HintNotUnit
-hints_fault outcome.NoConflict = Some fault.NoConflict
+hints_fault (outcome.UnknownHint hint) = Some (fault.UnknownHint hint)
+hints_fault (outcome.SeveralLeft hint) = Some (fault.SeveralLeft hint)
+hints_fault (outcome.EarlyConflict hint) = Some (fault.EarlyConflict hint)
+hints_fault (outcome.OneLeft hint) = Some (fault.OneLeft hint)
+hints_fault outcome.NoHints = Some fault.NoHints
 
 -- whether a step may be after this exchange: there is none, or tables that solve the problem do so after it
 abbrev pub may_exchange : Problem → Option Exchange → Bool
@@ -66,7 +68,7 @@ abbrev pub step_fault : Problem → Derivation → Option Exchange → ℕ → L
 step_fault p d exchange number clause hints =
     if nat_le number d.newest then Some fault.NumberNotAscending
     else if is_known p clause then
-    (if may_exchange p exchange then hints_fault (step_outcome (after_exchange p exchange clause) (map d.clauses hints))
+    (if may_exchange p exchange then hints_fault (step_outcome d.clauses (after_exchange p exchange clause) hints)
     else Some fault.Exchange)
     else Some fault.UnknownVariable
 

@@ -1,11 +1,11 @@
 -- What the hints of a step show: unit propagation from the negation of a clause.
-use Rattle.std.specs.Prelude.{Bool, true, false, not, ◌||◌, List, [], ◌∷◌, Option, None, Some, filter}
+use Rattle.std.specs.Prelude.{ℕ, Bool, true, false, not, ◌||◌, List, [], ◌∷◌, Option, None, Some, filter, option_map}
 use Rattle.table_formula.specs.Clauses.{is_same, negated, has_literal}
 use Rattle.table_formula.specs.declared.literal.Literal.{Literal}
 use Rattle.refutation.specs.declared.marks.Remaining.{Remaining}
 use Rattle.refutation.specs.declared.marks.Remaining.TheVariants.{Nothing, One, Several}
 use Rattle.refutation.specs.declared.outcome.Outcome.{Outcome}
-use Rattle.refutation.specs.declared.outcome.Outcome.TheVariants.{Follows, UnknownHint, HintNotUnit, NoConflict}
+use Rattle.refutation.specs.declared.outcome.Outcome.TheVariants.{Follows, UnknownHint, SeveralLeft, EarlyConflict, OneLeft, NoHints}
 
 -- the literals of a clause that are not known to be false
 abbrev pub left_of : (Literal → Bool) → List Literal → List Literal
@@ -18,25 +18,27 @@ remaining_of (l ∷ []) = One l
 remaining_of (l ∷ m ∷ ls) = Several
 
 -- whether there is no further hint
-abbrev pub is_last : List (Option (List Literal)) → Bool
+abbrev pub is_last : List ℕ → Bool
 is_last [] = true
 is_last (hint ∷ hints) = false
 
--- what is known once a hint's clause has these literals left: its one literal is true from then on
-abbrev pub after_hint : Remaining → Bool → (Literal → Outcome) → Outcome
-after_hint Nothing true next = Follows
-after_hint Nothing false next = HintNotUnit
-after_hint (One l) last next = next l
-after_hint Several last next = HintNotUnit
+-- what a hint shows whose clause has these literals left, if it names one, and whether it is the last one: of a hint that
+-- is not, the one literal is true from then on
+abbrev pub after_hint : ℕ → Option Remaining → Bool → (Literal → Outcome) → Outcome
+after_hint hint None last next = UnknownHint hint
+after_hint hint (Some Nothing) true next = Follows
+after_hint hint (Some Nothing) false next = EarlyConflict hint
+after_hint hint (Some (One l)) true next = OneLeft hint
+after_hint hint (Some (One l)) false next = next l
+after_hint hint (Some Several) last next = SeveralLeft hint
 
--- what the clauses of the hints show, in order, where these literals are known to be false
-abbrev pub outcome_of : (Literal → Bool) → List (Option (List Literal)) → Outcome
-outcome_of is_false [] = NoConflict
-outcome_of is_false (None ∷ hints) = UnknownHint
-outcome_of is_false (Some clause ∷ hints) =
-    after_hint (remaining_of (left_of is_false clause)) (is_last hints)
-    (λ l. outcome_of (λ k. is_false k || is_same k (negated l)) hints)
+-- what hints show, in order, that name these clauses, where these literals are known to be false
+abbrev pub outcome_of : (ℕ → Option (List Literal)) → (Literal → Bool) → List ℕ → Outcome
+outcome_of clauses is_false [] = NoHints
+outcome_of clauses is_false (hint ∷ hints) =
+    after_hint hint (option_map (λ clause. remaining_of (left_of is_false clause)) (clauses hint)) (is_last hints)
+    (λ l. outcome_of clauses (λ k. is_false k || is_same k (negated l)) hints)
 
--- what the hints show of a clause: all its literals are taken to be false
-abbrev pub step_outcome : List Literal → List (Option (List Literal)) → Outcome
-step_outcome clause hints = outcome_of (has_literal clause) hints
+-- what hints that name these clauses show of a clause: all its literals are taken to be false
+abbrev pub step_outcome : (ℕ → Option (List Literal)) → List Literal → List ℕ → Outcome
+step_outcome clauses clause hints = outcome_of clauses (has_literal clause) hints

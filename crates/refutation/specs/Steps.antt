@@ -8,5 +8,5 @@ use Rattle.refutation.specs.declared.outcome.Outcome.TheVariants.{Follows}
 -- a clause that follows from the clauses of the hints holds wherever these hold
 abbrev pub StepsAreSound : Type 0
 StepsAreSound =
-    (values : ℕ → Bool) (clause : List Literal) (hints : List (Option (List Literal)))
-    → step_outcome clause hints ≡ Follows → All (λ hint. IfSome hint (Holds values)) hints → Holds values clause
+    (values : ℕ → Bool) (clauses : ℕ → Option (List Literal)) (clause : List Literal) (hints : List ℕ)
+    → step_outcome clauses clause hints ≡ Follows → All (λ hint. IfSome (clauses hint) (Holds values)) hints → Holds values clause

@@ -28,7 +28,7 @@ pub(crate) struct Checker<'f> {
 }
 
 impl<'f> Checker<'f> {
-    ghost use Rattle.std.specs.Prelude.{◌<◌, None, IsTrue, IfOk, IfErr, OnOk, map};
+    ghost use Rattle.std.specs.Prelude.{◌<◌, None, IsTrue, IfOk, IfErr, OnOk};
     ghost use Rattle.refutation.specs.Hints.{outcome_of};
     ghost use Rattle.refutation.specs.Marked.{is_marked};
     ghost use Rattle.refutation.specs.Derivations.{opening, hints_fault, is_known, step_fault, line_fault, with_clause, after_line};
@@ -126,13 +126,15 @@ impl<'f> Checker<'f> {
     fn fault_of_hints(&mut self, hints: &[u64]) -> Option<LineFault>
         ensures problem { problem_of self.new ≡ problem_of self.old }
         ensures derivation { derivation_of self.new ≡ derivation_of self.old }
-        ensures value { result ≡ hints_fault (outcome_of (is_marked self.old.marks) (map (clause_of self.old.clauses) hints.now)) }
+        ensures value { result ≡ hints_fault (outcome_of (clause_of self.old.clauses) (is_marked self.old.marks) hints.now) }
     {
         match outcome_of_hints(&self.clauses, &mut self.marks, &mut self.room, hints) {
             Outcome::Follows => None,
-            Outcome::UnknownHint => Some(LineFault::UnknownHint),
-            Outcome::HintNotUnit => Some(LineFault::HintNotUnit),
-            Outcome::NoConflict => Some(LineFault::NoConflict),
+            Outcome::UnknownHint(hint) => Some(LineFault::UnknownHint(hint)),
+            Outcome::SeveralLeft(hint) => Some(LineFault::SeveralLeft(hint)),
+            Outcome::EarlyConflict(hint) => Some(LineFault::EarlyConflict(hint)),
+            Outcome::OneLeft(hint) => Some(LineFault::OneLeft(hint)),
+            Outcome::NoHints => Some(LineFault::NoHints),
         }
     }
 

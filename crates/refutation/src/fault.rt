@@ -24,13 +24,16 @@ pub enum LineFault {
     UnknownVariable,
     /// The tables of the problem do not stay such tables by the exchange.
     Exchange,
-    /// A hint names no clause.
-    UnknownHint,
-    /// The clause of a hint has several literals that are not known to be false, or it has none and
-    /// another hint follows.
-    HintNotUnit,
-    /// There is no hint after which the literals of a clause are all known to be false.
-    NoConflict,
+    /// This hint names no clause.
+    UnknownHint(u64),
+    /// The clause of this hint has several literals that are not known to be false.
+    SeveralLeft(u64),
+    /// The clause of this hint has no literal that is not known to be false, and another hint follows.
+    EarlyConflict(u64),
+    /// The clause of this hint, the last one, has one literal that is not known to be false.
+    OneLeft(u64),
+    /// The added clause has no hints.
+    NoHints,
     /// The text ends before the empty clause is added.
     NoEmptyClause,
 }

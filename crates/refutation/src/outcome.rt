@@ -5,11 +5,14 @@
 pub enum Outcome {
     /// The clause of the step follows from the clauses of the hints.
     Follows,
-    /// There is no clause with the number of a hint.
-    UnknownHint,
-    /// The clause of a hint that is not the last does not have exactly one literal that is not known
-    /// to be false, or that of the last has several.
-    HintNotUnit,
-    /// The clause of the last hint has a literal that is not known to be false, or there is no hint.
-    NoConflict,
+    /// There is no clause with the number of this hint.
+    UnknownHint(u64),
+    /// The clause of this hint has several literals that are not known to be false.
+    SeveralLeft(u64),
+    /// The clause of this hint, which is not the last one, has only literals that are known to be false.
+    EarlyConflict(u64),
+    /// The clause of this hint, the last one, has one literal that is not known to be false.
+    OneLeft(u64),
+    /// There is no hint.
+    NoHints,
 }

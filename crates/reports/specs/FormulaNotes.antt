@@ -12,10 +12,10 @@ use Rattle.reports.specs.declared.problem.ProblemFault.{ProblemFault}
 use Rattle.reports.specs.declared.problem.ProblemFault.TheVariants as problem
 
 abbrev pub variables_note : List ℕ
-variables_note = codes "nbhd: a formula has a variable for each window and channel, and at most 4194304 of them\n"
+variables_note = codes "nbhd: a formula has a variable for each window and channel, and at most 4194304 of them; take fewer identifiers or channels\n"
 
 abbrev pub clauses_note : List ℕ
-clauses_note = codes "nbhd: a formula has at most 16777216 clauses, and a table of this size would need more\n"
+clauses_note = codes "nbhd: a formula has at most 16777216 clauses, and a table of this size would need more; take fewer identifiers or channels\n"
 
 -- the note on m identifiers and t rounds of which there is no formula
 abbrev pub IsFormulaNote : ℕ → ℕ → ProblemFault → List ℕ → Type 0
@@ -32,9 +32,11 @@ line_cause line_fault.NumberNotAscending = codes "the number of this step is not
 line_cause line_fault.UnknownVariable = codes "this clause has a variable that the formula lacks; the numbers may be those of another formula"
 line_cause line_fault.Exchange =
     codes "tables need not stay right by this exchange: identifiers are below `--ids` and channels below `--channels`, and two channels are exchanged only if near and far are at most 1"
-line_cause line_fault.UnknownHint = codes "a hint names no clause: there is none of its number yet, or it was deleted; the options may be those of another formula"
-line_cause line_fault.HintNotUnit = codes "the clause of a hint has several literals left, or none before the last hint; the options may be those of another formula"
-line_cause line_fault.NoConflict = codes "after the last hint no clause has all its literals false; the options may be those of another formula"
+line_cause (line_fault.UnknownHint hint) = codes "hint " ++ (decimal hint ++ codes " names no clause: there is none of its number yet, or it was deleted; the options may be those of another formula")
+line_cause (line_fault.SeveralLeft hint) = codes "several literals of the clause of hint " ++ (decimal hint ++ codes ", or one twice, are not yet known to be false, where at most one may be: the order of hints counts, and the options may be those of another formula")
+line_cause (line_fault.EarlyConflict hint) = codes "all literals of the clause of hint " ++ (decimal hint ++ codes " are known to be false, so it has to be the last one: leave out those behind it; the options may be those of another formula")
+line_cause (line_fault.OneLeft hint) = codes "the clause of hint " ++ (decimal hint ++ codes ", the last one, has a literal that is not known to be false: a hint is missing, or the options may be those of another formula")
+line_cause line_fault.NoHints = codes "this step has no hints: behind the 0 of its clause stand the numbers of the clauses from which it follows, and then 0"
 line_cause line_fault.NoEmptyClause = codes "the text ends here, before the empty clause"
 
 -- the start of the note on a line: its number, counted from 1, and what is wrong with it
@@ -55,6 +57,6 @@ pub record IsLineNote (text : List ℕ) (number : ℕ) (f : LineFault) (note : L
 
 -- the note on a text that is no refutation; OutOfMemory has none
 abbrev pub IsRefutationNote : List ℕ → RefuteError → List ℕ → Type 0
-IsRefutationNote text refute.TooLong note = note ≡ codes "nbhd: the text of a refutation has at most 134217728 bytes\n"
+IsRefutationNote text refute.TooLong note = note ≡ codes "nbhd: the text of a refutation has at most 134217728 bytes; `tools/lrat` leaves out what is not needed\n"
 IsRefutationNote text (refute.At number f) note = IsLineNote text number f note
 IsRefutationNote text refute.OutOfMemory note = note ≡ codes ""

@@ -35,9 +35,11 @@ line_fault_number line_fault.Form = 2
 line_fault_number line_fault.NumberNotAscending = 3
 line_fault_number line_fault.UnknownVariable = 4
 line_fault_number line_fault.Exchange = 9
-line_fault_number line_fault.UnknownHint = 5
-line_fault_number line_fault.HintNotUnit = 6
-line_fault_number line_fault.NoConflict = 7
+line_fault_number (line_fault.UnknownHint hint) = 5
+line_fault_number (line_fault.SeveralLeft hint) = 6
+line_fault_number (line_fault.EarlyConflict hint) = 6
+line_fault_number (line_fault.OneLeft hint) = 7
+line_fault_number line_fault.NoHints = 7
 line_fault_number line_fault.NoEmptyClause = 8
 
 -- the line of a text that is no refutation; OutOfMemory has none

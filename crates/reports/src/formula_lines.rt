@@ -55,9 +55,9 @@ fn number_of(fault: LineFault) -> u32
         LineFault::NumberNotAscending => 3,
         LineFault::UnknownVariable => 4,
         LineFault::Exchange => 9,
-        LineFault::UnknownHint => 5,
-        LineFault::HintNotUnit => 6,
-        LineFault::NoConflict => 7,
+        LineFault::UnknownHint(_) => 5,
+        LineFault::SeveralLeft(_) | LineFault::EarlyConflict(_) => 6,
+        LineFault::OneLeft(_) | LineFault::NoHints => 7,
         LineFault::NoEmptyClause => 8,
     }
 }

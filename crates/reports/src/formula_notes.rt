@@ -1,7 +1,7 @@
 //! The notes on numbers of which there is no formula, and on a text that is no refutation. Each call
 //! fails only if memory was refused.
 
-ghost use Rattle.std.specs.Prelude.{◌≡◌, ◌≤◌, IfOk, string_bytes};
+ghost use Rattle.std.specs.Prelude.{◌≡◌, ◌≤◌, ◌++◌, IfOk, OnOk, string_bytes};
 ghost use Rattle.win_index.specs.declared.limits.TheConstants.{MAX_ROUNDS};
 ghost use Rattle.reports.specs.FormulaNotes as notes;
 
@@ -12,6 +12,7 @@ use node_program::OutOfMemory;
 use refutation::{LineFault, RefuteError};
 use source_places::{from_line, write_marked_line};
 use std::alloc::{AllocError, Global};
+use std::fmt::Write;
 
 // Returns the note on numbers of identifiers and rounds of which there is no formula.
 pub(crate) fn formula_note(
@@ -27,11 +28,11 @@ pub(crate) fn formula_note(
         ProblemFault::IdsOutOfRange | ProblemFault::TooManyWindows => ids_note(alloc, rounds, ids),
         ProblemFault::TooManyVariables => Ok(String::from_str(
             alloc,
-            "nbhd: a formula has a variable for each window and channel, and at most 4194304 of them\n",
+            "nbhd: a formula has a variable for each window and channel, and at most 4194304 of them; take fewer identifiers or channels\n",
         )?),
         ProblemFault::TooManyClauses => Ok(String::from_str(
             alloc,
-            "nbhd: a formula has at most 16777216 clauses, and a table of this size would need more\n",
+            "nbhd: a formula has at most 16777216 clauses, and a table of this size would need more; take fewer identifiers or channels\n",
         )?),
     }
 }
@@ -47,7 +48,7 @@ pub(crate) fn refutation_note(
     match fault {
         RefuteError::TooLong => Ok(String::from_str(
             alloc,
-            "nbhd: the text of a refutation has at most 134217728 bytes\n",
+            "nbhd: the text of a refutation has at most 134217728 bytes; `tools/lrat` leaves out what is not needed\n",
         )?),
         RefuteError::At { line, fault } => line_note(alloc, text, line, fault),
         RefuteError::OutOfMemory => Ok(String::new(alloc)),
@@ -70,35 +71,47 @@ fn line_note(alloc: Global, text: &[u8], line: u64, fault: LineFault) -> Result<
 fn line_head(alloc: Global, line: u64, fault: LineFault) -> Result<String, AllocError>
     ensures { IfOk result (λ head. string_bytes head ≡ notes.line_head line fault) }
 {
-    let cause = line_cause(fault);
-    format!(in alloc; "nbhd: line {line}: {cause}")
+    let mut head = format!(in alloc; "nbhd: line {line}: ")?;
+    write_cause(&mut head, fault)?;
+    Ok(head)
 }
 
-// Returns what is wrong with a line of a refutation.
-fn line_cause(fault: LineFault) -> &'static str
-    ensures { result.now ≡ notes.line_cause fault }
+// Writes what is wrong with a line of a refutation.
+fn write_cause(out: &mut String, fault: LineFault) -> Result<(), AllocError>
+    ensures { OnOk result (string_bytes out.new ≡ string_bytes out.old ++ notes.line_cause fault) }
 {
     match fault {
-        LineFault::Form => {
-            "this line is not a step of LRAT, as `5 -1 2 0 3 4 0`, a deletion, as `5 d 3 4 0`, or a comment"
-        }
-        LineFault::NumberNotAscending => {
-            "the number of this step is not above those of the steps before it, or not above those of the formula's clauses: then the options may be those of another formula"
-        }
-        LineFault::UnknownVariable => {
-            "this clause has a variable that the formula lacks; the numbers may be those of another formula"
-        }
-        LineFault::Exchange => {
-            "tables need not stay right by this exchange: identifiers are below `--ids` and channels below `--channels`, and two channels are exchanged only if near and far are at most 1"
-        }
-        LineFault::UnknownHint => {
-            "a hint names no clause: there is none of its number yet, or it was deleted; the options may be those of another formula"
-        }
-        LineFault::HintNotUnit => {
-            "the clause of a hint has several literals left, or none before the last hint; the options may be those of another formula"
-        }
-        LineFault::NoConflict =>
-            "after the last hint no clause has all its literals false; the options may be those of another formula",
-        LineFault::NoEmptyClause => "the text ends here, before the empty clause",
+        LineFault::Form => out.push_str(
+            "this line is not a step of LRAT, as `5 -1 2 0 3 4 0`, a deletion, as `5 d 3 4 0`, or a comment",
+        ),
+        LineFault::NumberNotAscending => out.push_str(
+            "the number of this step is not above those of the steps before it, or not above those of the formula's clauses: then the options may be those of another formula",
+        ),
+        LineFault::UnknownVariable => out.push_str(
+            "this clause has a variable that the formula lacks; the numbers may be those of another formula",
+        ),
+        LineFault::Exchange => out.push_str(
+            "tables need not stay right by this exchange: identifiers are below `--ids` and channels below `--channels`, and two channels are exchanged only if near and far are at most 1",
+        ),
+        LineFault::NoHints => out.push_str(
+            "this step has no hints: behind the 0 of its clause stand the numbers of the clauses from which it follows, and then 0",
+        ),
+        LineFault::NoEmptyClause => out.push_str("the text ends here, before the empty clause"),
+        LineFault::UnknownHint(hint) => write!(
+            out,
+            "hint {hint} names no clause: there is none of its number yet, or it was deleted; the options may be those of another formula"
+        ),
+        LineFault::SeveralLeft(hint) => write!(
+            out,
+            "several literals of the clause of hint {hint}, or one twice, are not yet known to be false, where at most one may be: the order of hints counts, and the options may be those of another formula"
+        ),
+        LineFault::EarlyConflict(hint) => write!(
+            out,
+            "all literals of the clause of hint {hint} are known to be false, so it has to be the last one: leave out those behind it; the options may be those of another formula"
+        ),
+        LineFault::OneLeft(hint) => write!(
+            out,
+            "the clause of hint {hint}, the last one, has a literal that is not known to be false: a hint is missing, or the options may be those of another formula"
+        ),
     }
 }

@@ -11,6 +11,12 @@ const BINARY: &str = "; this may be a proof in binary: `cadical --no-binary` wri
 const FRAT: &str =
     "; this looks like a proof in FRAT: let the solver write LRAT, or DRAT for `tools/lrat`";
 
+const UNFINISHED: &str =
+    "; a refutation ends with a step without literals, as in `22 0 20 21 10 0`";
+
+const PART_OF_TABLE: &str =
+    "; this looks like a table without its first lines: a whole one is for `nbhd audit` and `nbhd apply`";
+
 // Returns whether a line has a blank too many.
 fn has_wrong_blanks(line: &[u8]) -> bool {
     let is_doubled = (1..line.len()).any(|index| line[index - 1] == b' ' && line[index] == b' ');
@@ -128,6 +134,14 @@ fn is_step_like_proof(rest: &[u8]) -> bool {
     line_kind(line) == Some(TextKind::Proof) && line_kind(next_line) == Some(TextKind::Refutation)
 }
 
+// Returns whether a line is the second one of a table, or that of a window.
+fn is_of_table(line: &[u8]) -> bool {
+    let is_of_numbers = line
+        .iter()
+        .all(|byte| matches!(*byte, b'0'..=b'9' | b' ' | b':'));
+    line.starts_with(b"rounds ") || is_of_numbers && has_part(line, b" : ")
+}
+
 // Returns whether a line is of positive numbers, and then one 0.
 fn is_of_hints(line: &[u8]) -> bool {
     let has_bytes = line.iter().all(|byte| matches!(*byte, b'0'..=b'9' | b' '));
@@ -163,6 +177,9 @@ fn form_advice(rest: &[u8]) -> &'static str {
     }
     if is_broken_step(rest) {
         return "; the hints of this step are missing: if they stand on the next line, join the two";
+    }
+    if is_of_table(line) {
+        return PART_OF_TABLE;
     }
     if line.contains(&b'\t') {
         return "; words are parted by single blanks, and this line has a tab";
@@ -253,6 +270,8 @@ fn lists_advice(step: &[u8], lists: &[u8]) -> &'static str {
             "; behind `i` stand two identifiers, then two lists, and each ends with 0",
         [b' ', b'c', b' ', ..] if count < 2 =>
             "; behind `c` stand two channels, then two lists, and each ends with 0",
+        _ if !is_ended && count == 0 =>
+            "; a step has two lists behind its number, and each ends with 0",
         _ if !is_ended => "; each list ends with 0",
         _ => ended_advice(count, lists),
     }
@@ -262,7 +281,8 @@ fn lists_advice(step: &[u8], lists: &[u8]) -> &'static str {
 fn ended_advice(count: usize, lists: &[u8]) -> &'static str {
     match count {
         0 | 1 => "; a step has two lists, and each ends with 0",
-        2 if has_negative_hint(lists) => "; hints have no minus sign: steps by RAT are not taken",
+        2 if has_negative_hint(lists) =>
+            "; hints have no minus sign: literals stand before the first 0, and steps by RAT are not taken",
         2 => "",
         _ => "; a step has two lists, and each ends with one 0",
     }
@@ -279,7 +299,7 @@ pub(crate) fn line_advice(text: &[u8], rest: &[u8], fault: LineFault) -> &'stati
         },
         LineFault::NoEmptyClause if text.is_empty() =>
             "; the text is empty, so no file was given, or an empty one",
-        LineFault::NoEmptyClause => kind_advice(text, TextKind::Refutation).unwrap_or(""),
+        LineFault::NoEmptyClause => kind_advice(text, TextKind::Refutation).unwrap_or(UNFINISHED),
         _ => "",
     }
 }

@@ -1,4 +1,4 @@
-use Rattle.std.proofs.Common.{◌≡◌, drop, map, length}
+use Rattle.std.proofs.Common.{◌≡◌, drop, length}
 use Rattle.refutation.specs.Hints.{outcome_of}
 use Rattle.refutation.specs.Marked.{is_marked, variables_of}
 use Rattle.refutation.specs.Stored.{clause_of}
@@ -6,7 +6,7 @@ use Rattle.refutation.proofs.hints.outcome_of_hints.Given as goal
 
 abbrev pub invariant-loop-i : goal.invariant-loop-i
 invariant-loop-i l = record {
-  value : outcome_of (is_marked l.marks) (map (clause_of l.clauses) (drop l.i l.hints)) ≡ outcome_of (is_marked l.fn.marks) (map (clause_of l.clauses) l.hints);
+  value : outcome_of (clause_of l.clauses) (is_marked l.marks) (drop l.i l.hints) ≡ outcome_of (clause_of l.clauses) (is_marked l.fn.marks) l.hints;
   variables : variables_of l.marks ≡ variables_of l.fn.marks;
   room : length l.room ≡ length l.fn.room;
 }
