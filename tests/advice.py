@@ -9,6 +9,8 @@ from grammar import OPERANDS, TOKENS
 KEYWORDS = ["rounds", "channels", "registers", "start", "round", "send", "left", "right", "finish"]
 OPERAND = re.compile(r"id|L|R|r[0-9]|[0-9]+")
 WORD = re.compile(r"[A-Za-z0-9]+")
+# A number with a comma before three digits.
+GROUPED = re.compile(r"(?<![A-Za-z0-9])[0-9]+,[0-9]{3}$")
 
 
 class Place:
@@ -130,14 +132,25 @@ ROWS = [
         lambda place: place.token() == "," and not place.open_operations() and "finish" in place.before,
     ),
     (r"each assignment has one register", lambda place: place.token() == "," and place.is_in("`=`")),
-    (r"a number has no blanks", lambda place: is_number(place.last()) and is_number(place.token())),
+    (
+        r"a number has no blanks(?:, and operands are separated by commas)?",
+        lambda place: is_number(place.last()) and is_number(place.token()),
+    ),
+    (
+        r"these are more operands than the operation takes: numbers have no commas, as in `1000`",
+        lambda place: place.is_in("`)`") and place.token() == "," and GROUPED.search(place.text[: place.at]),
+    ),
+    (
+        r"numbers have no commas, as in `1000`",
+        lambda place: not place.open_operations() and re.search(r"(?<![A-Za-z0-9])[0-9]+$", place.text[: place.at]) and place.token() == ",",
+    ),
     (
         r"each side has a `send` of its own: `send left ..`, then `send right ..`",
         lambda place: place.before[-1] == "and" and {place.before[-2], place.token()} <= {"left", "right"},
     ),
     (
         r"a round has one `send left` and one `send right`, then each register is assigned",
-        lambda place: place.token() == "send" and place.wanted.startswith("the assignment of r"),
+        lambda place: place.token() == "send" and "round" in place.before and place.wanted.startswith("the assignment of r"),
     ),
     (
         r"messages are sent at the start of a round, and there are as many rounds as `rounds` says",
@@ -212,6 +225,7 @@ ROWS = [
     (r"a `\(` is missing in it", lambda place: any(WORD.match(place.text, place.at)[0].startswith(name) for name in OPERANDS)),
     (r"a blank is missing in it", is_joined),
     (r"`=` is only written after the register of an assignment", lambda place: place.token() == "="),
+    (r"an? (?:number|expression) has no `=` before it", lambda place: place.token() == "=" and place.is_in("a number", "an expression")),
     (r"write `eq\(a, b\)` to compare", lambda place: place.token() == "=" and place.ends_expression()),
     (r"an assignment is written with one `=`", lambda place: place.token() == place.last() == "="),
     (r"each assignment has one register: write `eq\(a, b\)` to compare", lambda place: place.token() == "=" and re.fullmatch("r[0-7]", place.last())),
@@ -268,7 +282,11 @@ ROWS = [
     (r"there is no operation of this name: they are .*", lambda place: place.token() not in OPERANDS and place.token(1) == "("),
     # Sentences on the language, where what they speak of is expected.
     (r"a program begins with `rounds`, `channels` and `registers`", lambda place: place.is_in("`rounds`", "`channels`", "`registers`")),
-    (r"a round begins with the word `round`", lambda place: place.is_in("`round`")),
+    (r"a round begins with the word `round`(?:, and messages are sent in rounds alone)?", lambda place: place.is_in("`round`")),
+    (
+        r"messages are sent in rounds alone, and `start` assigns each register",
+        lambda place: place.token() == "send" and "round" not in place.before and place.wanted.startswith("the assignment of r"),
+    ),
     (r"a round begins with `send left` and `send right`", lambda place: place.is_in("`send`")),
     (r"`send left` comes first, then `send right`", lambda place: place.is_in("`left`")),
     (r"`send left` is followed by `send right`", lambda place: place.is_in("`right`")),

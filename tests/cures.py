@@ -118,7 +118,7 @@ def round_brackets(place):
     """Brackets of another form become round ones."""
     end = place.text.find("\n", place.at)
     line = place.text[place.at : end].replace("[", "(").replace("]", ")").replace("{", "(").replace("}", ")")
-    line = line.replace("<", "(").replace(">", ")")
+    line = line.replace("<", "(").replace(">", ")").replace(":", "(")
     return [place.text[: place.at] + line + place.text[end:]]
 
 
@@ -159,9 +159,16 @@ def one_register(place):
     return [without(place, start_of_operand(place), place.at + 1)]
 
 
+def without_commas(place):
+    """The commas in a number are left out."""
+    start = place.text.rfind("\n", 0, place.at) + 1
+    return [place.text[:start] + re.sub(r"(?<=[0-9]),(?=[0-9]{3})", "", place.text[start:])]
+
+
 def digits(place):
-    """Only the digits of a number are kept."""
-    return [replaced(place, re.match("[0-9]+", place.token())[0])]
+    """Only the digits of a number are kept, or the mark between them is left out."""
+    found = re.match("[0-9]+", place.token())
+    return [replaced(place, found[0])] if found else [place.text[: place.at] + place.text[place.at + 1 :]]
 
 
 def whole(place):
@@ -218,15 +225,19 @@ def foreign(change):
 # Advice as a pattern, and the texts that come of it.
 ROWS = [
     (r"a comment begins with `#`", commented),
-    (r"a comment begins with `#`, and .*`(shr|and)\(x, 1\)`", commented_or_by_one),
+    (r"a comment begins with `#`, and .*`(shr|and)\((?:x|r0), 1\)`.*", commented_or_by_one),
+    (r"a comment begins with `#`, and an operation is written before its operands, as in `add\(a, b\)`", commented),
+    (r"(?:these are more operands than the operation takes: )?numbers have no commas, as in `1000`", without_commas),
+    (r"each register is assigned once: leave out this line", without_line),
     (r"registers are `r0` to `r7`(?:, and have no other names)?", register),
     (r"lines (?:end|go on) without a mark|a program begins with `rounds`, without brackets", left_out),
-    (r"an? (?:number|expression) has no mark before it|numbers (?:have no sign|and registers have no `_`)", left_out),
+    (r"an? (?:number|expression) has no (?:mark|`=`) before it|(?:words, )?numbers (?:have no sign|and registers have no `_`)", left_out),
     (r"a program has no such brackets|leave such brackets out: .*|there are no texts in programs", without_both),
     (r"no brackets are allowed here|write a number in digits, without brackets", without_brackets),
     (r"write `ne\(a, b\)`, or `eq\(x, 0\)` where x is to be 0", not_equal),
     (r"write `(\w+)\(([abck, 1]+)\)`(?: .*|, which .*)?", written),
-    (r"there is no \w+: (?:twice x|half of x|that of 2|2 to the power k) is `(shl|shr|and)\([x1], [1k]\)`", by_one),
+    (r"there is no \w+: (?:twice x|half of x|2 to the power k) is `(shl|shr)\([x1], [1k]\)`", by_one),
+    (r"there is no remainder: by 2 it is `(and)\(r0, 1\)`, by 16 `and\(r0, 15\)`(?:; .*)?", by_one),
     (r"an operation is written before its operands, as in `add\(a, b\)`", lambda place: infix(place, place.token())),
     (r"operands are separated by commas", lambda place: in_place_of(place, ",")),
     (r"operands are written in `\(` and `\)`", round_brackets),

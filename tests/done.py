@@ -233,7 +233,7 @@ ROWS = [
         instead,
     ),
     (r"a program begins with `rounds`, `channels` and `registers`", in_header),
-    (r"a round begins with the word `round`", lambda place: [put(place, "round")]),
+    (r"a round begins with the word `round`(?:, and messages are sent in rounds alone)?", lambda place: [put(place, "round")]),
     (r"a round begins with `send left` and `send right`", sent),
     (r"`send left` comes first, then `send right`", left_first),
     (r"`send left` is followed by `send right`", right_next),

@@ -239,7 +239,7 @@ INFIX = [
         "r0 = id",
         "r0 = id % 3",
         "line 5, column 9: unknown word `%`; expected `round`; a comment begins with `#`, "
-        "and there is no remainder: that of 2 is `and(x, 1)`",
+        "and there is no remainder: by 2 it is `and(r0, 1)`, by 16 `and(r0, 15)`",
     ),
     (
         "finish r0",
@@ -268,7 +268,7 @@ INFIX = [
     (
         "finish r0",
         "finish 1,000",
-        "line 10, column 9: unexpected `,`; expected the end of the text; `finish` has one expression, and commas only separate operands",
+        "line 10, column 9: unexpected `,`; expected the end of the text; numbers have no commas, as in `1000`",
     ),
     ("finish r0", "finish 1e3", "line 10, column 8: unknown word `1e3`; expected an expression; a number has only digits"),
     ("finish r0", "finish 5u", "line 10, column 8: unknown word `5u`; expected an expression; a number has only digits"),
@@ -360,7 +360,11 @@ COPIED = [
     ("send left", "sendleft", "line 7, column 1: unknown word `sendleft`; expected `send`; a blank is missing in it"),
     ("r0, L), 1", "r0 L), 1", "line 9, column 21: unexpected `L`; expected `,`; a comma is missing before it"),
     ("shl(ldb(r0, L), 1)", "shl(ldb(r0, L) 1)", "line 9, column 25: unexpected `1`; expected `,`; a comma is missing before it"),
-    ("finish r0", "finish add(1 000, 2)", "line 10, column 14: unexpected `000`; expected `,`\n"),
+    (
+        "finish r0",
+        "finish add(1 000, 2)",
+        "line 10, column 14: unexpected `000`; expected `,`; a number has no blanks, and operands are separated by commas\n",
+    ),
     (
         "finish r0",
         "output = r0",
@@ -478,7 +482,7 @@ TABLES = [
     (b"nbhd-table 1\nrounds 0 id 2 channels 2\n0 : 0\n", 2, "`ids` and a number come second"),
     (b"nbhd-table 1\nrounds 0 ids 2 colours 2\n0 : 0\n", 2, "`channels` and a number come third"),
     (b"nbhd-table 1\nrounds 0 ids two channels 2\n0 : 0\n", 2, "`ids` and a number come second"),
-    (b"nbhd-table 1\nrounds 0, ids 2, channels 2\n0 : 0\n", 2, "this line has no commas"),
+    (b"nbhd-table 1\nrounds 0, ids 2, channels 2\n0 : 0\n", 2, "it is written without commas"),
     (b"nbhd-table 1\nrounds 0 ids 2 channels 0\n0 : 0\n", 2, "`channels` is 1 to 4096"),
     (b"nbhd-table 1\nrounds 0 ids 2 channels 5000\n0 : 0\n", 2, "`channels` is 1 to 4096"),
     (b"nbhd-table 1\nrounds 5 ids 12 channels 2\n", 2, "`rounds` is 0 to 4"),

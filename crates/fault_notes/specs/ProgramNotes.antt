@@ -5,7 +5,7 @@ use Rattle.node_program.specs.declared.limits.TheConstants.{MAX_CHANNELS}
 use Rattle.win_index.specs.ShapeRange.{IsShape}
 use Rattle.lang_check.specs.declared.acceptance.CheckFault.{CheckFault}
 use Rattle.lang_check.specs.declared.acceptance.CheckFault.TheVariants as check
-use Rattle.node_program.specs.Term.{ProgramTree}
+use Rattle.node_program.specs.Term.{ProgramTree, Term, One}
 use Rattle.fault_notes.specs.Placed.{placed_note}
 use Rattle.fault_notes.specs.FaultTokens.{place_of_cause}
 use Rattle.fault_notes.specs.BoundNotes.{growth_text}
@@ -51,6 +51,11 @@ bound_note b = if nat_lt b MAX_CHANNELS
     ++ (decimal b ++ (codes ": write `channels " ++ (decimal (b + 1) ++ codes "` or more\n")))
     else codes "nbhd: channels may be as large as " ++ (decimal b ++ codes ", and `channels` is at most 4096\n")
 
+-- the line on a `not` that gives the channel
+abbrev pub not_line : Term → List ℕ
+not_line (One o a) = codes "nbhd: `not` changes all 32 bits of a number: `eq(x, 0)` exchanges 0 and 1\n"
+not_line _ = codes ""
+
 -- The note on the refusal of the program p of this text for `ids` identifiers. A register that the program lacks and a
 -- misplaced `id`, `L` or `R` have the place of the first lexeme that is the cause.
 abbrev pub IsCheckNote : List ℕ → ProgramTree → ℕ → CheckFault → List ℕ → Type 0
@@ -62,4 +67,4 @@ IsCheckNote text p ids check.IdOutsideStart note =
     note ≡ placed_note text id_cause (place_of_cause text check.IdOutsideStart)
 IsCheckNote text p ids check.MessageOutsideStep note =
     note ≡ placed_note text message_cause (place_of_cause text check.MessageOutsideStep)
-IsCheckNote text p ids (check.ChannelBound b) note = note ≡ bound_note b ++ growth_text p ids
+IsCheckNote text p ids (check.ChannelBound b) note = note ≡ (bound_note b ++ growth_text p ids) ++ not_line p.finish

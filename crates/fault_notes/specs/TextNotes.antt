@@ -6,6 +6,8 @@ use Rattle.node_lang.specs.declared.expected.Expected.{Expected}
 use Rattle.node_lang.specs.Following.{IsExpected}
 use Rattle.source_places.specs.Heads.{place_head}
 use Rattle.source_places.specs.Shown.{shown, marked_line}
+use Rattle.source_places.specs.KindAdvice.{IsAdviceOn, IsOfKind}
+use Rattle.source_places.specs.declared.kinds.TextKind.TheVariants.{Program}
 use Rattle.fault_notes.specs.Words.{wanted_part, first_word}
 
 -- a word in quotes, as it is shown
@@ -34,6 +36,8 @@ pub record IsTextNote (text : List ℕ) (k : FaultKind) (offset : ℕ) (note : L
   pub is : note ≡ place_head text offset
       ++ (cause_of k (first_word (drop offset text)) wanted ++ (advice ++ 10 ∷ marked_line text offset))
 
--- the note on a text that is too long
-abbrev pub too_long_note : List ℕ
-too_long_note = codes "nbhd: a program text has at most 65536 bytes\n"
+-- the note on a text that is too long, with advice if it looks like one of another kind
+pub data IsLongNote (text note : List ℕ) : Type 0 where
+  other : (advice : List ℕ) → IsAdviceOn text Program advice →
+      note ≡ codes "nbhd: a program text has at most 65536 bytes" ++ (advice ++ codes "\n") → IsLongNote text note
+  own : IsOfKind text Program → note ≡ codes "nbhd: a program text has at most 65536 bytes\n" → IsLongNote text note

@@ -286,12 +286,15 @@ pub(crate) fn is_operand(word: &[u8]) -> bool {
 
 // Returns whether two words of the language without a blank between are an expression, and the
 // register of an assignment if `=` follows them; or a keyword and another word. A round or a start
-// with a number is none: lines have no numbers.
-fn are_joined(front: &[u8], back: &[u8], next: &[u8]) -> bool {
+// with a number is none: lines have no numbers. Where an expression can follow, the first is one.
+fn are_joined(front: &[u8], back: &[u8], place: Place) -> bool {
     let is_numbered = is_number(back) && is_one_of("round start", front);
-    let is_assigned = next == b"=".as_slice() && is_operand(front) && matches!(back, [b'r', _]);
+    let is_begun = place.wanted != Expected::Expression || is_operand(front);
+    let is_register = matches!(back, [b'r', _]);
+    let is_assigned = place.next == b"=".as_slice() && is_operand(front) && is_register;
     let has_keyword = is_keyword(front) || is_keyword(back);
-    (has_keyword || is_assigned) && !is_numbered && is_token(front) && is_token(back)
+    let are_words = is_begun && !is_numbered && is_token(front) && is_token(back);
+    (has_keyword || is_assigned) && are_words
 }
 
 // Returns whether the word of a place is two words of the language without a blank between.
@@ -301,11 +304,27 @@ pub(crate) fn is_joined(place: Place) -> bool {
     }
     for split in 1..place.word.len() {
         let (front, back) = place.word.split_at(split);
-        if are_joined(front, back, place.next) {
+        if are_joined(front, back, place) {
             return true;
         }
     }
     false
+}
+
+// Returns whether a text ends with a number.
+fn ends_with_number(text: &[u8]) -> bool {
+    let (_, last) = last_words(text);
+    is_number(last) && text.ends_with(last)
+}
+
+// Returns whether a number with a comma before three digits, as `1,000`, stands before a place, or the
+// comma stands there.
+pub(crate) fn is_grouped(place: Place) -> bool {
+    match (place.before, place.rest) {
+        ([front @ .., b',', b'0'..=b'9', b'0'..=b'9', b'0'..=b'9'], _) => ends_with_number(front),
+        (before, [b',', b'0'..=b'9', b'0'..=b'9', b'0'..=b'9', ..]) => ends_with_number(before),
+        _ => false,
+    }
 }
 
 // Returns whether what is expected at a place follows its word.

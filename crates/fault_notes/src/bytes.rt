@@ -133,7 +133,10 @@ const SIGNS: [(&[u8], &str); 24] = [
     (&[0xe2, 0x88, 0xa8], "; write `or(a, b)`"),
     (&[0xe2, 0x8a, 0x95], "; write `xor(a, b)`"),
     (&[0xe2, 0x86, 0x90], ASSIGNED),
-    (&[0xe2, 0x88, 0x88], "; write ASCII"),
+    (
+        &[0xe2, 0x88, 0x88],
+        "; there are no sets: compare with each number, as in `or(eq(x, 5), eq(x, 6))`",
+    ),
 ];
 
 // Quotation marks at the start of a text in a comment.

@@ -11,8 +11,9 @@
 
 use crate::around::{
     Place, begins_line, follows_comment, follows_expression, follows_first_word, has_comma,
-    has_line_behind, has_operands, has_token, is_doubled, is_end, is_joined, is_no_register,
-    is_number, is_operand, is_register, is_repeated, is_token, is_turned, open_operation,
+    has_line_behind, has_operands, has_token, is_doubled, is_end, is_grouped, is_joined,
+    is_no_register, is_number, is_operand, is_register, is_repeated, is_token, is_turned,
+    open_operation,
 };
 use crate::operations::{is_glued, is_glued_to_number, is_operation};
 use crate::parts::{begins_feed, begins_so, is_based};
@@ -171,7 +172,7 @@ fn fits_text(name: &str, mark: &[u8], place: Place) -> bool {
 // the text behind its first byte.
 fn is_so(name: &str, place: Place) -> bool {
     if is_one_of(
-        "starts-line after-expression after-comment after-first-word repeated",
+        "starts-line after-expression after-comment after-first-word repeated grouped",
         name.as_bytes(),
     ) {
         return is_on_line(name, place);
@@ -183,7 +184,7 @@ fn is_so(name: &str, place: Place) -> bool {
         return has_tokens(name, place);
     }
     if is_one_of(
-        "rounds-follow round-follows glued glued-number based",
+        "rounds-follow round-follows round-before glued glued-number based",
         name.as_bytes(),
     ) {
         return has_word(name, place);
@@ -207,6 +208,9 @@ fn is_on_line(name: &str, place: Place) -> bool {
     }
     if name == "after-first-word" {
         return follows_first_word(place);
+    }
+    if name == "grouped" {
+        return is_grouped(place);
     }
     name == "repeated" && is_repeated(place.before, place.rest)
 }
@@ -237,13 +241,16 @@ fn has_tokens(name: &str, place: Place) -> bool {
     name == "comma-inside" && has_comma(place.rest)
 }
 
-// Returns whether a condition on the word of a place, or on a word behind it, holds.
+// Returns whether a condition on the word of a place, or on a word before or behind it, holds.
 fn has_word(name: &str, place: Place) -> bool {
     if name == "rounds-follow" {
         return has_token(place.rest, Token::Rounds);
     }
     if name == "round-follows" {
         return has_token(place.rest, Token::Round);
+    }
+    if name == "round-before" {
+        return has_token(place.before, Token::Round);
     }
     if name == "glued" {
         return is_glued(place.word);

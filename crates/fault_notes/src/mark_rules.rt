@@ -46,11 +46,19 @@ last L R & name-follows & mark .
 touching & last L R & mark .
 ; a message is one number, without parts
 touching & not last :number & next left right prev next & mark .
-; a register is one number, without parts: what the neighbours sent is `L` and `R`
+; values have no parts: what the neighbours sent is `L` and `R`
+touching & last id & name-follows & mark .
+; values have no parts
 touching & last :number & mark 'b 'd 'h 'o
 ; numbers are decimal
+touching & last :number & digit-follows & mark '
+; a number has only digits
 touching & last :register & mark '
 ; registers are `r0` to `r7`, and have no marks
+touching & last id L R & mark '
+; `id`, `L` and `R` have no marks
+touching & last id & next left right prev next & mark _
+; words have no `_`, and a node knows of its neighbours what they send: `L` and `R`
 touching & not last :number & digit-follows & mark .
 ; bit i of a is `bit(a, i)`
 touching & last L R & mark ->
@@ -140,7 +148,7 @@ next gg
 next times cdot
 ; there is no product: twice x is `shl(x, 1)`
 next bmod mod pmod
-; there is no remainder: that of 2 is `and(x, 1)`
+; there is no remainder: by 2 it is `and(r0, 1)`, by 16 `and(r0, 15)`
 next gets leftarrow
 ; an assignment is written `r0 = ..`
 next :feed
@@ -203,7 +211,7 @@ else
 mark-before-expression
 mark ' "
 ; there are no texts in programs: leave out the quotation marks
-mark @
+mark @ `
 ; an expression has no mark before it
 letter-follows & not mark $r0 $r1 $r2 $r3 $r4 $r5 $r6 $r7 & mark $ &
 ; an expression has no mark before it
@@ -239,10 +247,12 @@ mark +
 ; numbers have no sign
 mark $L $R
 ; an expression has no mark before it
-mark .
+digit-follows & mark .
 ; numbers are whole
-mark :
+mark . :
 ; an expression has no mark before it
+last ( & mark [ {
+; leave such brackets out: an operation has its operands in `(` and `)`, as in `min(r0, 1)`
 mark [ {
 ; leave such brackets out: operands stand in `(` and `)`, after the name of an operation
 else
@@ -260,10 +270,12 @@ else
 > other-mark
 
 mark-before-operands
-mark [ { <
+mark [ { < :
 ; operands are written in `(` and `)`
-mark _
+last bit & digit-follows & mark _
 ; the name of an operation has no `_`: bit 0 of a is `bit(a, 0)`
+mark _
+; the name of an operation has no `_`
 else
 > other-mark
 
@@ -313,7 +325,7 @@ mark : ;
 mark " '
 ; there are no texts in programs
 mark _
-; numbers and registers have no `_`
+; words, numbers and registers have no `_`
 mark $ @
 ; registers are `r0` to `r7`, and have no other names
 mark [ ] { }
@@ -336,6 +348,8 @@ else
 mark-of-operation
 mark -> <-
 ; a program has no arrows
+starts-line & not at comma close & mark * - + < > ~ ! | ^ &
+; a comment begins with `#`, and an operation is written before its operands, as in `add(a, b)`
 mark ~= /= != <>
 ; write `ne(a, b)`, or `eq(x, 0)` where x is to be 0
 mark **
@@ -355,9 +369,11 @@ mark >
 mark *
 ; there is no product: twice x is `shl(x, 1)`
 mark %
-; a comment begins with `#`, and there is no remainder: that of 2 is `and(x, 1)`
+; a comment begins with `#`, and there is no remainder: by 2 it is `and(r0, 1)`, by 16 `and(r0, 15)`
 mark /
 ; a comment begins with `#`, and half of x is `shr(x, 1)`
+touching & mark ++
+; write `add(a, 1)`
 mark +
 ; write `add(a, b)`
 mark -

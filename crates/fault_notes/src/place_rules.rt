@@ -29,6 +29,10 @@ starts-line & not at rounds comma close & mark ==
 ; a comment begins with `#`
 at expression & last =
 ; an assignment is written with one `=`
+at number
+; a number has no `=` before it
+at expression & last finish left right
+; an expression has no `=` before it
 last :end & mark =/= =\= =!=
 ; write `ne(a, b)` to compare
 last :end & mark =:= ==
@@ -51,6 +55,8 @@ last :register & not starts-line & previous left right
 ; the register before it was read as the expression that is sent
 last :register & not starts-line & previous =
 ; each assignment has one register: write `eq(a, b)` to compare
+last :end & not starts-line & not after-first-word
+; write `eq(a, b)` to compare
 else
 ; `=` is only written after the register of an assignment
 
@@ -100,8 +106,14 @@ else
 > operands
 
 comma
+at open
+> expected
 at expression & last , & behind ,
 ; a comma is too many, or an operand is missing before it
+grouped & not open :nothing
+; these are more operands than the operation takes: numbers have no commas, as in `1000`
+grouped
+; numbers have no commas, as in `1000`
 not open :nothing
 > operands
 last :operand & previous left right
@@ -191,7 +203,9 @@ else
 
 known
 at comma & here :number & last :number & not next ) =
-;
+; a number has no blanks, and operands are separated by commas
+at comma & here :operand & next , & not open if
+> second
 at comma & here :operand & not next =
 ; a comma is missing before it
 at comma
@@ -219,6 +233,8 @@ at open & last and & previous left right & here left right
 ; each side has a `send` of its own: `send left ..`, then `send right ..`
 at round
 > round
+at register & here send & not round-before
+; messages are sent in rounds alone, and `start` assigns each register
 at register & here send
 ; a round has one `send left` and one `send right`, then each register is assigned
 at finish & here send
@@ -246,7 +262,7 @@ here finish & round-follows
 here finish
 ; there are as many rounds as `rounds` says, and each is written out
 here send
-; a round begins with the word `round`
+; a round begins with the word `round`, and messages are sent in rounds alone
 no-register
 > no-register
 here :register & next =

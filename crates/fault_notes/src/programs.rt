@@ -9,19 +9,20 @@ ghost use Rattle.lang_check.specs.declared.acceptance.CheckFault.TheVariants as 
 ghost use Rattle.fault_notes.specs.ProgramNotes.{IsMostIds, IsIdsNote, IsCheckNote, register_cause, rounds_take};
 ghost use Rattle.fault_notes.specs.ProgramNotes as notes;
 ghost use Rattle.fault_notes.specs.BoundNotes.{growth_text};
+ghost use Rattle.node_program.specs.Term.{term_of};
 
 use crate::bounds::write_growth;
 use crate::placed::placed_note;
 use lang_check::CheckFault;
 use node_lang::{MAX_CHANNELS, Program};
-use node_program::OutOfMemory;
+use node_program::{Expr, OutOfMemory, UnOp};
 use std::alloc::{AllocError, Global};
 use win_index::{MAX_IDS, MAX_ROUNDS, Shape, count_of_windows};
 
 /// Returns the note on the refusal of the program of a text for `ids` identifiers: the possible
 /// numbers of identifiers, or the cause and the place of the first token that is the cause, or the
-/// bound of the channels and the bounds of the register that makes it so large. Fails if memory was
-/// refused.
+/// bound of the channels, the bounds of the register that makes it so large, and a line on `not` if
+/// that gives the channel. Fails if memory was refused.
 pub fn check_note(
     alloc: Global,
     text: &[u8],
@@ -125,11 +126,25 @@ fn register_note(alloc: Global, text: &[u8], register: u32) -> Result<String, Ou
 
 // Returns the note on channels that could be too large, and on the register that makes them so.
 fn bound_note(alloc: Global, program: &Program, ids: u32, bound: u32) -> Result<String, OutOfMemory>
-    ensures { IfOk result (λ note. string_bytes note ≡ notes.bound_note bound ++ growth_text program.now ids) }
+    ensures { IfOk result (λ note. string_bytes note
+        ≡ (notes.bound_note bound ++ growth_text program.now ids) ++ notes.not_line program.now.finish) }
 {
     let mut note = channels_note(alloc, bound)?;
     write_growth(alloc, &mut note, program, ids)?;
+    note.push_str(not_line(program.finish()))?;
     Ok(note)
+}
+
+// Returns a line on `not` if that gives the channel, else an empty text.
+fn not_line(channel: &Expr) -> &'static str
+    ensures { result.now ≡ notes.not_line (term_of channel.now) }
+{
+    match channel {
+        Expr::One(UnOp::Not, _) =>
+            "nbhd: `not` changes all 32 bits of a number: `eq(x, 0)` exchanges 0 and 1\n",
+        Expr::Number(_) | Expr::Id | Expr::FromLeft | Expr::FromRight | Expr::Register(_) => "",
+        Expr::Two(_, _, _) | Expr::Choose(_, _, _) => "",
+    }
 }
 
 // Returns the note on channels that could be as large as `bound`.

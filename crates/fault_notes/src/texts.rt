@@ -7,7 +7,7 @@ ghost use Rattle.node_lang.specs.declared.expected.Expected.{Expected};
 ghost use Rattle.node_lang.specs.Faults.{FaultsAt};
 ghost use Rattle.source_places.specs.Heads.{place_head};
 ghost use Rattle.source_places.specs.Shown.{marked_line};
-ghost use Rattle.fault_notes.specs.TextNotes.{quoted, cause_of, IsTextNote, too_long_note};
+ghost use Rattle.fault_notes.specs.TextNotes.{quoted, cause_of, IsTextNote, IsLongNote};
 
 use crate::around::{Place, place_in};
 use crate::bytes::byte_advice;
@@ -20,22 +20,41 @@ use source_places::{TextKind, kind_advice, write_marked_line, write_place_head, 
 use std::alloc::{AllocError, Global};
 use std::fmt::Write;
 
+const TOO_DEEP: &str =
+    "; nest `if` as a tree, or keep a part in a register, which the next round or `finish` reads";
+
+const TOO_MANY: &str =
+    "; a part that is repeated is computed once, in a register that the next round or `finish` reads";
+
 /// Returns the note on a fault of a program text: its line and its column, the cause and what can
 /// follow there, advice, and the line with a mark below the place. The note on a text that is too
-/// long has no place. Fails if memory was refused.
+/// long has no place, and advice only if the text looks like one of another kind. Fails if memory was
+/// refused.
 pub fn text_note(alloc: Global, text: &[u8], fault: TextFault) -> Result<String, OutOfMemory>
     requires within { fault.offset ≤ length text.now }
-    ensures too_long { fault.kind ≡ kind.TooLong → IfOk result (λ note. string_bytes note ≡ too_long_note) }
+    ensures too_long { fault.kind ≡ kind.TooLong → IfOk result (λ note. IsLongNote text.now (string_bytes note)) }
     ensures note { fault.kind ≢ kind.TooLong → FaultsAt text.now fault.kind fault.offset
         → IfOk result (λ note. IsTextNote text.now fault.kind fault.offset (string_bytes note)) }
 {
     if fault.kind == FaultKind::TooLong {
-        return Ok(format!(in alloc; "nbhd: a program text has at most 65536 bytes\n")?);
+        return long_note(alloc, text);
     }
     let wanted = expected_in(alloc, text)?;
     let mut note = String::new(alloc);
     write_note(&mut note, text, fault, wanted)?;
     Ok(note)
+}
+
+// Returns the note on a text that is too long.
+fn long_note(alloc: Global, text: &[u8]) -> Result<String, OutOfMemory>
+    ensures { IfOk result (λ note. IsLongNote text.now (string_bytes note)) }
+{
+    match kind_advice(text, TextKind::Program) {
+        Some(advice) => Ok(format!(in alloc;
+            "nbhd: a program text has at most 65536 bytes{advice}\n"
+        )?),
+        None => Ok(format!(in alloc; "nbhd: a program text has at most 65536 bytes\n")?),
+    }
 }
 
 // Writes the note on a fault that has a place, at which `wanted` can follow.
@@ -144,6 +163,8 @@ fn advice_on(text: &[u8], fault: TextFault, wanted: Option<Expected>) -> &'stati
         (FaultKind::BadWord, Some(wanted)) => word_advice(place_in(before, rest, wanted)),
         (FaultKind::Unexpected, Some(wanted)) => advice_by("place", place_in(before, rest, wanted)),
         (FaultKind::EndOfText, wanted) => end_advice(text, wanted),
+        (FaultKind::TooDeep, _) => TOO_DEEP,
+        (FaultKind::TooManyNodes, _) => TOO_MANY,
         (FaultKind::HeaderRange, _) => advice_by("range", place_in(before, rest, Expected::Number)),
         (FaultKind::NumberTooLarge, _) => advice_by(
             "large",

@@ -53,6 +53,8 @@ any-case finish & at finish
 ; `finish` is written with small letters
 any-case rounds channels registers start round send left right finish
 ;
+after-expression & any-case and or xor shl shr add sub min max ldb bit eq ne lt le & next :operand
+; an operation is written with small letters and before its operands, as in `add(a, b)`
 any-case id
 ; `id` is written with small letters, and is read in `start` alone: a register keeps it
 any-case not
@@ -136,7 +138,7 @@ at rounds & here http https
 here ids
 ; the number of identifiers is an option of the commands, as in `--ids 8`
 here near far
-; `--near` and `--far` are options of the commands
+; `--near` and `--far` are options of the commands, as in `nbhd judge --ids 8 --near 2 --far 1`
 at rounds & rounds-follow
 ; a program begins with `rounds`: leave out what is before it
 at number & here l I O o
@@ -155,8 +157,10 @@ at rounds & not next :number
 foreign-word
 here mul times mult multiply product
 ; there is no product: twice x is `shl(x, 1)`
+here mod rem modulo & next ( & not second :token
+; there is no remainder: by 2 it is `and(r0, 1)`, by 16 `and(r0, 15)`; registers are `r0` to `r7`, and have no other names
 here mod rem modulo
-; there is no remainder: that of 2 is `and(x, 1)`
+; there is no remainder: by 2 it is `and(r0, 1)`, by 16 `and(r0, 15)`
 here div divide quotient
 ; there is no quotient: half of x is `shr(x, 1)`
 here pow power exp
@@ -291,7 +295,8 @@ next (
 ; there is no operation of this name: they are `not`, `and`, `or`, `xor`, `shl`, `shr`, `add`, `sub`, `min`, `max`, `ldb`, `bit`, `eq`, `ne`, `lt`, `le` and `if`
 glued-number
 ;
-glued
+glued & next , )
+glued & begins not
 ; a `(` is missing in it
 here pred prev previous
 begins left L0 L1 L2 L3 L4 L5 L6 L7 L8 L9
@@ -317,12 +322,14 @@ at comma close & here in
 ; there are no sets: compare with each number, as in `or(eq(x, 5), eq(x, 6))`
 at round finish register & here end done endround END & next finish round
 ; a block has no word at its end: leave out the line
-at round finish register end & here return output result yield
+at round finish register & any-case return returns output outputs result results answer emit yield
 ; the last line is `finish` and an expression
-at round finish register end & here let var set int uint const mut local mov assign val auto unsigned compute update
+at round finish register & here let var set int uint const mut local mov assign val auto unsigned compute update
 ; an assignment is written `r0 = ..`
-at round finish register end & here pass skip nop keep hold leave
+at register & here pass skip nop keep hold leave
 ; each register is assigned, as in `r0 = r0` where it is to stay
+at round finish & here pass skip nop keep hold leave
+; each register is assigned once: leave out this line
 at comma
 ; operands are separated by commas
 at close
@@ -333,13 +340,16 @@ after-expression
 ; one expression is written here, and a comment begins with `#`
 not starts-line
 ; a comment begins with `#`
-at register
+at register & begins r0 r1 r2 r3 r4 r5 r6 r7 r8 r9 R0 R1 R2 R3 R4 R5 R6 R7 R8 R9 ro rO
+at register & here r
 > spelling
+at register
+; each register is assigned, in order
 
 spelling
 based
 ; numbers are decimal
-here :number & ends r0 r1 r2 r3 r4 r5 r6 r7
+here :number & ends r0 r1 r2 r3 r4 r5 r6 r7 L R id
 ; a number has only digits, and there is no product: twice x is `shl(x, 1)`
 here :number
 ; a number has only digits

@@ -10,7 +10,7 @@ use Rattle.node_lang.specs.declared.fault.FaultKind.TheVariants as kind
 use Rattle.table_text.specs.declared.fault.TableFault.{TableFault}
 use Rattle.table_text.specs.declared.fault.TableFault.TheVariants as table
 use Rattle.table_text.specs.declared.limits.TheConstants.{LONGEST_TABLE_TEXT}
-use Rattle.fault_notes.specs.TextNotes.{IsTextNote, too_long_note}
+use Rattle.fault_notes.specs.TextNotes.{IsTextNote, IsLongNote}
 use Rattle.fault_notes.specs.ProgramNotes.{IsCheckNote}
 use Rattle.table_notes.specs.RingNotes.{place_note, ring_note, segments_note}
 use Rattle.table_notes.specs.TableNotes.{long_note, IsFormNote, IsWindowNote, channel_note}
@@ -30,7 +30,7 @@ IsTableNote input table.OutOfMemory note = ⊥
 -- the note on a cause
 abbrev pub IsNote : List ℕ → Reason → List ℕ → Type 0
 IsNote input (of_text k offset) note =
-    (k ≡ kind.TooLong → note ≡ too_long_note) × (k ≢ kind.TooLong → IsTextNote input k offset note)
+    (k ≡ kind.TooLong → IsLongNote input note) × (k ≢ kind.TooLong → IsTextNote input k offset note)
 IsNote input (of_program p ids f) note = IsCheckNote input p ids f note
 IsNote input (of_ring m t places f) note = note ≡ ring_note m t places f
 IsNote input (of_place place places) note = note ≡ place_note place places

@@ -203,7 +203,7 @@ fn second_advice(text: &[u8], rest: &[u8]) -> &'static str {
         return STOPPED;
     }
     if line.contains(&b',') {
-        return "; this line has no commas";
+        return "; it is written without commas";
     }
     if line.contains(&b'-') || line.contains(&b'+') {
         return "; numbers have no sign";
