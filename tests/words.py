@@ -652,6 +652,7 @@ OTHER_IDS = "nbhd: the number of identifiers is given by `--ids`\n"
 NEAR_AND_FAR = "nbhd: `--near` takes one number, and `--far` another: L(2,1) is `--near 2 --far 1`\n"
 REFUTATION_NAME = "nbhd: a refutation is read from standard input, as in `nbhd refute --ids 3 --rounds 0 --channels 2 < FILE`\n"
 NO_FILE = "nbhd: `nbhd formula` reads no file\n"
+VALUE_APART = "nbhd: a value stands right behind `=`, or behind a blank alone, as in `--ids=8` or `--ids 8`\n"
 
 
 def no_number(option, range_of):
@@ -713,6 +714,8 @@ TIPS = [
     ("judge --near=2,1 --ids 8", NEAR_AND_FAR),
     ("refute --ids 3 --rounds 0 --channels 2 no.lrat", REFUTATION_NAME),
     ("formula --ids 3 --rounds 0 --channels 2 out.cnf", NO_FILE),
+    *((f"judge {words}", VALUE_APART) for words in ["--ids= 8", "--ids =8", "--ids = 8", "--ids 8 --far= 1", "--ids 8 --near =2,1"]),
+    ("run --ids 8 --ring= 5,1,3,7", VALUE_APART),
     ("judge -near 2 --ids 8", ONE_MINUS),
     ("judge --Near=2 --ids 8", CAPITAL),
 ]

@@ -24,6 +24,7 @@ number_line number.Base = codes "nbhd: `--base` takes a number in digits, from 2
 
 -- the line on a mistake for standard error
 abbrev pub tip_line : Tip → List ℕ
+tip_line tip.ValueApart = codes "nbhd: a value stands right behind `=`, or behind a blank alone, as in `--ids=8` or `--ids 8`"
 tip_line tip.RingForIds = codes "nbhd: `--ids` takes the number of identifiers; a ring is given by `--ring`"
 tip_line tip.RingInWords = codes "nbhd: a ring is one word with commas, as in `--ring 5,1,3,7`"
 tip_line tip.StrayNumber = codes "nbhd: each number is the value of an option, as in `--ids 8`; a ring is one word with commas, as in `--ring 5,1,3,7`"
@@ -85,6 +86,28 @@ name_part word = take (name_len word) word
 -- the value behind it
 abbrev pub value_part : List ℕ → List ℕ
 value_part word = drop (name_len word + 1) word
+
+-- whether this is the name of an option, each of which takes a value
+abbrev pub takes_value : List ℕ → Bool
+takes_value name = is_one_of (codes "--ids --ring --rounds --channels --near --far --workers --segments --place --base") name
+
+-- whether a word begins with `=`
+abbrev pub begins_with_equals : List ℕ → Bool
+begins_with_equals [] = false
+begins_with_equals (byte ∷ rest) = byte == 61
+
+-- whether a word is the name of an option and `=` without a value
+abbrev pub lacks_value : List ℕ → Bool
+lacks_value word = has_value word && ((length (value_part word) == 0) && takes_value (name_part word))
+
+-- whether a word is the value of the option before it, and `=` stands beside the blank between them
+abbrev pub is_apart : List ℕ → List ℕ → Bool
+is_apart last word = if lacks_value last then begins_with_digit word else takes_value last && begins_with_equals word
+
+-- whether there is such a word behind another one
+abbrev pub has_apart : List ℕ → List (List ℕ) → Bool
+has_apart last [] = false
+has_apart last (word ∷ words) = is_apart last word || has_apart word words
 
 -- whether a word is `--ring` with its value
 abbrev pub is_ring : List ℕ → Bool
@@ -255,6 +278,10 @@ abbrev pub input_of : List (List ℕ) → Input
 input_of [] = input.Program
 input_of (command ∷ words) = input_of_command command
 
--- the tip on words
+-- the tip on the first word that has one
+abbrev pub first_tip : List (List ℕ) → Option Tip
+first_tip words = tip_after (input_of words) [] [] words
+
+-- the tip on words: on a value apart from its `=`, else on the first word that has one
 abbrev pub usage_tip : List (List ℕ) → Option Tip
-usage_tip words = tip_after (input_of words) [] [] words
+usage_tip words = if has_apart [] words then Some tip.ValueApart else first_tip words

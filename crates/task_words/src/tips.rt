@@ -1,6 +1,6 @@
 //! What refused words were probably meant to be.
 
-ghost use Rattle.std.specs.Prelude.{◌≡◌, ◌≤◌, ◌==◌, length, map, string_bytes};
+ghost use Rattle.std.specs.Prelude.{◌≡◌, ◌≤◌, ◌==◌, [], length, map, string_bytes};
 ghost use Rattle.std.specs.List.{list_any};
 ghost use Rattle.task_words.specs.Tips as tips;
 
@@ -56,6 +56,8 @@ pub(crate) enum Input {
 /// A common mistake in words of the command line.
 #[derive(Clone, Copy, Debug, PartialEq, Eq)]
 pub enum Tip {
+    /// A blank and `=` between an option and its value.
+    ValueApart,
     /// A list of identifiers in place of the value of `--ids`.
     RingForIds,
     /// A ring in several words.
@@ -95,6 +97,8 @@ impl Tip {
         ensures { result.now ≡ tip_line self }
     {
         match self {
+            Tip::ValueApart =>
+                "nbhd: a value stands right behind `=`, or behind a blank alone, as in `--ids=8` or `--ids 8`",
             Tip::RingForIds =>
                 "nbhd: `--ids` takes the number of identifiers; a ring is given by `--ring`",
             Tip::RingInWords => "nbhd: a ring is one word with commas, as in `--ring 5,1,3,7`",
@@ -122,10 +126,64 @@ impl Tip {
     }
 }
 
-/// Returns the tip on the first of the words after the program's name that has one, of those before the
-/// first that is for the shell.
+/// Returns the tip on the words after the program's name: on a value apart from its `=`, else on the
+/// first word that has one, of those before the first that is for the shell.
 pub fn usage_tip(words: &[String]) -> Option<Tip>
     ensures { result ≡ tips.usage_tip (map string_bytes words.now) }
+{
+    if has_apart(words) {
+        return Some(Tip::ValueApart);
+    }
+    first_tip(words)
+}
+
+// Returns whether a blank and `=` stand between an option and its value.
+fn has_apart(words: &[String]) -> bool
+    ensures { result ≡ tips.has_apart [] (map string_bytes words.now) }
+{
+    let mut last = "";
+    for word in words {
+        let word = word.as_str();
+        if is_apart(last, word) {
+            return true;
+        }
+        last = word;
+    }
+    false
+}
+
+// Returns whether a word is the value of the option before it, and `=` stands beside the blank between
+// them.
+fn is_apart(last: &str, word: &str) -> bool
+    ensures { result ≡ tips.is_apart last.now word.now }
+{
+    if lacks_value(last) {
+        return begins_with_digit(word.as_bytes());
+    }
+    takes_value(last.as_bytes()) && begins_with_equals(word.as_bytes())
+}
+
+// Returns whether a word is the name of an option and `=` without a value.
+fn lacks_value(word: &str) -> bool
+    ensures { result ≡ tips.lacks_value word.now }
+{
+    let bytes = word.as_bytes();
+    has_value(word) && value_part(bytes).len() == 0 && takes_value(name_part(bytes))
+}
+
+// Returns whether this is the name of an option, each of which takes a value.
+fn takes_value(name: &[u8]) -> bool
+    ensures { result ≡ tips.takes_value name.now }
+{
+    is_one_of(
+        "--ids --ring --rounds --channels --near --far --workers --segments --place --base",
+        name,
+    )
+}
+
+// Returns the tip on the first word that has one, of those before the first that is for the shell.
+fn first_tip(words: &[String]) -> Option<Tip>
+    ensures { result ≡ tips.first_tip (map string_bytes words.now) }
 {
     let input = input_of(words);
     let mut before = "";
@@ -529,6 +587,12 @@ fn begins_with_digit(bytes: &[u8]) -> bool
     ensures { result ≡ tips.begins_with_digit bytes.now }
 {
     matches!(bytes, [b'0'..=b'9', ..])
+}
+
+fn begins_with_equals(bytes: &[u8]) -> bool
+    ensures { result ≡ tips.begins_with_equals bytes.now }
+{
+    matches!(bytes, [b'=', ..])
 }
 
 fn begins_with_minus(word: &str) -> bool
