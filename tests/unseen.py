@@ -223,6 +223,33 @@ EXPRESSIONS = [
     ("min(r0, t)", "number of rounds"),
     ("ldb(r0,, L)", "a comma is too many"),
     ("ldb(r0, &L)", "no mark before it"),
+    ("mod(x, 16)", "`and(r0, 15)`", "`r0` to `r7`"),
+    ("r0 % 16", "`and(r0, 15)`"),
+    ("min({r0, L})", "leave", "`(` and `)`"),
+    ("max([r0, L])", "leave", "`(` and `)`"),
+    ("add(1 000, 2)", "a number has no blanks", "commas"),
+    ("add(1,000, 2)", "numbers have no commas"),
+    ("1,000", "numbers have no commas"),
+    ("max(r0,100, L)", "2 operands"),
+    ("add(r0, 1'000)", "a number has only digits"),
+    ("id_left", "no `_`", "`L`"),
+    ("L'", "have no marks"),
+    ("max(R', 1)", "have no marks"),
+    ("leftid", "`L`"),
+    ("r0 AND L", "before its operands"),
+    ("max(2 r0, L)", "shl("),
+    ("max(r0 L, 3)", "before its operands"),
+    ("maxid", "registers are `r0` to `r7`"),
+    ("min(add, 1)", "in brackets"),
+    ("max(add: r0, 1)", "`(` and `)`"),
+    ("id.left", "`L` and `R`"),
+    ("max(r0, add_one(L))", "no `_`"),
+    ("r0\n* L", "before its operands", "`#`"),
+    ("L = R", "`eq(a, b)`"),
+    ("L++", "`add(a, 1)`"),
+    ("`L`", "no mark before it"),
+    ("id.x", "no parts"),
+    ("2L", "no product", "shl("),
 ]
 
 # Parts of `CV1`, their replacements, and the words.
@@ -461,6 +488,24 @@ PARTS = [
     ("r0 = id", "r0 = place", "`id`"),
     ("r0 = id", "r0=$id", "no mark before it"),
     ("rounds 1", "rounds 2", "written out"),
+    ("\nround\n", "\nsend left r0\nround\n", "messages are sent", "rounds"),
+    ("r0 = id", "send left id\nr0 = id", "messages are sent", "rounds"),
+    ("finish r0", "finish not(r0)", "`eq(x, 0)`", "32 bits"),
+    ("finish r0", "finish r0\nreturn r0", "`finish` ends the program"),
+    ("finish r0", "finish r0\npass", "`finish` ends the program"),
+    ("finish r0", "skip\nfinish r0", "leave out"),
+    ("finish r0", "return(r0)", "`finish` and an expression"),
+    ("finish r0", "output: r0", "`finish` and an expression"),
+    ("finish r0", "outputs r0", "`finish` and an expression"),
+    ("finish r0", "emit r0", "`finish` and an expression"),
+    ("finish r0", "answer r0", "`finish` and an expression"),
+    ("channels 6", "channels 1,000", "numbers have no commas"),
+    ("registers 1\nstart\nr0 = id\nround", "registers 2\nstart\nr0 = id\nruond", "each register is assigned, in order"),
+    ("r0 = id", "r0 = id\n* the identifier", "`#`"),
+    ("rounds 1", "rounds = 1", "no `=` before it"),
+    ("send left 0", "send left = 0", "no `=` before it"),
+    ("finish r0", "finish = r0", "no `=` before it"),
+    ("finish r0", "OUTPUT r0", "`finish` and an expression"),
 ]
 
 # What stands before `CV1`, and the words.
@@ -702,7 +747,19 @@ REFUTATIONS = [
     ("o 1 1 2 0\na 16 -1 0 l 4 6 2 3 11 0\nf 16 0\n", "looks like a proof in FRAT", "write LRAT", "DRAT for `tools/lrat`"),
     ("a 16 -1 0 l 4 6 2 3 11 0\n", "looks like a proof in FRAT"),
     ("f 16 -1 0\n", "looks like a proof in FRAT"),
-    ("5 -1 0 7 0\n", "a hint names no clause", "the options may be those of another formula"),
+    ("5 -1 0 7 0\n", "hint 7 names no clause", "the options may be those of another formula"),
+    ("5 0 1 7 0\n", "hint 7 names no clause"),
+    ("5 0 3 1 2 0\n", "hint 3", "several literals"),
+    ("5 0 1 2 3 4 0\n", "hint 3", "the last one", "behind it"),
+    ("5 0 1 2 0\n", "hint 2", "the last one"),
+    ("5 0 0\n", "no hints"),
+    ("5 -1 0 0\n", "no hints"),
+    ("5 1 1 0 1 0\n6 0 5 2 3 0\n", "hint 5", "twice"),
+    ("5 -1 0 2 3 0\n6 0 -2 1 0\n", "before the first 0"),
+    ("0 : 0\n1 : 1\nend\n", "a table"),
+    ("rounds 0 ids 2 channels 1 near 1 far 0\n0 : 0\n1 : 0\nend\n", "a table", "first line"),
+    ("5 1 3 7\n", "two lists"),
+    ("5 -1 0 2 3 0\n", "a step without literals"),
 ]
 
 # Words of the command line, and the words of the note.
@@ -836,7 +893,20 @@ LINES = [
     ("run --ids 8 --ring 5,1,3,7 --workers 4", "an option of `table`, `judge` and `plan`", "`--segments 4`"),
     ("table --ids 8 --segments 2", "an option of `run`", "`--workers 4`"),
     ("plan --ids 8 --ring 5,1,3,7 --segments 2", "an option of `run`", "`--workers 4`"),
+    ("check --ids= 8", "right behind `=`"),
+    ("check --ids =8", "right behind `=`"),
+    ("check --ids = 8", "right behind `=`"),
+    ("run --ids 8 --ring= 5,1,3,7", "right behind `=`"),
+    ("run --ids 8 --ring =5,1,3,7", "`=5`, is not a number"),
+    ("judge --ids 8 --far=", "`--far` takes a number in digits"),
 ]
+
+
+
+def doubled(operand, times):
+    """An expression that has an operand twice, in each of which it stands twice, so many times."""
+    return operand if times == 0 else b"or(%s, %s)" % (2 * (doubled(operand, times - 1),))
+
 
 # A refutation of a table with three identifiers and two channels.
 PROOF = (
@@ -885,6 +955,17 @@ TEXTS = [
     ("refute --ids 3 --rounds 0 --channels 2", PROOF.replace("21 5 0", "20 5 0", 1).encode(), "the steps before it", "or not above", "then"),
     ("refute --ids 3 --rounds 0 --channels 2", b"16,-1,0,4,6,2,3,11,0\n", "single blanks"),
     ("refute --ids 3 --rounds 0 --channels 2", b"16 -1 0 4 6 2 3 11 0\n17 d -16 0\n", "no minus sign"),
+    ("refute --ids 3 --rounds 0 --channels 2", PROOF.replace("-1 0 4 6 2 3 11 0", "-1 0 0", 1).encode(), "no hints"),
+    ("refute --ids 3 --rounds 0 --channels 2", PROOF.replace("17 2 0 16", "17 0 -2 16", 1).encode(), "before the first 0"),
+    ("refute --ids 3 --rounds 0 --channels 2", PROOF.replace("0 4 6 2", "0 2 4 6", 1).encode(), "hint 2", "several literals"),
+    ("refute --ids 3 --rounds 0 --channels 2", PROOF.replace("17 2 0 16 1 0\n", "", 1).encode(), "hint 17 names no clause"),
+    ("refute --ids 3 --rounds 0 --channels 2", PROOF.replace("11 0", "0", 1).encode(), "hint 3", "the last one"),
+    ("refute --ids 3 --rounds 0 --channels 2", b"5,1,3,7\n", "single blanks"),
+    ("judge --ids 8", (TABLE + 9000 * "0 : 0\n" + 2000 * "# no table\n").encode(), "65536 bytes", "`nbhd audit`"),
+    ("formula --ids 162 --rounds 1 --channels 2", b"", "fewer identifiers or channels"),
+    ("formula --ids 40 --rounds 1 --channels 10", b"", "fewer identifiers or channels"),
+    ("check --ids 8", CV1.replace(b"finish r0", b"finish " + 64 * b"if(r0, 1, " + b"0" + 64 * b")"), "as a tree", "register"),
+    ("check --ids 8", CV1.replace(b"finish r0", b"finish " + doubled(b"r0", 12)), "once", "register"),
     ("refute --ids 3 --rounds 0 --channels 2", b"16 -1 0 4 6 2 3 11 0\n17d 16 0\n", "a blank follows"),
     ("refute --ids 3 --rounds 0 --channels 2", b"16 -1 0 4 6 2 3 11 0\n17 d\n", "behind `d`"),
     ("refute --ids 3 --rounds 0 --channels 2", b"16. -1 0 4 6 2 3 11 0\n", "a blank follows"),
