@@ -27,6 +27,10 @@ class Place:
     def token(self, number=0):
         return self.rest[number] if number < len(self.rest) else ""
 
+    def since(self, word):
+        """The tokens behind the last such word before the place."""
+        return self.before[len(self.before) - self.before[::-1].index(word) :]
+
     def open_operations(self):
         """The tokens before the brackets that are open."""
         found = []
@@ -146,7 +150,7 @@ ROWS = [
     ),
     (
         r"each side has a `send` of its own: `send left ..`, then `send right ..`",
-        lambda place: place.before[-1] == "and" and {place.before[-2], place.token()} <= {"left", "right"},
+        lambda place: {"left", "right"} <= {*place.since("send"), place.token(), place.token(1)},
     ),
     (
         r"a round has one `send left` and one `send right`, then each register is assigned",
@@ -261,6 +265,19 @@ ROWS = [
     (r"one expression is assigned to each register, as in `r0 = if\(c, a, b\)`", lambda place: place.token() in OPERANDS),
     (r"an expression is missing here", lambda place: place.is_in("an expression")),
     (r"write a number in digits", lambda place: place.is_in("a number")),
+    (
+        r"a number is missing after `(\w+)`",
+        lambda place, word: place.is_in("a number") and place.last() == word and not place.is_operand(),
+    ),
+    (
+        r"`registers` has one number: leave out the names behind it",
+        lambda place: place.is_in("`start`") and is_number(place.last()) and re.fullmatch("r[0-9]", place.token()),
+    ),
+    (r"`start` is written once", lambda place: place.token() == "start" and "start" in place.before),
+    (
+        r"an operand is missing, and a bracket is open",
+        lambda place: place.is_in("an expression") and place.open_operations() and place.token() in ["", *KEYWORDS],
+    ),
     (
         r"leave out the numbers of the lines",
         lambda place: not place.before and is_number(place.token()) and place.token(1) == "rounds" and is_number(place.token(2)),

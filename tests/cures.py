@@ -10,7 +10,7 @@ import mistakes
 import notes
 import unseen
 from advice import OPERAND, WORD
-from done import assigned, end_of_expression, leave_out, replaced, spans, start_of_operand, without
+from done import assigned, end_of_expression, leave_out, put, replaced, spans, start_of_operand, without
 from done import without_brackets, without_line
 from grammar import OPERANDS
 from slips import LONGEST
@@ -84,6 +84,12 @@ def by_one(place, name):
     if WORD.fullmatch(place.token()) and place.token(1) == "(":
         return [replaced(place, name)]
     return infix(place, name, second="1")
+
+
+def filled(place):
+    """Operands that are missing are written, and brackets closed."""
+    brackets = [")" * (count + 1) for count in range(len(place.open_operations()))]
+    return [put(place, operands + end) for operands in ["0", "0, 0", "0, 0, 0"] for end in brackets]
 
 
 def commented(place):
@@ -230,6 +236,9 @@ ROWS = [
     (r"(?:these are more operands than the operation takes: )?numbers have no commas, as in `1000`", without_commas),
     (r"each register is assigned once: leave out this line", without_line),
     (r"registers are `r0` to `r7`(?:, and have no other names)?", register),
+    (r"lines end without a mark, and a comment begins with `#`", lambda place: [leave_out(place), *commented(place)]),
+    (r"`registers` has one number: leave out the names behind it|`start` is written once", left_out),
+    (r"an operand is missing, and a bracket is open", filled),
     (r"lines (?:end|go on) without a mark|a program begins with `rounds`, without brackets", left_out),
     (r"an? (?:number|expression) has no (?:mark|`=`) before it|(?:words, )?numbers (?:have no sign|and registers have no `_`)", left_out),
     (r"a program has no such brackets|leave such brackets out: .*|there are no texts in programs", without_both),

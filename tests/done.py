@@ -224,7 +224,7 @@ ROWS = [
     (r"one expression is assigned to each register, as in `r0 = if\(c, a, b\)`", assigned),
     (r"the register before it was read as the expression that is (?:missing|sent)", before_register),
     (r"an expression is missing here", lambda place: [put(place, "0")]),
-    (r"write a number in digits", number),
+    (r"write a number in digits|a number is missing after `\w+`", number),
     (r"the message from the left is `(L)`, which the assignments of a round read(?:, and the digit is `1`)?", instead),
     (r"the message from the right is `(R)`, which the assignments of a round read(?:, and registers are `r0` to `r7`)?", instead),
     (

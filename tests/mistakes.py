@@ -95,7 +95,7 @@ HEADER = [
     ("rounds 1", "steps 1", "line 1, column 1: unknown word `steps`; expected `rounds`"),
     ("rounds 1", "rounds -1", "line 1, column 8: unknown word `-`; expected a number; numbers have no sign"),
     ("rounds 1", "rounds 1.0", "line 1, column 9: unknown word `.`; expected `channels`; numbers are whole"),
-    ("rounds 1", "rounds", "line 2, column 1: unexpected `channels`; expected a number; write a number in digits"),
+    ("rounds 1", "rounds", "line 2, column 1: unexpected `channels`; expected a number; a number is missing after `rounds`"),
     (
         "channels 6\n",
         "",

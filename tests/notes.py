@@ -205,8 +205,20 @@ PROGRAMS = [
     ("right r0", "right L", 8, "nbhd: line 8, column 12: `L` and `R` can be read in the assignments of a round alone"),
     ("finish r0", "finish L", 8, "nbhd: line 10, column 8: `L` and `R` can be read in the assignments of a round alone"),
     ("r0 = id", "r0 = L", 8, "nbhd: line 5, column 6: `L` and `R` can be read in the assignments of a round alone"),
-    ("channels 6", "channels 5", 8, "nbhd: channels may be as large as 5: write `channels 6` or more\n"),
-    ("finish r0", "finish 5000", 8, "nbhd: channels may be as large as 5000, and `channels` is at most 4096\n"),
+    (
+        "channels 6",
+        "channels 5",
+        8,
+        "nbhd: the bound of `finish` is 5, which its values need not reach"
+        ": write `channels 6` or more, or `finish min(.., 4)` if none exceeds 4\n",
+    ),
+    (
+        "finish r0",
+        "finish 5000",
+        8,
+        "nbhd: the bound of `finish` is 5000, which its values need not reach, and `channels` is at most 4096"
+        ": with `channels 6` write `finish min(.., 5)` if none exceeds 5\n",
+    ),
     ("finish r0", "finish r0", 3, "nbhd: 1 round takes 4 to 162 identifiers, not 3\n"),
     ("finish r0", "finish r0", 163, "nbhd: 1 round takes 4 to 162 identifiers, not 163\n"),
     ("finish r0", "finish r0", 2000, "nbhd: 1 round takes 4 to 162 identifiers, not 2000\n"),
@@ -230,7 +242,7 @@ TABLE_TEXTS = [
     (b"nbhd-table 1\r\n", "1", "; lines end with a carriage return"),
     (b"nbhd-table\t1\n", "1", "; words are parted by single blanks, and this line has a tab"),
     (b"nbhd-table 1\nrounds 2 ids 4 channels 6\n", "2", "; the numbers of this line do not fit one another"),
-    (b"nbhd-table 1\nrounds 0 ids 2 channels 2\n# mine\n", "3", "; there are no comments in tables"),
+    (b"nbhd-table 1\nrounds 0 ids 2 channels 2\n# mine\n", "3", "; a table has no comments"),
     (b"nbhd-table 1\nrounds 0 ids 2 channels 2\n0 : 0 \n", "3", "; it ends with a blank"),
     (b"nbhd-table 1\nrounds 0 ids 2 channels 2\n0,:,0\n", "3", "; numbers are parted by single blanks"),
     (b"nbhd-table 1\nrounds 0 ids 2 channels 2\n0 : -1\n", "3", "; a number has only digits"),

@@ -19,6 +19,7 @@ LONGEST = 4000
 TAKES = r"`\w+` takes \d operands?"
 HEADER = "a program begins with `rounds`, `channels` and `registers`"
 MISSING = "an expression is missing (?:here|before it: what follows `#` on a line is a comment)"
+MISSING_NUMBER = "write a number in digits|a number is missing after `(?:rounds|channels|registers)`"
 IN_BRACKETS = "the operands of an operation are written in brackets, as in `if\\(c, a, b\\)`"
 NOT_IN_BRACKETS = r"the operand of `not` is written in brackets, and it is bit by bit: `eq\(x, 0\)` exchanges 0 and 1"
 BRACKETS = "brackets are only written after the name of an operation"
@@ -42,7 +43,7 @@ WORD = re.compile("[A-Za-z0-9]+")
 # The advice that does not mislead where this token was left out.
 LEFT_OUT = {
     "operation": [BRACKETS, "the name of an operation is missing before it(?:, or these are more values than the one that is sent)?"],
-    "operand": [TAKES, MISSING, "write a number in digits", ONLY_ASSIGNED, READ],
+    "operand": [TAKES, MISSING, MISSING_NUMBER, ONLY_ASSIGNED, READ],
     "(": [IN_BRACKETS, NOT_IN_BRACKETS, "a `\\(` is missing in it", "there is no operation of this name", SAME],
     ")": [TAKES, "a bracket is open"],
     ",": ["a comma is missing before it", SAME, "a blank is missing in it", "a number has no blanks, and operands are separated by commas"],

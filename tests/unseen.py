@@ -10,6 +10,14 @@ from tables import ONE_CHANNEL
 
 # What the round of `CV1` assigns, and the words.
 EXPRESSIONS = [
+    ("not(lt(r0, L))", "`not` changes all 32 bits", "opposite of a condition", "`eq(x, 0)`"),
+    ("shl(1, r0)", "bound of `finish` is 4294967295", "values need not reach", "at most 4096", "`finish min(.., 5)`"),
+    ("shl(1, bit(L, 0))", "values need not reach", "`channels 6`", "`finish min(.., 5)`"),
+    ("sub(r0, shl(shr(r0, 1), 1))", "values need not reach", "`channels 8` or more", "`finish min(.., 5)`"),
+    ("add(sub(r0, L), sub(L, r0))", "values need not reach", "`channels 15` or more", "`finish min(.., 5)`"),
+    ("if(eq(r0, 7), 0, add(r0, 1))", "values need not reach", "`channels 9` or more", "`finish min(.., 5)`"),
+    ("lt(r0,", "an operand is missing", "a bracket is open"),
+    ("if(lt(r0, L), 0,", "an operand is missing", "a bracket is open"),
     ("add(shl(ldb(r0, r), 1), bit(r0, ldb(r0, L)))", "`R`"),
     ("r0 + 1", "`add"),
     ("r0 * 2", "shl"),
@@ -254,6 +262,24 @@ EXPRESSIONS = [
 
 # Parts of `CV1`, their replacements, and the words.
 PARTS = [
+    ("rounds 1", "rounds", "a number is missing after `rounds`"),
+    ("channels 6", "channels", "a number is missing after `channels`"),
+    ("registers 1", "registers", "a number is missing after `registers`"),
+    ("rounds 1\nchannels 6", "rounds channels 6", "a number is missing after `rounds`"),
+    ("registers 1", "registers 1 r0", "`registers` has one number", "leave out"),
+    ("registers 1", "registers 1 r0 r1", "`registers` has one number", "leave out"),
+    ("r0 = id", "r0 = id\nstart\nr0 = 0", "`start` is written once"),
+    ("finish r0", "start\nr0 = 0\nfinish r0", "`start` is written once"),
+    ("r0 = add(shl(ldb(r0, L), 1), bit(r0, ldb(r0, L)))", "return xor(r0, L)", "a round ends with assignments, as in `r0 = ..`"),
+    ("r0 = id", "r0 = id ; identifier", "lines end without a mark", "a comment begins with `#`"),
+    ("rounds 1", "rounds 1 ; one", "lines end without a mark", "a comment begins with `#`"),
+    ("channels 6", "channels \u0394+1", "write a number in digits"),
+    ("channels 6", "channels \u0434", "write a number in digits"),
+    ("send right r0", "send right ro", "`r0` is written with the digit 0, not with a letter"),
+    ("send left 0", "send left rO", "`r0` is written with the digit 0, not with a letter"),
+    ("send left 0\nsend right r0", "send left, right r0", "each side has a `send` of its own"),
+    ("send left 0\nsend right r0", "send left r0, right r0", "each side has a `send` of its own"),
+    ("send left 0\nsend right r0", "send left right r0", "each side has a `send` of its own"),
     ("channels 6", "chanels 6", "`channels`"),
     ("start", "strat", "`start`"),
     ("send left 0", "sned left 0", "`send"),
@@ -546,6 +572,10 @@ TABLE = "nbhd-table 2\nrounds 0 ids 3 channels 3 near 1 far 0\n0 : 0\n1 : 1\n2 :
 
 # Parts of `TABLE`, their replacements, and the words.
 TABLE_PARTS = [
+    ("nbhd-table 2\n", "# mine\nnbhd-table 2\n", "a table has no comments"),
+    ("nbhd-table 2\n", "nbhd-table 2\n# mine\n", "a table has no comments"),
+    ("1 : 1\n", "# mine\n1 : 1\n", "no comments"),
+    ("ids 3", "ids 2", "line 2", "as many windows as there are before", "`end`", "`ids`"),
     ("end\n", "", "end"),
     ("2 : 2\nend\n", "", "line"),
     (
@@ -690,6 +720,9 @@ WINDOWS = [
 
 # Texts that are no refutations of a table with two identifiers and one channel, and the words.
 REFUTATIONS = [
+    ("5 - 1 0 1 2 3 0\n", "a minus stands right before its number"),
+    ("5 --1 0 1 2 3 0\n", "a minus stands right before its number"),
+    ("5 1- 0 1 2 3 0\n", "a minus stands right before its number"),
     ("p cnf 2 4\n1 0\n2 0\n-1 -2 0\n-2 -1 0\n", "formula"),
     (
         "rounds 1\nchannels 6\nregisters 1\nstart\nr0 = id\nround\nsend left 0\nsend right r0\n"
@@ -764,6 +797,7 @@ REFUTATIONS = [
 
 # Words of the command line, and the words of the note.
 LINES = [
+    ("run --ids 8 --ring = 5,1,3,7", "right behind `=`"),
     ("-ids 8 check", "--ids"),
     ("check --id 8", "--ids"),
     ("check --ids 0..7", "digit"),
@@ -916,6 +950,7 @@ PROOF = (
 
 # Words of the command line, inputs, and the words of the note.
 TEXTS = [
+    ("refute --ids 3 --rounds 0 --channels 2", PROOF.replace("-1 0 4 6", "-1 0 6", 1).encode(), "a hint is missing"),
     (
         "check --ids 8",
         b"rounds 1\nchannels 16\nregisters 2\nstart\nr0 = id\nround\nsend left 0\nsend right r0\nr0 = L\n"

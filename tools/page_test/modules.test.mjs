@@ -29,7 +29,7 @@ test("refusal: a note with a place", () => {
 });
 
 test("refusal: a note without a place, and of two lines", () => {
-  const first = "channels may be as large as 11: write `channels 12` or more";
+  const first = "the bound of `finish` is 11, which its values need not reach: write `channels 12` or more";
   const out = "check fault C4 bound 11\n";
   const { note, at } = readRefusal({ out, note: `nbhd: ${first}\n` }, FAULTY);
   assert.deepEqual([note, at], [first, null]);

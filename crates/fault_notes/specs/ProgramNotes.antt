@@ -1,11 +1,15 @@
 -- The note on a program that is not accepted.
-use Rattle.std.specs.Prelude.{◌≡◌, ℕ, ◌+◌, ◌*◌, ◌<◌, ◌≤◌, ◌==◌, nat_lt, ◌++◌, List, length, codes, if◌then◌else◌}
+use Rattle.std.specs.Prelude.{◌≡◌, ℕ, ◌+◌, ◌-◌, ◌*◌, ◌<◌, ◌≤◌, ◌==◌, nat_lt, ◌++◌, Bool, true, false, List, length, codes, if◌then◌else◌}
+use Rattle.std.specs.List.{list_any}
 use Rattle.std.specs.Fmt.{decimal}
 use Rattle.node_program.specs.declared.limits.TheConstants.{MAX_CHANNELS}
 use Rattle.win_index.specs.ShapeRange.{IsShape}
 use Rattle.lang_check.specs.declared.acceptance.CheckFault.{CheckFault}
 use Rattle.lang_check.specs.declared.acceptance.CheckFault.TheVariants as check
-use Rattle.node_program.specs.Term.{ProgramTree, Term, One}
+use Rattle.node_program.specs.Term.{ProgramTree}
+use Rattle.node_lang.specs.declared.token.Token.{Token}
+use Rattle.node_lang.specs.declared.token.Token.TheVariants as token
+use Rattle.node_lang.specs.Lexemes.{lexemes_of}
 use Rattle.fault_notes.specs.Placed.{placed_note}
 use Rattle.fault_notes.specs.FaultTokens.{place_of_cause}
 use Rattle.fault_notes.specs.BoundNotes.{growth_text}
@@ -44,17 +48,34 @@ id_cause = codes "`id` can be read in `start` alone; keep it in a register"
 abbrev pub message_cause : List ℕ
 message_cause = codes "`L` and `R` can be read in the assignments of a round alone; keep them in registers there"
 
--- the bound of the channels, and the number of channels that it requires
-abbrev pub bound_note : ℕ → List ℕ
-bound_note b = if nat_lt b MAX_CHANNELS
-    then codes "nbhd: channels may be as large as "
-    ++ (decimal b ++ (codes ": write `channels " ++ (decimal (b + 1) ++ codes "` or more\n")))
-    else codes "nbhd: channels may be as large as " ++ (decimal b ++ codes ", and `channels` is at most 4096\n")
+-- the cap that keeps the values of `finish` below c channels, and when it changes none
+abbrev pub cap_text : ℕ → List ℕ
+cap_text c = codes "`finish min(.., " ++ (decimal (c - 1) ++ (codes ")` if none exceeds " ++ (decimal (c - 1) ++ codes "\n")))
 
--- the line on a `not` that gives the channel
-abbrev pub not_line : Term → List ℕ
-not_line (One o a) = codes "nbhd: `not` changes all 32 bits of a number: `eq(x, 0)` exchanges 0 and 1\n"
-not_line _ = codes ""
+-- the bound of `finish` in a program with c channels, the number of channels that it requires, and a cap
+abbrev pub bound_note : ℕ → ℕ → List ℕ
+bound_note c b = if nat_lt b MAX_CHANNELS
+    then codes "nbhd: the bound of `finish` is " ++ (decimal b
+    ++ (codes ", which its values need not reach: write `channels " ++ (decimal (b + 1)
+    ++ (codes "` or more, or " ++ cap_text c))))
+    else codes "nbhd: the bound of `finish` is " ++ (decimal b
+    ++ (codes ", which its values need not reach, and `channels` is at most 4096: with `channels " ++ (decimal c
+    ++ (codes "` write " ++ cap_text c))))
+
+-- `not`
+abbrev pub is_not : Token → Bool
+is_not (token.One o) = true
+is_not _ = false
+
+-- whether a text has `not`
+abbrev pub has_not : List ℕ → Bool
+has_not text = list_any (λ l. is_not l.token) (lexemes_of text)
+
+-- the line on `not` in a text, if no number of channels is above the bound
+abbrev pub not_line : List ℕ → ℕ → List ℕ
+not_line text b = if nat_lt b MAX_CHANNELS then codes "" else if has_not text
+    then codes "nbhd: `not` changes all 32 bits of a number: the opposite of a condition x is `eq(x, 0)`\n"
+    else codes ""
 
 -- The note on the refusal of the program p of this text for `ids` identifiers. A register that the program lacks and a
 -- misplaced `id`, `L` or `R` have the place of the first lexeme that is the cause.
@@ -67,4 +88,5 @@ IsCheckNote text p ids check.IdOutsideStart note =
     note ≡ placed_note text id_cause (place_of_cause text check.IdOutsideStart)
 IsCheckNote text p ids check.MessageOutsideStep note =
     note ≡ placed_note text message_cause (place_of_cause text check.MessageOutsideStep)
-IsCheckNote text p ids (check.ChannelBound b) note = note ≡ (bound_note b ++ growth_text p ids) ++ not_line p.finish
+IsCheckNote text p ids (check.ChannelBound b) note =
+    note ≡ (bound_note p.channels b ++ growth_text p ids) ++ not_line text b

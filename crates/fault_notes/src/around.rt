@@ -66,6 +66,12 @@ fn last_words(text: &[u8]) -> (&[u8], &[u8]) {
     (previous, last)
 }
 
+// Returns the last token of a text, an empty text if there is none.
+pub(crate) fn last_token(text: &[u8]) -> &[u8] {
+    let (_, last) = last_words(text);
+    last
+}
+
 // Returns whether this token stands in a text, outside of comments.
 pub(crate) fn has_token(text: &[u8], token: Token) -> bool {
     let mut at = 0;
@@ -313,7 +319,7 @@ pub(crate) fn is_joined(place: Place) -> bool {
 
 // Returns whether a text ends with a number.
 fn ends_with_number(text: &[u8]) -> bool {
-    let (_, last) = last_words(text);
+    let last = last_token(text);
     is_number(last) && text.ends_with(last)
 }
 

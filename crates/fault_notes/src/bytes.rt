@@ -1,7 +1,7 @@
 //! Advice on bytes above 127, which no program text has.
 
-use crate::around::ends_in_comment;
-use source_places::by_beginning;
+use crate::around::{ends_in_comment, last_token};
+use source_places::{by_beginning, is_one_of};
 
 const PRODUCT: &str = "; there is no product: twice x is `shl(x, 1)`";
 
@@ -155,10 +155,19 @@ pub(crate) fn byte_advice(before: &[u8], rest: &[u8]) -> &'static str {
     } else {
         by_beginning(&SIGNS, rest)
     };
+    if signs.is_none() && is_letter_for_number(before, rest) {
+        return "; write a number in digits";
+    }
     match signs.or(by_beginning(&BYTES, rest)) {
         Some(advice) => advice,
         None => letter_advice(rest),
     }
+}
+
+// Returns whether a letter stands where a number of the first lines can follow.
+fn is_letter_for_number(before: &[u8], rest: &[u8]) -> bool {
+    let is_number_due = is_one_of("rounds channels registers", last_token(before));
+    is_number_due && !ends_in_comment(before) && matches!(rest, [0xc3 | 0xce..=0xd1, ..])
 }
 
 // The first bytes of letters with an accent and of blanks.

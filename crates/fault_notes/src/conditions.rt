@@ -184,7 +184,7 @@ fn is_so(name: &str, place: Place) -> bool {
         return has_tokens(name, place);
     }
     if is_one_of(
-        "rounds-follow round-follows round-before glued glued-number based",
+        "rounds-follow round-follows finish-follows start-before round-before glued glued-number based",
         name.as_bytes(),
     ) {
         return has_word(name, place);
@@ -248,6 +248,12 @@ fn has_word(name: &str, place: Place) -> bool {
     }
     if name == "round-follows" {
         return has_token(place.rest, Token::Round);
+    }
+    if name == "finish-follows" {
+        return has_token(place.rest, Token::Finish);
+    }
+    if name == "start-before" {
+        return has_token(place.before, Token::Start);
     }
     if name == "round-before" {
         return has_token(place.before, Token::Round);

@@ -300,6 +300,8 @@ mark <!-- ;; % """ '''
 ; a comment begins with `#`
 mark ```
 ; leave out the marks around the program
+mark ; & not ends-line
+; lines end without a mark, and a comment begins with `#`
 mark : ;
 ; lines end without a mark
 mark " '
@@ -320,6 +322,8 @@ mark // /* -- <!-- ;; """ '''
 ; a comment begins with `#`
 mark ```
 ; leave out the marks around the program
+mark ; & not ends-line
+; lines end without a mark, and a comment begins with `#`
 mark : ;
 ; lines end without a mark
 mark " '

@@ -108,6 +108,9 @@ else
 comma
 at open
 > expected
+at expression & last left & previous send & next right
+at send & next right
+; each side has a `send` of its own: `send left ..`, then `send right ..`
 at expression & last , & behind ,
 ; a comma is too many, or an operand is missing before it
 grouped & not open :nothing
@@ -231,6 +234,12 @@ at rounds & here :number & next rounds & second :number
 ; leave out the numbers of the lines
 at open & last and & previous left right & here left right
 ; each side has a `send` of its own: `send left ..`, then `send right ..`
+at start & last :number & here :register & not next = & not starts-line
+; `registers` has one number: leave out the names behind it
+at register round send finish & here start & start-before
+; `start` is written once
+at expression & last left & previous send & here right & not starts-line & next :operand
+; each side has a `send` of its own: `send left ..`, then `send right ..`
 at round
 > round
 at register & here send & not round-before
@@ -275,6 +284,8 @@ else
 ; `registers` says how many registers there are, from r0 on
 
 in-expression
+here round send finish & starts-line & not open :nothing
+; an operand is missing, and a bracket is open
 here left & not starts-line
 here left & next ( ) , . _ send finish
 ; the message from the left is `L`, which the assignments of a round read
@@ -308,11 +319,25 @@ at open
 at equals
 ; an assignment is written `r0 = ..`
 at number
-; write a number in digits
+> number
 at end
 ; the expression of `finish` ends the program
 
+number
+here :operand
+; write a number in digits
+last rounds
+; a number is missing after `rounds`
+last channels
+; a number is missing after `channels`
+last registers
+; a number is missing after `registers`
+
 ended
+at number
+> number
+at expression & not open :nothing
+; an operand is missing, and a bracket is open
 at comma
 > operands
 at close

@@ -9,20 +9,20 @@ ghost use Rattle.lang_check.specs.declared.acceptance.CheckFault.TheVariants as 
 ghost use Rattle.fault_notes.specs.ProgramNotes.{IsMostIds, IsIdsNote, IsCheckNote, register_cause, rounds_take};
 ghost use Rattle.fault_notes.specs.ProgramNotes as notes;
 ghost use Rattle.fault_notes.specs.BoundNotes.{growth_text};
-ghost use Rattle.node_program.specs.Term.{term_of};
 
 use crate::bounds::write_growth;
 use crate::placed::placed_note;
+use crate::scanning::has_not;
 use lang_check::CheckFault;
 use node_lang::{MAX_CHANNELS, Program};
-use node_program::{Expr, OutOfMemory, UnOp};
+use node_program::OutOfMemory;
 use std::alloc::{AllocError, Global};
 use win_index::{MAX_IDS, MAX_ROUNDS, Shape, count_of_windows};
 
 /// Returns the note on the refusal of the program of a text for `ids` identifiers: the possible
 /// numbers of identifiers, or the cause and the place of the first token that is the cause, or the
 /// bound of the channels, the bounds of the register that makes it so large, and a line on `not` if
-/// that gives the channel. Fails if memory was refused.
+/// the text has it and no number of channels is above the bound. Fails if memory was refused.
 pub fn check_note(
     alloc: Global,
     text: &[u8],
@@ -46,7 +46,7 @@ pub fn check_note(
                 "`L` and `R` can be read in the assignments of a round alone; keep them in registers there";
             placed_note(alloc, text, CheckFault::MessageOutsideStep, cause)
         }
-        CheckFault::ChannelBound(bound) => bound_note(alloc, program, ids, bound),
+        CheckFault::ChannelBound(bound) => bound_note(alloc, text, program, ids, bound),
     }
 }
 
@@ -124,40 +124,48 @@ fn register_note(alloc: Global, text: &[u8], register: u32) -> Result<String, Ou
     )
 }
 
-// Returns the note on channels that could be too large, and on the register that makes them so.
-fn bound_note(alloc: Global, program: &Program, ids: u32, bound: u32) -> Result<String, OutOfMemory>
+// Returns the note on channels that could be too large, and on what makes them so.
+fn bound_note(
+    alloc: Global,
+    text: &[u8],
+    program: &Program,
+    ids: u32,
+    bound: u32,
+) -> Result<String, OutOfMemory>
     ensures { IfOk result (λ note. string_bytes note
-        ≡ (notes.bound_note bound ++ growth_text program.now ids) ++ notes.not_line program.now.finish) }
+        ≡ (notes.bound_note program.now.channels bound ++ growth_text program.now ids) ++ notes.not_line text.now bound) }
 {
-    let mut note = channels_note(alloc, bound)?;
+    let mut note = channels_note(alloc, program.channels(), bound)?;
     write_growth(alloc, &mut note, program, ids)?;
-    note.push_str(not_line(program.finish()))?;
+    note.push_str(not_line(text, bound))?;
     Ok(note)
 }
 
-// Returns a line on `not` if that gives the channel, else an empty text.
-fn not_line(channel: &Expr) -> &'static str
-    ensures { result.now ≡ notes.not_line (term_of channel.now) }
+// Returns a line on `not` if a text has it and no number of channels is above the bound.
+fn not_line(text: &[u8], bound: u32) -> &'static str
+    ensures { result.now ≡ notes.not_line text.now bound }
 {
-    match channel {
-        Expr::One(UnOp::Not, _) =>
-            "nbhd: `not` changes all 32 bits of a number: `eq(x, 0)` exchanges 0 and 1\n",
-        Expr::Number(_) | Expr::Id | Expr::FromLeft | Expr::FromRight | Expr::Register(_) => "",
-        Expr::Two(_, _, _) | Expr::Choose(_, _, _) => "",
+    if bound < MAX_CHANNELS {
+        return "";
     }
+    if has_not(text) {
+        return "nbhd: `not` changes all 32 bits of a number: the opposite of a condition x is `eq(x, 0)`\n";
+    }
+    ""
 }
 
-// Returns the note on channels that could be as large as `bound`.
-fn channels_note(alloc: Global, bound: u32) -> Result<String, AllocError>
-    ensures { IfOk result (λ note. string_bytes note ≡ notes.bound_note bound) }
+// Returns the note on a bound that is not below the number of channels.
+fn channels_note(alloc: Global, channels: u32, bound: u32) -> Result<String, AllocError>
+    ensures { IfOk result (λ note. string_bytes note ≡ notes.bound_note channels bound) }
 {
+    let most = channels.saturating_sub(1);
     if bound >= MAX_CHANNELS {
         return format!(in alloc;
-            "nbhd: channels may be as large as {bound}, and `channels` is at most 4096\n"
+            "nbhd: the bound of `finish` is {bound}, which its values need not reach, and `channels` is at most 4096: with `channels {channels}` write `finish min(.., {most})` if none exceeds {most}\n"
         );
     }
     let enough = bound + 1;
     format!(in alloc;
-        "nbhd: channels may be as large as {bound}: write `channels {enough}` or more\n"
+        "nbhd: the bound of `finish` is {bound}, which its values need not reach: write `channels {enough}` or more, or `finish min(.., {most})` if none exceeds {most}\n"
     )
 }

@@ -1,8 +1,9 @@
-//! The place of the token that is the cause of a refusal.
+//! The token that is the cause of a refusal, and its place.
 
 ghost use Rattle.std.specs.Prelude.{◌≡◌, ◌<◌, length, IfSome};
 ghost use Rattle.fault_notes.specs.FaultTokens.{place_of_cause};
 ghost use Rattle.fault_notes.specs.CausePlaces.{next_place, is_cause_at};
+ghost use Rattle.fault_notes.specs.ProgramNotes as notes;
 
 use lang_check::CheckFault;
 use node_lang::{Token, token_from};
@@ -68,4 +69,18 @@ pub(crate) fn place_of(text: &[u8], fault: CheckFault) -> Option<usize>
         at = placed.end;
     }
     None
+}
+
+// Returns whether a program text has `not`.
+pub(crate) fn has_not(text: &[u8]) -> bool
+    ensures { result ≡ notes.has_not text.now }
+{
+    let mut at = 0;
+    'tokens: while let Some(placed) = token_from(text, at) {
+        if matches!(placed.token, Token::One(_)) {
+            return true;
+        }
+        at = placed.end;
+    }
+    false
 }

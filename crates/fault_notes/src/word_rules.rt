@@ -143,6 +143,8 @@ at rounds & rounds-follow
 ; a program begins with `rounds`: leave out what is before it
 at number & here l I O o
 ; this is a letter: write a number in digits
+at number & starts-line
+> number
 at number
 ; write a number in digits
 at start & here def fn func function
@@ -241,6 +243,8 @@ else
 > line-word
 
 expression-word
+here ro rO
+> spelling
 last finish & here :long & not here :number & not glued & next :operand :operation
 ; `finish` is followed by an expression alone
 last left right & here :long & not here :number & not glued & next :operand :operation
@@ -322,6 +326,8 @@ at comma close & here in
 ; there are no sets: compare with each number, as in `or(eq(x, 5), eq(x, 6))`
 at round finish register & here end done endround END & next finish round
 ; a block has no word at its end: leave out the line
+at register & round-before & finish-follows & any-case return returns output outputs result results answer emit yield
+; a round ends with assignments, as in `r0 = ..`
 at round finish register & any-case return returns output outputs result results answer emit yield
 ; the last line is `finish` and an expression
 at round finish register & here let var set int uint const mut local mov assign val auto unsigned compute update

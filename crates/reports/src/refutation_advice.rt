@@ -211,6 +211,12 @@ fn has_number(line: &[u8]) -> bool {
         .all(|byte| byte.is_ascii_digit())
 }
 
+// Returns whether a list has a minus sign that does not stand right before a digit.
+fn has_stray_minus(list: &[u8]) -> bool {
+    let is_last = list.ends_with(b"-");
+    is_last || (1..list.len()).any(|index| list[index - 1] == b'-' && !list[index].is_ascii_digit())
+}
+
 // Returns advice on the words of a line that begins with a digit.
 fn words_advice(line: &[u8]) -> Option<&'static str> {
     if line.contains(&b',') || line.contains(&b';') {
@@ -245,6 +251,9 @@ fn step_advice(line: &[u8]) -> &'static str {
     let lists = lists_of(line);
     if !is_of_literals(lists) {
         return "; nothing but numbers follows there, and behind the first one `d`, `i`, `c` or `m`";
+    }
+    if has_stray_minus(lists) {
+        return "; a minus stands right before its number";
     }
     if has_number_above(line, u64::MAX) {
         return "; numbers are at most 18446744073709551615";

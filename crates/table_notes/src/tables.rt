@@ -25,6 +25,12 @@ const TAB: &str = "; words are parted by single blanks, and this line has a tab"
 const NO_COMMAS: &str =
     "; a table has no commas: two lines of a head, lines as `0 1 2 : 0`, then `end`";
 
+const NO_COMMENT: &str =
+    "; a table has no comments, and its first line is `nbhd-table` and the version";
+
+const LAST: &str =
+    "; line 2 asks for as many windows as there are before this line: here comes `end`, or `ids` there is too small";
+
 const STOPPED: &str = "; the text stops in this line: lines are missing";
 
 /// Returns the note on a text that is too long. Fails if memory was refused.
@@ -128,6 +134,9 @@ fn line_one_advice(line: &[u8]) -> &'static str {
     if line.contains(&b'\\') {
         return "; `\\n` stands for a line feed only in other texts: begin a new line";
     }
+    if line.starts_with(b"#") {
+        return NO_COMMENT;
+    }
     if line.starts_with(b"nbhd-table ") {
         return version_advice(line);
     }
@@ -202,6 +211,9 @@ fn second_advice(text: &[u8], rest: &[u8]) -> &'static str {
     if line.len() == rest.len() {
         return STOPPED;
     }
+    if line.starts_with(b"#") {
+        return "; a table has no comments, and its second line begins with `rounds` and a number";
+    }
     if line.contains(&b',') {
         return "; it is written without commas";
     }
@@ -271,7 +283,7 @@ fn window_advice(rounds: u32, window: &[u8], line: &[u8]) -> &'static str {
     match (rounds, words_in(window)) {
         (0, 1) | (1, 3) | (2, 5) | (3, 7) | (4, 9) => match zeros_advice(line) {
             Some(advice) => advice,
-            None => "; after the line of the last window comes the line `end`",
+            None => LAST,
         },
         (0, _) => "; with `rounds 0`, as line 2 has, a window has 1 identifier",
         (1, _) =>
@@ -339,7 +351,7 @@ fn bytes_advice(line: &[u8]) -> &'static str {
     match line {
         _ if is_blank(line) => "; the line is blank",
         b"end" => "; lines are missing before it",
-        _ if line.contains(&b'#') => "; there are no comments in tables",
+        _ if line.contains(&b'#') => "; a table has no comments",
         _ if has_two_colons(line) =>
             "; a line has one ` : `, between the identifiers of a window and a channel",
         [.., b':'] | [.., b':', b' '] => "; its channel is missing",
