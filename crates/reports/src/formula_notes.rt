@@ -103,7 +103,7 @@ fn write_cause(out: &mut String, fault: LineFault) -> Result<(), AllocError>
         ),
         LineFault::SeveralLeft(hint) => write!(
             out,
-            "several literals of the clause of hint {hint}, or one twice, are not yet known to be false, where at most one may be: the order of hints counts, and the options may be those of another formula"
+            "several literals of the clause of hint {hint}, or one twice, are not yet known to be false, where at most one may be: a hint is missing before it or stands behind it, or the options may be those of another formula"
         ),
         LineFault::EarlyConflict(hint) => write!(
             out,

@@ -252,9 +252,6 @@ fn step_advice(line: &[u8]) -> &'static str {
     if !is_of_literals(lists) {
         return "; nothing but numbers follows there, and behind the first one `d`, `i`, `c` or `m`";
     }
-    if has_stray_minus(lists) {
-        return "; a minus stands right before its number";
-    }
     if has_number_above(line, u64::MAX) {
         return "; numbers are at most 18446744073709551615";
     }
@@ -273,6 +270,7 @@ fn lists_advice(step: &[u8], lists: &[u8]) -> &'static str {
             _ if is_ended => "; the numbers of a deletion end with one 0",
             _ => "; nothing follows the 0 of a deletion",
         },
+        _ if has_stray_minus(lists) => "; a minus stands right before its number",
         _ if has_number_above(first_list(lists), 1 << 31) => "; literals are at most 2147483648",
         _ if count > 1 && !is_ended => "; nothing follows the second list",
         [b' ', b'i', b' ', ..] if count < 2 =>
