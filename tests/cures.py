@@ -92,6 +92,13 @@ def filled(place):
     return [put(place, operands + end) for operands in ["0", "0, 0", "0, 0, 0"] for end in brackets]
 
 
+def own_sends(place):
+    """`send` is written before the second side, and what is sent to the first one where it is missing."""
+    before = place.text[: place.at].removesuffix("and ")
+    rest = place.text[place.at + (place.token() == ",") :]
+    return [f"{before} {'' if place.is_in('`send`') else '0'} send {rest}"]
+
+
 def commented(place):
     """A comment begins at the place."""
     return [f"{place.text[: place.at]}#{place.text[place.at :]}"]
@@ -239,6 +246,7 @@ ROWS = [
     (r"lines end without a mark, and a comment begins with `#`", lambda place: [leave_out(place), *commented(place)]),
     (r"`registers` has one number: leave out the names behind it|`start` is written once", left_out),
     (r"an operand is missing, and a bracket is open", filled),
+    (r"each side has a `send` of its own: .*", own_sends),
     (r"lines (?:end|go on) without a mark|a program begins with `rounds`, without brackets", left_out),
     (r"an? (?:number|expression) has no (?:mark|`=`) before it|(?:words, )?numbers (?:have no sign|and registers have no `_`)", left_out),
     (r"a program has no such brackets|leave such brackets out: .*|there are no texts in programs", without_both),

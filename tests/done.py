@@ -117,7 +117,8 @@ def in_header(place):
 
 def number(place):
     """A number is written, before the word of the place or instead of it."""
-    return [put(place, "1")] + [replaced(place, "1")] * bool(WORD.match(place.token()))
+    end = AT_FAULT.match(place.text, place.at).end()
+    return [put(place, "1"), f"{place.text[: place.at]}1{place.text[end:]}"]
 
 
 def assigned(place):

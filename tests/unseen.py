@@ -262,6 +262,7 @@ EXPRESSIONS = [
 
 # Parts of `CV1`, their replacements, and the words.
 PARTS = [
+    ("finish r0", "finish lt(r0,", "an operand is missing", "a bracket is open"),
     ("rounds 1", "rounds", "a number is missing after `rounds`"),
     ("channels 6", "channels", "a number is missing after `channels`"),
     ("registers 1", "registers", "a number is missing after `registers`"),
