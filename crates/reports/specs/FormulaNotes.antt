@@ -35,7 +35,7 @@ line_cause line_fault.Exchange =
 line_cause (line_fault.UnknownHint hint) = codes "hint " ++ (decimal hint ++ codes " names no clause: there is none of its number yet, or it was deleted; the options may be those of another formula")
 line_cause (line_fault.SeveralLeft hint) = codes "several literals of the clause of hint " ++ (decimal hint ++ codes ", or one twice, are not yet known to be false, where at most one may be: a hint is missing before it or stands behind it, or the options may be those of another formula")
 line_cause (line_fault.EarlyConflict hint) = codes "all literals of the clause of hint " ++ (decimal hint ++ codes " are known to be false, so it has to be the last one: leave out those behind it; the options may be those of another formula")
-line_cause (line_fault.OneLeft hint) = codes "the clause of hint " ++ (decimal hint ++ codes ", the last one, has a literal that is not known to be false: a hint is missing, or the options may be those of another formula")
+line_cause (line_fault.OneLeft hint) = codes "the clause of hint " ++ (decimal hint ++ codes ", the last one, has a literal that is not known to be false: a hint is missing or wrong, or the options may be those of another formula")
 line_cause line_fault.NoHints = codes "this step has no hints: behind the 0 of its clause stand the numbers of the clauses from which it follows, and then 0"
 line_cause line_fault.NoEmptyClause = codes "the text ends here, before the empty clause"
 

@@ -111,7 +111,7 @@ fn write_cause(out: &mut String, fault: LineFault) -> Result<(), AllocError>
         ),
         LineFault::OneLeft(hint) => write!(
             out,
-            "the clause of hint {hint}, the last one, has a literal that is not known to be false: a hint is missing, or the options may be those of another formula"
+            "the clause of hint {hint}, the last one, has a literal that is not known to be false: a hint is missing or wrong, or the options may be those of another formula"
         ),
     }
 }
