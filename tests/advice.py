@@ -208,7 +208,7 @@ ROWS = [
         lambda place: place.wanted.startswith("the assignment of r") and place.token() == "(" and place.begins_line(),
     ),
     (
-        r"only registers are assigned(?:, as in `r0 = id`|: a value is sent by `send left` and `send right`)",
+        r"only registers are assigned(?:, as in `r0 = \.\.`|: a value is sent by `send left` and `send right`)",
         lambda place: place.is_operand() and not re.fullmatch("r[0-9]", place.token()) and place.token(1) == "=",
     ),
     (r"operands are separated by commas", lambda place: place.is_in("`,`")),
@@ -307,7 +307,7 @@ ROWS = [
     (r"a round begins with `send left` and `send right`", lambda place: place.is_in("`send`")),
     (r"`send left` comes first, then `send right`", lambda place: place.is_in("`left`")),
     (r"`send left` is followed by `send right`", lambda place: place.is_in("`right`")),
-    (r"each register is assigned, in order", lambda place: place.wanted.startswith("the assignment of r")),
+    (r"each register is assigned once, in order", lambda place: place.wanted.startswith("the assignment of r")),
     (r"each register is assigned once, then comes (`round`|`finish`)", lambda place, then: place.is_in(then)),
     (
         r"one expression is assigned to each register, then comes (`round`|`finish`)",
@@ -318,7 +318,7 @@ ROWS = [
         lambda place: {place.token(), place.wanted} & {"round", "finish"},
     ),
     (
-        r"`round` stands alone on its line: each round is written out, and a comment begins with `#`",
+        r"no number or name follows `round`: each round is written out, and a comment begins with `#`",
         lambda place: place.last() == "round" and place.is_in("`send`") and not place.begins_line(),
     ),
     (r"the header has three lines, then comes `start`", lambda place: place.is_in("`start`")),

@@ -254,7 +254,7 @@ ROWS = [
     (r"write `ne\(a, b\)`, or `eq\(x, 0\)` where x is to be 0", not_equal),
     (r"write `(\w+)\(([abck, 1]+)\)`(?: .*|, which .*)?", written),
     (r"there is no \w+: (?:twice x|half of x|2 to the power k) is `(shl|shr)\([x1], [1k]\)`", by_one),
-    (r"there is no remainder: by 2 it is `(and)\(r0, 1\)`, by 16 `and\(r0, 15\)`(?:; .*)?", by_one),
+    (r"there is no remainder but by powers of two: by 2 it is `(and)\(r0, 1\)`, by 16 `and\(r0, 15\)`(?:; .*)?", by_one),
     (r"an operation is written before its operands, as in `add\(a, b\)`", lambda place: infix(place, place.token())),
     (r"operands are separated by commas", lambda place: in_place_of(place, ",")),
     (r"operands are written in `\(` and `\)`", round_brackets),

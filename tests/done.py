@@ -238,7 +238,7 @@ ROWS = [
     (r"a round begins with `send left` and `send right`", sent),
     (r"`send left` comes first, then `send right`", left_first),
     (r"`send left` is followed by `send right`", right_next),
-    (r"each register is assigned, in order", assigned),
+    (r"each register is assigned once, in order", assigned),
     (r"each register is assigned once, then comes `(round|finish)`", assigned_once),
     (r"one expression is assigned to each register, then comes `(finish)`", lambda place, then: [put(place, then)]),
 ]

@@ -239,7 +239,7 @@ INFIX = [
         "r0 = id",
         "r0 = id % 3",
         "line 5, column 9: unknown word `%`; expected `round`; a comment begins with `#`, "
-        "and there is no remainder: by 2 it is `and(r0, 1)`, by 16 `and(r0, 15)`",
+        "and there is no remainder but by powers of two: by 2 it is `and(r0, 1)`, by 16 `and(r0, 15)`",
     ),
     (
         "finish r0",

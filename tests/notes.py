@@ -106,7 +106,7 @@ WORDS_OF_OTHER_LANGUAGES = [
     (
         "r0 = id",
         "r0 = mod(id, 2)",
-        "nbhd: line 5, column 6: unknown word `mod`; expected an expression; there is no remainder: by 2 it is `and(r0, 1)`, by 16 `and(r0, 15)`",
+        "nbhd: line 5, column 6: unknown word `mod`; expected an expression; there is no remainder but by powers of two: by 2 it is `and(r0, 1)`, by 16 `and(r0, 15)`",
     ),
     (
         "ldb(r0, L), 1",

@@ -148,7 +148,7 @@ next gg
 next times cdot
 ; there is no product: twice x is `shl(x, 1)`
 next bmod mod pmod
-; there is no remainder: by 2 it is `and(r0, 1)`, by 16 `and(r0, 15)`
+; there is no remainder but by powers of two: by 2 it is `and(r0, 1)`, by 16 `and(r0, 15)`
 next gets leftarrow
 ; an assignment is written `r0 = ..`
 next :feed
@@ -373,7 +373,7 @@ mark >
 mark *
 ; there is no product: twice x is `shl(x, 1)`
 mark %
-; a comment begins with `#`, and there is no remainder: by 2 it is `and(r0, 1)`, by 16 `and(r0, 15)`
+; a comment begins with `#`, and there is no remainder but by powers of two: by 2 it is `and(r0, 1)`, by 16 `and(r0, 15)`
 mark /
 ; a comment begins with `#`, and half of x is `shr(x, 1)`
 touching & mark ++

@@ -224,7 +224,7 @@ at register round finish & here L R & next - & second >
 ; only registers are assigned: a value is sent by `send left` and `send right`
 at register round finish & here :operand & not here :register & next =
 at register round finish & here :operand & not here :register & next - & second >
-; only registers are assigned, as in `r0 = id`
+; only registers are assigned, as in `r0 = ..`
 at register round send finish & after-expression & here :operand & not next =
 > second
 at rounds & turned
@@ -261,7 +261,7 @@ at expression & after-comment
 at expression & last ( , = finish
 > in-expression
 at send & last round & here :number & not starts-line
-; `round` stands alone on its line: each round is written out, and a comment begins with `#`
+; no number or name follows `round`: each round is written out, and a comment begins with `#`
 else
 > expected
 
@@ -309,7 +309,7 @@ at left
 at right
 ; `send left` is followed by `send right`
 at register
-; each register is assigned, in order
+; each register is assigned once, in order
 at finish
 ; each register is assigned once, then comes `finish`
 at expression

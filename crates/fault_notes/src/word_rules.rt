@@ -160,9 +160,9 @@ foreign-word
 here mul times mult multiply product
 ; there is no product: twice x is `shl(x, 1)`
 here mod rem modulo & next ( & not second :token
-; there is no remainder: by 2 it is `and(r0, 1)`, by 16 `and(r0, 15)`; registers are `r0` to `r7`, and have no other names
+; there is no remainder but by powers of two: by 2 it is `and(r0, 1)`, by 16 `and(r0, 15)`; registers are `r0` to `r7`, and have no other names
 here mod rem modulo
-; there is no remainder: by 2 it is `and(r0, 1)`, by 16 `and(r0, 15)`
+; there is no remainder but by powers of two: by 2 it is `and(r0, 1)`, by 16 `and(r0, 15)`
 here div divide quotient
 ; there is no quotient: half of x is `shr(x, 1)`
 here pow power exp
@@ -254,13 +254,15 @@ here Math math std np numpy
 here expr expression
 ; where this stands in the grammar, an expression is written, as `id` or `add(r0, 1)`
 here null nil none None NULL nothing
-; write 0
+; there is no empty value: each is a number, as 0
 here message messages msg neighbor neighbour neighbors neighbours
 ; `L` and `R` are what the neighbours sent in this round
 here true True TRUE yes
 ; write 1
 here false False FALSE no
 ; write 0
+here LL RR LR RL
+; `L` and `R` are what the neighbours sent: what is farther away takes one more round
 here l
 ; the message from the left is `L`, which the assignments of a round read, and the digit is `1`
 here r
@@ -319,7 +321,7 @@ at comma close & here is
 at send & here broadcast
 ; write `send left` and `send right`, each with an expression
 at send & last round & not starts-line
-; `round` stands alone on its line: each round is written out, and a comment begins with `#`
+; no number or name follows `round`: each round is written out, and a comment begins with `#`
 at send & here skip pass nop idle again repeat same
 ; each round is written out: `send left`, `send right`, then each register is assigned
 at comma close & here in
@@ -350,7 +352,7 @@ at register & begins r0 r1 r2 r3 r4 r5 r6 r7 r8 r9 R0 R1 R2 R3 R4 R5 R6 R7 R8 R9
 at register & here r
 > spelling
 at register
-; each register is assigned, in order
+; each register is assigned once, in order
 
 spelling
 based

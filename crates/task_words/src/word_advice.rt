@@ -155,11 +155,20 @@ fn stray_advice(command: &[u8], word: &[u8]) -> &'static str {
 
 // Returns advice on a word that is empty or begins with a digit.
 fn number_advice(command: &[u8], word: &[u8]) -> &'static str {
+    if word.is_empty() {
+        return "nbhd: a word is empty, as of a variable without a value: leave it out";
+    }
     if matches!(word, [_, b'>', ..]) {
         return REDIRECTED;
     }
     if is_one_of("run trace explain plan apply", command) && word.contains(&b',') {
         return "nbhd: a ring is given by `--ring`, as in `--ring 5,1,3,7`";
+    }
+    if is_one_of("apply", command) {
+        return "nbhd: each number is part of the value of `--ring`, as in `--ring 5,1,3,7`";
+    }
+    if is_one_of("print audit migrate", command) {
+        return "nbhd: this command has no options, and its text is read from standard input";
     }
     "nbhd: each number is the value of an option, as in `--ids 8`"
 }
