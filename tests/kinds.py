@@ -96,6 +96,7 @@ SILENT = [
 # Lines of refutations, and the advice on them.
 LINES = [
     (b"16 -1 0 4 6 2 3 11 0\r\n17 2 0 16 1 0\r\n", "lines end with a carriage return, which `tr -d '\\r'` takes out"),
+    (b"16 -1 0 4 6 2 3 11 0\r17 2 0 16 1 0\r", "lines end with a carriage return alone, which `tr '\\r' '\\n'` makes a line feed"),
     (b"16  -1 0 4 6 2 3 11 0\n", "words are parted by single blanks, and a line ends without one"),
     (b"16 -1 0 4 6 2 3 11 0 \n", "words are parted by single blanks, and a line ends without one"),
     (b"16 -1 0 4 6 2 3 11\n", "each list ends with 0"),

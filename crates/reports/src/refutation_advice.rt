@@ -165,11 +165,19 @@ fn is_line_of_proof(rest: &[u8]) -> bool {
     !is_step_like_proof(rest) && !is_broken_step(rest)
 }
 
+// Returns advice on a line with a carriage return. If another byte follows one, no line feed does.
+fn return_advice(line: &[u8]) -> &'static str {
+    if line[..line.len().saturating_sub(1)].contains(&b'\r') {
+        return "; lines end with a carriage return alone, which `tr '\\r' '\\n'` makes a line feed";
+    }
+    "; lines end with a carriage return, which `tr -d '\\r'` takes out"
+}
+
 // Returns advice on the first line of a text, which is no step, no deletion and no comment.
 fn form_advice(rest: &[u8]) -> &'static str {
     let line = &rest[..first_line_len(rest)];
     if line.contains(&b'\r') {
-        return "; lines end with a carriage return, which `tr -d '\\r'` takes out";
+        return return_advice(line);
     }
     let is_of_proof = line == b"0".as_slice() || line_kind(line) == Some(TextKind::Proof);
     if is_of_proof && is_line_of_proof(rest) {
