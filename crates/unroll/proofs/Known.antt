@@ -1,5 +1,5 @@
 -- The blocks that a source knows while it is asked.
-use Rattle.std.proofs.Common.{◌≡◌, ◌∙◌, ℕ, zero, suc, ◌+◌, ◌*◌, ◌≤◌, Option, Some, None, IsSome, IfSome, List, [], slice_get, refl, sym, ap, arith}
+use Rattle.std.proofs.Common.{◌≡◌, ◌∙◌, ℕ, zero, suc, ◌+◌, ◌*◌, ◌≤◌, Option, Some, None, IsSome, IfSome, Result, Ok, Err, IsErrAnd, List, [], slice_get, refl, sym, ap, arith}
 use Rattle.std.proofs.lemmas.Bool.{false≢true}
 use Rattle.std.proofs.lemmas.Option.{get_or_from_slice_get, same_Some}
 use Rattle.win_index.specs.Windows.{windows, number_of}
@@ -8,7 +8,7 @@ use Rattle.window_states.specs.BlockStates.{MadeBlock, window_numbered, block_le
 use Rattle.window_states.specs.Line.{middle_state}
 use Rattle.lang_check.specs.Plans.{ProgramForIds}
 use Rattle.window_states.specs.Entries.{Entries, Grows, Asked, IsEntry}
-use Rattle.unroll.specs.MakeFaults.{KnowsAllBelow, IsMissingBelow, IsMakeFault}
+use Rattle.unroll.specs.MakeFaults.{KnowsAllBelow, IsMissingBelow, IsMakeFault, LooksUp}
 use Rattle.unroll.specs.Parts.{HoldsWindow, KnowsPart, KnowsParts, KnowsBelow}
 use Rattle.unroll.specs.declared.fault.MakeFault.{MakeFault}
 use Rattle.unroll.specs.declared.fault.MakeFault.TheVariants.{Missing, OutOfMemory}
@@ -35,6 +35,15 @@ asked_both {entries = entries} {old = old} {now = now} {new = new} first later =
       same_fixed = later.same_fixed ∙ first.same_fixed;
       grows = grows_both (entries old) (entries now) (entries new) first.grows later.grows;
     }
+
+-- a block that was missing after the source had been asked
+pub missing_later :
+    {S F T U : Type 0} {plan : S → ProgramForIds} {fixed : S → F} {entries : S → Entries} {old now new : S} {m r b : ℕ}
+    {first : Entries → T → Type 0} {finds : Entries → U → Type 0} {fault : MakeFault} (result : Result U MakeFault)
+    → IsErrAnd result (λ same. same ≡ fault) → Asked plan fixed entries old now → LooksUp plan fixed entries now new m r b first (Err fault)
+    → LooksUp plan fixed entries old new m r b finds result
+missing_later (Ok item) is before missed = absurd is
+missing_later (Err same) is before missed = record { asked = asked_both before missed.asked; found = tt; missing = rw is missed.missing }
 
 -- the three parts of a window, with their blocks known
 module _ (entries : Entries) (m low : ℕ) (w : List ℕ) where

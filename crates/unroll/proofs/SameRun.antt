@@ -42,8 +42,7 @@ module _ (plan : ProgramForIds) (old now : Entries) (low : ℕ) (grows : Grows o
       record {
         start_is = rw rest at is.start_is;
         places_are = same_places plan.ids low w v run.places same is.places_are;
-        first_number = rw left at is.first_number;
-        first_is = first_grows run.first is.first_is;
+        first_is = record { number_is = rw left at is.first_is.number_is; first_is = first_grows run.first is.first_is.first_is };
         middle_is = entry_grows plan old now low _ _ grows is.middle_is;
         own_is = rw middle at is.own_is;
         own_cells = is.own_cells;
@@ -53,8 +52,8 @@ module _ (plan : ProgramForIds) (old now : Entries) (low : ℕ) (grows : Grows o
 -- the first parts of a run's windows
 module _ (plan : ProgramForIds) (entries : Entries) (low : ℕ) (w : List ℕ) (run : Run) (is : IsRun plan entries low w run) where
   pub left_is : run.first.sent ≡ to_right plan.program low (middle_state plan.program low (part w low 0))
-  left_is = rw (window_at plan.ids low run.first.number (part w low 0) is.first_number) at is.first_is.sent_is
+  left_is = rw (window_at plan.ids low run.first.number (part w low 0) is.first_is.number_is) at is.first_is.first_is.sent_is
 
   pub left_known : KnowsPart entries plan.ids low w 0
   left_known = λ n number.
-      rw (same_Some n run.first.number (sym number ∙ number_of_is (2 * low + 1) plan.ids run.first.number (part w low 0) is.first_number)) is.first_is.known
+      rw (same_Some n run.first.number (sym number ∙ number_of_is (2 * low + 1) plan.ids run.first.number (part w low 0) is.first_is.number_is)) is.first_is.first_is.known

@@ -16,7 +16,7 @@ use Rattle.window_states.specs.BlockStates.{block_state}
 use Rattle.window_states.specs.Entries.{Entries, Grows}
 use Rattle.unroll.specs.Parts.{window_in, KnowsParts, IsRun, EndsAt, InRun}
 use Rattle.unroll.specs.declared.run.Run.{Run}
-use Rattle.unroll.specs.WideColumns.{part_state, right_message, HasFronts, AreWritten, AreTaken}
+use Rattle.unroll.specs.WideColumns.{part_state, right_message, HasFronts, AreWritten, AreTakenInRun}
 use Rattle.unroll.specs.declared.upper_block.UpperBlock.{UpperBlock}
 use Rattle.unroll.proofs.ColumnStates.{below_sum, held_more}
 use Rattle.unroll.proofs.Known.{still_known, knows_three, window_at}
@@ -98,11 +98,11 @@ module _ (upper : UpperBlock) (old now : Entries) (first : List ℕ) (run : Run)
 
   -- the windows that are taken, and those of a series whose last parts are in one block from an index on
   pub taken_more :
-      (before : Entries) (from place at' c index count : ℕ) (sent written : List ℕ) → Grows before now → AreTaken before upper run from place sent
+      (before : Entries) (from place at' c index count : ℕ) (sent written : List ℕ) → Grows before now → AreTakenInRun before upper run from place sent
       → (block : IsSome (now upper.below c)) → run.start + at' ≡ BLOCK_WINDOWS * c + index → index + count ≤ BLOCK_WINDOWS
       → (upper.reads_right ≡ true → AreWritten ℕ 0 sent written place count
       (λ i. to_left upper.plan.now.program upper.below (block_state upper.plan.now upper.below c (index + i))))
-      → ((i : ℕ) → i < count → (next : List ℕ) × InRun upper first run (place + i) (at' + i) next) → AreTaken now upper run from (place + count) written
+      → ((i : ℕ) → i < count → (next : List ℕ) × InRun upper first run (place + i) (at' + i) next) → AreTakenInRun now upper run from (place + count) written
   taken_more before from place at' c index count sent written more taken known start small wrote series =
       let m : ℕ = upper.plan.now.ids in
       let low : ℕ = upper.below in
@@ -111,14 +111,16 @@ module _ (upper : UpperBlock) (old now : Entries) (first : List ℕ) (run : Run)
         fronts = λ i late lt.
             below_sum (λ i. from ≤ i → HasFronts upper run i) place count (λ i lt late. taken.fronts i late lt)
             (λ i lt late. fronts_are (place + i) (at' + i) c (index + i) (series i lt).0 (series i lt).1 (begins i)) i lt late;
-        lasts = λ reads. held_more ℕ 0 place count sent written (λ i. to_left upper.plan.now.program low (block_state upper.plan.now low c (index + i)))
-            (right_message upper) (taken.lasts reads) (wrote reads)
-            (λ i lt. ap (to_left upper.plan.now.program low) (last_is (place + i) (at' + i) c (index + i) (series i lt).0 (series i lt).1 (begins i)));
-        known = λ lower j one lt.
-            let same : lower ≡ low = omega (arith, one) in
-            rw same (below_sum (λ i. KnowsParts now m low (window_in upper i)) place count
-            (λ i early n is_part. still_known before now low (n / BLOCK_WINDOWS) more (taken.known low i refl early n is_part))
-            (λ i late. parts_known (place + i) (at' + i) c (index + i) (series i late).0 (series i late).1 (begins i) known (omega (arith, small, late))) j lt);
+        taken = record {
+          lasts = λ reads. held_more ℕ 0 place count sent written (λ i. to_left upper.plan.now.program low (block_state upper.plan.now low c (index + i)))
+              (right_message upper) (taken.taken.lasts reads) (wrote reads)
+              (λ i lt. ap (to_left upper.plan.now.program low) (last_is (place + i) (at' + i) c (index + i) (series i lt).0 (series i lt).1 (begins i)));
+          known = λ lower j one lt.
+              let same : lower ≡ low = omega (arith, one) in
+              rw same (below_sum (λ i. KnowsParts now m low (window_in upper i)) place count
+              (λ i early n is_part. still_known before now low (n / BLOCK_WINDOWS) more (taken.taken.known low i refl early n is_part))
+              (λ i late. parts_known (place + i) (at' + i) c (index + i) (series i late).0 (series i late).1 (begins i) known (omega (arith, small, late))) j lt);
+        };
       }
 
 -- the run ends with the last window of a series, or goes on with the window after it

@@ -1,5 +1,5 @@
 -- What making a block leaves of its source, and the result.
-use Rattle.std.specs.Prelude.{◌≡◌, ℕ, None, IsSome, Result, MatchResult}
+use Rattle.std.specs.Prelude.{◌≡◌, ℕ, None, IsSome, Result, IfOk, IfErr, MatchResult}
 use Rattle.lang_check.specs.Plans.{ProgramForIds}
 use Rattle.unroll.specs.Below.{IsBelow}
 use Rattle.window_states.specs.BlockStates.{MadeBlock}
@@ -40,3 +40,13 @@ IsMade entries old new plan level number maker result =
 pub record AskedFor {S F : Type 0} (level : ℕ) (plan : S → ProgramForIds) (fixed : S → F) (entries : S → Entries) (old new : S) : Type 0 where
   pub asked : Asked plan fixed entries old new
   pub not_for_0 : level ≡ 0 → new ≡ old
+
+-- A call that looks up blocks below block b of level r in a source: the source was asked, and the result is what the call
+-- `finds`, by the entries that the source has now, or that one of these blocks is not known.
+pub record LooksUp
+    {S F T : Type 0} (plan : S → ProgramForIds) (fixed : S → F) (entries : S → Entries) (old new : S) (m r b : ℕ)
+    (finds : Entries → T → Type 0) (result : Result T MakeFault)
+    : Type 0 where
+  pub asked : Asked plan fixed entries old new
+  pub found : IfOk result (finds (entries new))
+  pub missing : IfErr result (IsMissingBelow (entries new) m r b)

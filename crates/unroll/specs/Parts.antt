@@ -56,6 +56,11 @@ pub record IsFirstPart (plan : ProgramForIds) (entries : Entries) (low : ℕ) (f
   pub sent_is : first.sent ≡ to_right plan.program low (middle_state plan.program low (window_numbered plan.ids low first.number))
   pub known : IsSome (entries low (first.number / BLOCK_WINDOWS))
 
+-- so for the window w, one level above
+pub record IsFirstPartOf (plan : ProgramForIds) (entries : Entries) (low : ℕ) (w : List ℕ) (first : FirstPart) : Type 0 where
+  pub number_is : slice_get (windows (2 * low + 1) plan.ids) first.number ≡ Some (part w low 0)
+  pub first_is : IsFirstPart plan entries low first
+
 -- a known block of the level low, by its own number
 abbrev pub IsKnownBlock : ProgramForIds → Entries → ℕ → MadeBlock → Type 0
 IsKnownBlock plan entries low b = IsEntry plan entries low b.number b
@@ -72,8 +77,7 @@ pub record IsNear (plan : ProgramForIds) (entries : Entries) (low : ℕ) (near :
 pub record IsRun (plan : ProgramForIds) (entries : Entries) (low : ℕ) (w : List ℕ) (run : Run) : Type 0 where
   pub start_is : IsRunStart (2 * low) plan.ids (take (2 * low) (drop 2 w)) run.start
   pub places_are : HasPlaces (2 * low + 1) plan.ids w run.places
-  pub first_number : slice_get (windows (2 * low + 1) plan.ids) run.first.number ≡ Some (part w low 0)
-  pub first_is : IsFirstPart plan entries low run.first
+  pub first_is : IsFirstPartOf plan entries low w run.first
   pub middle_is : IsKnownBlock plan entries low run.middle.now
   pub own_is : run.own.now ≡ middle_state plan.program low (part w low 1)
   pub own_cells : length run.own.now ≡ length plan.program.start

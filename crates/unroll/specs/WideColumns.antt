@@ -1,5 +1,5 @@
 -- Columns for the windows of a block. No public contract cites this file.
-use Rattle.std.specs.Prelude.{◌≡◌, ℕ, ◌+◌, ◌-◌, ◌*◌, ◌<◌, ◌≤◌, true, false, List, [], length, slice_index, slice_index_or}
+use Rattle.std.specs.Prelude.{◌≡◌, ℕ, ◌+◌, ◌-◌, ◌*◌, ◌<◌, ◌≤◌, true, false, List, [], length, take, slice_index, slice_index_or}
 use Rattle.node_program.specs.Node.{to_left, to_right}
 use Rattle.node_program.specs.Term.{terms}
 use Rattle.win_index.specs.declared.limits.TheConstants.{BLOCK_WINDOWS}
@@ -10,6 +10,7 @@ use Rattle.unroll.specs.Below.{part}
 use Rattle.window_states.specs.BlockStates.{MadeBlock, block_len, block_state}
 use Rattle.window_states.specs.Line.{middle_state}
 use Rattle.window_states.specs.Entries.{Entries}
+use Rattle.window_states.specs.HeldStates.{first_states}
 use Rattle.unroll.specs.Parts.{window_in, IsKnownBlock, KnowsBelow, EndsAt}
 use Rattle.unroll.specs.Reading.{round_reads_right}
 use Rattle.unroll.specs.declared.scratch.Scratch.{Scratch}
@@ -38,6 +39,13 @@ pub record HasFronts (block : UpperBlock) (run : Run) (i : ℕ) : Type 0 where
   pub left : run.first.sent ≡ left_message block i
   pub own : run.own.now ≡ part_state block 1 i
 
+-- the windows of an upper block from one index to another, at most BLOCK_WINDOWS, have the first two parts of a run
+pub record ShareFronts (block : UpperBlock) (run : Run) (from end : ℕ) : Type 0 where
+  pub order : from ≤ end
+  pub few : end ≤ BLOCK_WINDOWS
+  pub cells : length run.own.now ≡ length block.plan.now.program.start
+  pub each : (i : ℕ) → from ≤ i → i < end → HasFronts block run i
+
 -- the first `count` windows of an upper block, without their last parts: item i of the columns is the message of window
 -- i from the left and the state of its middle part, or, where the round is evaluated once a run, the state of window i
 pub record HoldFronts (block : UpperBlock) (count : ℕ) (scratch : Scratch) : Type 0 where
@@ -53,18 +61,20 @@ pub record HoldFronts (block : UpperBlock) (count : ℕ) (scratch : Scratch) : T
 abbrev pub HoldLasts : UpperBlock → ℕ → List ℕ → Type 0
 HoldLasts block count sent = block.reads_right ≡ true → (i : ℕ) → i < count → slice_index sent i ≡ right_message block i
 
--- the first `count` windows of an upper block are taken, and the blocks of their parts are known
-pub record AreGathered (entries : Entries) (block : UpperBlock) (count : ℕ) (scratch : Scratch) : Type 0 where
-  pub fronts : HoldFronts block count scratch
-  pub lasts : HoldLasts block count scratch.from_right.items
+-- the last parts of the first `count` windows of an upper block were taken, and the blocks of their parts are known
+pub record AreTaken (entries : Entries) (block : UpperBlock) (count : ℕ) (sent : List ℕ) : Type 0 where
+  pub lasts : HoldLasts block count sent
   pub known : KnowsBelow entries block.plan.now.ids (block.below + 1) block.number count
 
--- the windows of an upper block from an index to the index `end` are in a run; the last parts of all windows before `end`
--- were taken, and the blocks of their parts are known
-pub record AreTaken (entries : Entries) (block : UpperBlock) (run : Run) (from end : ℕ) (sent : List ℕ) : Type 0 where
+-- so were all parts of these windows
+pub record AreGathered (entries : Entries) (block : UpperBlock) (count : ℕ) (scratch : Scratch) : Type 0 where
+  pub fronts : HoldFronts block count scratch
+  pub taken : AreTaken entries block count scratch.from_right.items
+
+-- so were those of the windows before the index `end`, and the first two parts of those from an index on are a run's
+pub record AreTakenInRun (entries : Entries) (block : UpperBlock) (run : Run) (from end : ℕ) (sent : List ℕ) : Type 0 where
   pub fronts : (i : ℕ) → from ≤ i → i < end → HasFronts block run i
-  pub lasts : HoldLasts block end sent
-  pub known : KnowsBelow entries block.plan.now.ids (block.below + 1) block.number end
+  pub taken : AreTaken entries block end sent
 
 -- such windows up to where their run ends, or the block; the known block `last` holds the last part of the one before `end`
 pub record IsRunGathered
@@ -75,13 +85,17 @@ pub record IsRunGathered
   pub ended : end < block_len block.plan.now.ids (block.below + 1) block.number
       → EndsAt block.plan.now.ids (block.below + 1) (window_in block from) (BLOCK_WINDOWS * block.number + (end - 1))
   pub last_is : IsKnownBlock block.plan.now entries block.below last
-  pub taken : AreTaken entries block run from end sent
+  pub taken : AreTakenInRun entries block run from end sent
 
 -- the `count` items from a place on are these now, and the items before them are unchanged
 pub record AreWritten (A : Type 0) (none : A) (old new : List A) (place count : ℕ) (item : ℕ → A) : Type 0 where
   pub size : length new ≡ length old
   pub here : (i : ℕ) → i < count → slice_index_or new (place + i) none ≡ item i
   pub before : (i : ℕ) → i < place → slice_index_or new i none ≡ slice_index_or old i none
+
+-- the first ones of these states are those of block b of level r
+abbrev pub HoldBlock : ProgramForIds → ℕ → ℕ → List (List ℕ) → Type 0
+HoldBlock plan r b states = take (block_len plan.ids r b) states ≡ first_states plan r b (block_len plan.ids r b)
 
 -- scratch for the blocks of a plan: room for its expressions, columns for its registers, and which of its rounds read the
 -- message from the right

@@ -1,11 +1,10 @@
 //! The states of a block's windows, from the states of their parts in blocks one level lower.
-ghost use Rattle.std.specs.Prelude.{◌≡◌, ℕ, ◌+◌, ◌-◌, ◌*◌, ◌<◌, ◌≤◌, [], ◌∷◌, length, take, slice_index, IfOk, IfErr, OnOk};
+ghost use Rattle.std.specs.Prelude.{◌≡◌, ℕ, ◌+◌, ◌-◌, ◌*◌, ◌<◌, [], ◌∷◌, length, slice_index};
 ghost use Rattle.window_states.specs.BlockStates.{IsKey, block_len, window_numbered};
-ghost use Rattle.window_states.specs.Entries.{Asked};
-ghost use Rattle.window_states.specs.HeldStates.{first_states, HoldsSent};
-ghost use Rattle.unroll.specs.MakeFaults.{AskedFor, KnowsAllBelow, IsMissingBelow};
-ghost use Rattle.unroll.specs.Parts.{IsFirstWindow, IsReached, KnowsBelow};
-ghost use Rattle.unroll.specs.WideColumns.{AreGathered, HasFronts, HoldFronts, HoldLasts, IsRunGathered, IsReady};
+ghost use Rattle.window_states.specs.HeldStates.{HoldsSent};
+ghost use Rattle.unroll.specs.MakeFaults.{KnowsAllBelow, LooksUp};
+ghost use Rattle.unroll.specs.Parts.{IsFirstWindow, IsReached};
+ghost use Rattle.unroll.specs.WideColumns.{AreGathered, AreTaken, HoldBlock, HoldFronts, IsReady, IsRunGathered, ShareFronts};
 ghost use Rattle.win_index.specs.Blocks.{block_count};
 
 use crate::fault::MakeFault;
@@ -30,11 +29,10 @@ pub(crate) fn gather<'s, S: Source<'s>>(
     requires plan { S.plan source.old ≡ upper.plan.now }
     requires window { IsFirstWindow upper.plan.now.ids (upper.below + 1) upper.number window.now }
     requires ready { IsReady upper.plan.now scratch.old }
-    ensures asked { Asked S.plan S.fixed S.entries source.old source.new }
     ensures ready { IsReady upper.entry.plan.now scratch.new }
-    ensures gathered { OnOk result (AreGathered (S.entries source.new) upper.entry
-        (block_len upper.entry.plan.now.ids (upper.entry.below + 1) upper.entry.number) scratch.new) }
-    ensures missing { IfErr result (IsMissingBelow (S.entries source.new) upper.entry.plan.now.ids (upper.entry.below + 1) upper.entry.number) }
+    ensures gathered { let u = upper.entry in
+        LooksUp S.plan S.fixed S.entries source.old source.new u.plan.now.ids (u.below + 1) u.number
+        (λ entries _. AreGathered entries u (block_len u.plan.now.ids (u.below + 1) u.number) scratch.new) result }
 {
     let shape = upper.plan.shape();
     let below = upper.below;
@@ -87,12 +85,10 @@ fn gather_run<'s, S: Source<'s>>(
     requires plan { S.plan source.old ≡ upper.plan.now }
     requires reached { IsReached (S.entries source.old) upper reached }
     requires wide { length sent.old ≡ BLOCK_WINDOWS }
-    requires lasts { HoldLasts upper reached.index sent.old }
-    requires known { KnowsBelow (S.entries source.old) upper.plan.now.ids (upper.below + 1) upper.number reached.index }
-    ensures asked { Asked S.plan S.fixed S.entries source.old source.new }
-    ensures gathered { IfOk result (λ r. IsRunGathered (S.entries source.new) upper.entry reached.entry.run
-        reached.entry.index r.0 r.1.now sent.new) }
-    ensures missing { IfErr result (IsMissingBelow (S.entries source.new) upper.entry.plan.now.ids (upper.entry.below + 1) upper.entry.number) }
+    requires taken { AreTaken (S.entries source.old) upper reached.index sent.old }
+    ensures { let u = upper.entry in
+        LooksUp S.plan S.fixed S.entries source.old source.new u.plan.now.ids (u.below + 1) u.number
+        (λ entries r. IsRunGathered entries u reached.entry.run reached.entry.index r.0 r.1.now sent.new) result }
 {
     let len = upper.len;
     let Reached {
@@ -129,14 +125,11 @@ fn gather_run<'s, S: Source<'s>>(
 // in one run: writes them to columns or, where the round is evaluated once a run, the windows'
 // state after it.
 fn take_fronts(upper: UpperBlock<'_>, run: Run<'_>, from: u32, end: u32, scratch: &mut Scratch)
-    requires range { (from ≤ end) × (end ≤ BLOCK_WINDOWS) }
+    requires fronts { ShareFronts upper run from end }
     requires ready { IsReady upper.plan.now scratch.old }
-    requires cells { length run.own.now ≡ length upper.plan.now.program.start }
-    requires fronts { (i : ℕ) → from ≤ i → i < end → HasFronts upper run i }
     requires held { HoldFronts upper from scratch.old }
     ensures ready { IsReady upper.entry.plan.now scratch.new }
-    ensures held { HoldFronts upper.entry end scratch.new }
-    ensures right { scratch.new.from_right ≡ scratch.old.from_right }
+    ensures held { HoldFronts upper.entry end scratch.new × (scratch.new.from_right ≡ scratch.old.from_right) }
 {
     states_from_parts();
     let place = from as usize;
@@ -164,12 +157,10 @@ pub(crate) fn write_states<'s, S: Source<'s>>(
     requires plan { S.plan source.old ≡ code.now }
     requires key { IsKey code.now level number }
     requires ready { IsReady code.now scratch.old }
-    ensures asked { AskedFor level S.plan S.fixed S.entries source.old source.new }
     ensures ready { IsReady code.now scratch.new }
-    ensures states { OnOk result (take (block_len code.now.ids level number) scratch.new.made.states
-        ≡ first_states code.now level number (block_len code.now.ids level number)) }
-    ensures known { OnOk result (KnowsAllBelow (S.entries source.new) code.now.ids level number) }
-    ensures missing { IfErr result (IsMissingBelow (S.entries source.new) code.now.ids level number) }
+    ensures written { LooksUp S.plan S.fixed S.entries source.old source.new code.now.ids level number
+        (λ entries _. HoldBlock code.now level number scratch.new.made.states × KnowsAllBelow entries code.now.ids level number) result
+        × (level ≡ 0 → source.new ≡ source.old) }
 {
     states_from_parts();
     let plan = code.plan();
@@ -207,8 +198,7 @@ pub(crate) fn start_states(code: &Code<'_>, number: u32, window: &mut [u32], scr
     requires window { IsFirstWindow code.now.ids 0 number window.old }
     requires ready { IsReady code.now scratch.old }
     ensures ready { IsReady code.now scratch.new }
-    ensures states { take (block_len code.now.ids 0 number) scratch.new.made.states
-        ≡ first_states code.now 0 number (block_len code.now.ids 0 number) }
+    ensures states { HoldBlock code.now 0 number scratch.new.made.states }
 {
     states_from_parts();
     let mut ids = [0; BLOCK_WINDOWS as usize];
@@ -244,8 +234,7 @@ pub(crate) fn send_states(
     requires sizes { level < length code.now.program.steps
         → (length to_left.old ≡ BLOCK_WINDOWS) × (length to_right.old ≡ BLOCK_WINDOWS) }
     ensures ready { IsReady code.now scratch.new }
-    ensures sent { (b : ℕ) → take (block_len code.now.ids level b) scratch.old.made.states
-        ≡ first_states code.now level b (block_len code.now.ids level b)
+    ensures sent { (b : ℕ) → HoldBlock code.now level b scratch.old.made.states
         → HoldsSent code.now level b to_left.new to_right.new }
 {
     if level < code.plan().shape().rounds() {

@@ -1,11 +1,11 @@
 //! The blocks that hold the parts of windows: the first, the middle and the last identifiers of a window,
 //! which are windows one level lower. They are at the offsets 0, 1 and 2.
-ghost use Rattle.std.specs.Prelude.{◌≡◌, ◌+◌, ◌<◌, ◌≤◌, ℕ, length, None, true, IfSome, IfNone, IfOk, IfErr};
+ghost use Rattle.std.specs.Prelude.{◌≡◌, ◌+◌, ◌<◌, ◌≤◌, ℕ, length, None, true, IfSome, MatchOption};
 ghost use Rattle.node_program.specs.Node.{to_left};
 ghost use Rattle.window_states.specs.BlockStates.{IsKey, block_len, block_state};
 ghost use Rattle.window_states.specs.Entries.{Asked, IsEntry};
 ghost use Rattle.unroll.specs.Below.{IsPartNumber};
-ghost use Rattle.unroll.specs.MakeFaults.{IsMissingBelow};
+ghost use Rattle.unroll.specs.MakeFaults.{LooksUp};
 ghost use Rattle.unroll.specs.Parts.{window_in, HoldsWindow, IsKnownBlock};
 ghost use Rattle.unroll.specs.WideColumns.{AreWritten};
 
@@ -29,11 +29,9 @@ pub(crate) fn part_block<'s, S: Source<'s>>(
     requires inside { index < block_len upper.plan.now.ids (upper.below + 1) upper.number }
     requires part { IsPartNumber upper.plan.now.ids upper.below (window_in upper index) number }
     requires last { IfSome last (λ b. IsKnownBlock upper.plan.now (S.entries source.old) upper.below b.now) }
-    ensures asked { Asked S.plan S.fixed S.entries source.old source.new }
-    ensures window { IfOk result (λ r. HoldsWindow upper.entry.plan.now (S.entries source.new) upper.entry.below
-        number r.0.now r.1) }
-    ensures missing { IfErr result (IsMissingBelow (S.entries source.new) upper.entry.plan.now.ids
-        (upper.entry.below + 1) upper.entry.number) }
+    ensures { let u = upper.entry in
+        LooksUp S.plan S.fixed S.entries source.old source.new u.plan.now.ids (u.below + 1) u.number
+        (λ entries r. HoldsWindow u.plan.now entries u.below number r.0.now r.1) result }
 {
     let place = number / BLOCK_WINDOWS;
     let Some(block) = known_block(upper.plan, source, upper.below, place, last) else {
@@ -54,8 +52,8 @@ fn known_block<'s, S: Source<'s>>(
     requires key { IsKey plan.now level number }
     requires last { IfSome last (λ b. IsKnownBlock plan.now (S.entries source.old) level b.now) }
     ensures asked { Asked S.plan S.fixed S.entries source.old source.new }
-    ensures found { IfSome result (λ b. IsEntry plan.now (S.entries source.new) level number b.now) }
-    ensures missing { IfNone result (S.entries source.new level number ≡ None) }
+    ensures block { MatchOption result (S.entries source.new level number ≡ None)
+        (λ b. IsEntry plan.now (S.entries source.new) level number b.now) }
 {
     match last {
         Some(block) if block.number() == number => Some(block),

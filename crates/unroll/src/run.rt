@@ -1,10 +1,7 @@
 //! Runs: the windows with a common prefix, all identifiers but the last.
-ghost use Rattle.std.specs.Prelude.{◌≡◌, ◌+◌, ◌*◌, length, slice_get, Some, IfSome, IfOk, IfErr};
-ghost use Rattle.window_states.specs.Entries.{Asked};
-ghost use Rattle.unroll.specs.Below.{part};
-ghost use Rattle.unroll.specs.MakeFaults.{IsMissingBelow};
-ghost use Rattle.unroll.specs.Parts.{window_in, IsWindowIn, IsAtIndex, IsFirstPart, IsNear, IsRun};
-ghost use Rattle.win_index.specs.Windows.{windows};
+ghost use Rattle.std.specs.Prelude.{◌≡◌, ◌+◌, IfSome};
+ghost use Rattle.unroll.specs.MakeFaults.{LooksUp};
+ghost use Rattle.unroll.specs.Parts.{window_in, IsWindowIn, IsAtIndex, IsFirstPart, IsFirstPartOf, IsNear, IsRun};
 
 use crate::fault::MakeFault;
 use crate::parts::part_block;
@@ -62,9 +59,9 @@ pub(crate) fn start_run<'s, S: Source<'s>>(
     requires plan { S.plan source.old ≡ upper.plan.now }
     requires here { IsAtIndex upper index prefix }
     requires near { IsNear upper.plan.now (S.entries source.old) upper.below near }
-    ensures asked { Asked S.plan S.fixed S.entries source.old source.new }
-    ensures run { IfOk result (IsRun upper.entry.plan.now (S.entries source.new) upper.entry.below (window_in upper.entry index)) }
-    ensures missing { IfErr result (IsMissingBelow (S.entries source.new) upper.entry.plan.now.ids (upper.entry.below + 1) upper.entry.number) }
+    ensures { let u = upper.entry in
+        LooksUp S.plan S.fixed S.entries source.old source.new u.plan.now.ids (u.below + 1) u.number
+        (λ entries. IsRun u.plan.now entries u.below (window_in u index)) result }
 {
     let shape = upper.plan.shape();
     let below = upper.below;
@@ -90,10 +87,9 @@ fn first_part<'s, S: Source<'s>>(
     requires plan { S.plan source.old ≡ upper.plan.now }
     requires here { IsWindowIn upper index }
     requires given { IfSome given (IsFirstPart upper.plan.now (S.entries source.old) upper.below) }
-    ensures asked { Asked S.plan S.fixed S.entries source.old source.new }
-    ensures number { IfOk result (λ first. slice_get (windows (2 * upper.entry.below + 1) upper.entry.plan.now.ids) first.number ≡ Some (part (window_in upper.entry index) upper.entry.below 0)) }
-    ensures first { IfOk result (IsFirstPart upper.entry.plan.now (S.entries source.new) upper.entry.below) }
-    ensures missing { IfErr result (IsMissingBelow (S.entries source.new) upper.entry.plan.now.ids (upper.entry.below + 1) upper.entry.number) }
+    ensures { let u = upper.entry in
+        LooksUp S.plan S.fixed S.entries source.old source.new u.plan.now.ids (u.below + 1) u.number
+        (λ entries. IsFirstPartOf u.plan.now entries u.below (window_in u index)) result }
 {
     let shape = upper.plan.shape();
     let below = upper.below;

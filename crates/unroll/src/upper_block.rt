@@ -37,9 +37,7 @@ impl<'p> UpperBlock<'p> {
         requires below { below < length plan.now.program.steps }
         requires reads { reads_right ≡ round_reads_right plan.now.program below }
         requires number { number < block_count plan.now.ids (below + 1) }
-        ensures plan { result.plan.now ≡ plan.entry.now }
-        ensures below { result.below ≡ below }
-        ensures number { result.number ≡ number }
+        ensures { (result.plan.now ≡ plan.entry.now) × (result.below ≡ below) × (result.number ≡ number) }
     {
         let shape = plan.shape();
         // The proof takes the limit of the number of windows from this call.

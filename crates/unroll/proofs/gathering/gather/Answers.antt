@@ -5,7 +5,7 @@ use Rattle.win_index.specs.declared.limits.TheConstants.{BLOCK_WINDOWS}
 use Rattle.window_states.specs.BlockStates.{block_len, window_numbered}
 use Rattle.unroll.specs.Parts.{window_in, IsKnownBlock}
 use Rattle.unroll.specs.WideColumns.{AreGathered}
-use Rattle.unroll.proofs.Known.{still_known, window_at, asked_both, entry_grows, if_some_more}
+use Rattle.unroll.proofs.Known.{still_known, window_at, asked_both, missing_later, entry_grows, if_some_more}
 use Rattle.unroll.proofs.NextRuns.{next_run, some_run_follows, first_place}
 use Rattle.unroll.proofs.SameRun.{first_grows}
 use Rattle.unroll.proofs.gathering.gather.Given.{Over}
@@ -42,16 +42,12 @@ loop-run-init g c =
       gathered = search rules;
     }
 
-pub returns-in_err-run-clause-asked : goal.returns-in_err-run-clause-asked
-returns-in_err-run-clause-asked g c = asked_both c.loop-run.invariant.asked c.in_err-run.ensures.asked
+pub returns-in_err-run-clause-gathered : goal.returns-in_err-run-clause-gathered
+returns-in_err-run-clause-gathered g c = missing_later _ c.from_residual.ensures.1 c.loop-run.invariant.asked c.in_err-run.ensures
 
-pub returns-in_err-after-clause-asked : goal.returns-in_err-after-clause-asked
-returns-in_err-after-clause-asked g c =
-    asked_both (asked_both c.loop-run.invariant.asked c.in_ok-run.ensures.asked) c.in_err-after.ensures.asked
-
-pub returns-then-after-len-clause-asked : goal.returns-then-after-len-clause-asked
-returns-then-after-len-clause-asked g c =
-    asked_both (asked_both c.loop-run.invariant.asked c.in_ok-run.ensures.asked) c.in_ok-after.ensures.asked
+pub returns-in_err-after-clause-gathered : goal.returns-in_err-after-clause-gathered
+returns-in_err-after-clause-gathered g c =
+    missing_later _ c.from_residual-in_err-after.ensures.1 (asked_both c.loop-run.invariant.asked c.in_ok-run.ensures.asked) c.in_err-after.ensures
 
 pub gather_run-requires : goal.gather_run-requires
 gather_run-requires g c κs =
@@ -69,22 +65,22 @@ gather_run-requires g c κs =
         (
           record {
             inside = before.here.is.inside;
-            run = answer.run;
+            run = answer.found;
             here = record {
               here = before.here.is.here;
               same = refl;
-              is = record { window_is = grind (arith, before.here.is.window); run_has = answer.run.places_are; place_is = grind (arith, before.placed.place_is) };
+              is = record { window_is = grind (arith, before.here.is.window); run_has = answer.found.places_are; place_is = grind (arith, before.placed.place_is) };
             };
-            before_end = omega (arith, before.placed.inside, answer.run.places_are.end);
+            before_end = omega (arith, before.placed.inside, answer.found.places_are.end);
             last = if_some_more (λ b. IsKnownBlock plan old low b.now) (λ b. IsKnownBlock plan new low b.now) c.loop-run.near.last
                 (λ b is. entry_grows plan old new low b.now.number b.now grows is) before.near.last;
           },
           (
             ap length c.deref_mut.ensures.value ∙ before.ready.from_right_wide,
-            (
-              rw c.deref_mut.ensures.value before.gathered.lasts,
-              λ lower j one lt n is. still_known old new lower (n / BLOCK_WINDOWS) grows (before.gathered.known lower j one lt n is),
-            ),
+            record {
+              lasts = rw c.deref_mut.ensures.value before.gathered.taken.lasts;
+              known = λ lower j one lt n is. still_known old new lower (n / BLOCK_WINDOWS) grows (before.gathered.taken.known lower j one lt n is);
+            },
           ),
         ),
       ),
@@ -95,8 +91,7 @@ module _ (g : Over) (c : After-take_fronts g) where
   gathered : AreGathered (g.S.Source.entries c.gather_run.new.source) c.args.upper c.in_ok-after.after c.take_fronts.new.scratch
   gathered =
       let whole = with_items_is c.loop-run.scratch.from_right c.gather_run.new.sent (c.gather_run.auto.sent ∙ c.deref_mut.ensures.len) in
-      let run = c.in_ok-after.ensures.gathered.taken in
-      record { fronts = c.take_fronts.ensures.held; lasts = rw (c.take_fronts.ensures.right, whole) run.lasts; known = run.known }
+      record { fronts = c.take_fronts.ensures.held.0; taken = rw (c.take_fronts.ensures.held.1, whole) c.in_ok-after.ensures.found.taken.taken }
 
 pub returns-then-after-len-clause-gathered : goal.returns-then-after-len-clause-gathered
 returns-then-after-len-clause-gathered g c =
@@ -104,12 +99,16 @@ returns-then-after-len-clause-gathered g c =
     let len = c.args.upper.len_is in
     let done : c.in_ok-after.after ≡ block_len upper.plan.now.ids (upper.below + 1) upper.number = omega (arith, len, c.if-after-len.true) in
     let all = gathered g (goal.at.returns-then-after-len-clause-gathered g c).After-take_fronts in
-    subst (λ count. AreGathered (g.S.Source.entries c.gather_run.new.source) upper count c.take_fronts.new.scratch) done all
+    record {
+      asked = asked_both (asked_both c.loop-run.invariant.asked c.in_ok-run.ensures.asked) c.in_ok-after.ensures.asked;
+      found = subst (λ count. AreGathered (g.S.Source.entries c.gather_run.new.source) upper count c.take_fronts.new.scratch) done all;
+      missing = tt;
+    }
 
 pub unreachable-requires : goal.unreachable-requires
 unreachable-requires g c =
     let upper = c.args.upper in
-    let run = c.in_ok-after.ensures.gathered in
+    let run = c.in_ok-after.ensures.found in
     let len = c.args.upper.len_is in
     let within : c.in_ok-after.after < block_len upper.plan.now.ids (upper.below + 1) upper.number = omega (arith, len, run.within, c.if-after-len.false) in
     some_run_follows upper c.loop-run.index c.in_ok-after.after c.loop-run.prefixes.prefix (omega (arith, run.later)) within (run.ended within)
@@ -125,7 +124,7 @@ loop-run-preserved g c =
     let before = c.loop-run.invariant in
     let asked = c.in_ok-run.ensures in
     let went = c.in_ok-after.ensures in
-    let run = went.gathered in
+    let run = went.found in
     let len = c.args.upper.len_is in
     let within : after < block_len plan.ids (low + 1) upper.number = omega (arith, len, run.within, c.if-after-len.false) in
     let next = next_run upper c.loop-run.index after c.loop-run.prefixes.prefix (omega (arith, run.later)) within (run.ended within)
@@ -137,8 +136,8 @@ loop-run-preserved g c =
       lists = rw c.in-Some.ensures.lists before.lists;
       placed = first_place upper after c.first-place.result c.in-Some.next.prefix c.prefix_places.result next places c.first-place.ensures.place c.first-place.ensures.inside;
       near = record {
-        first = first_grows plan (entries c.start_run.new.source) (entries c.gather_run.new.source) low went.asked.grows _ asked.run.first_is;
-        middle = entry_grows plan (entries c.start_run.new.source) (entries c.gather_run.new.source) low _ _ went.asked.grows asked.run.middle_is;
+        first = first_grows plan (entries c.start_run.new.source) (entries c.gather_run.new.source) low went.asked.grows _ asked.found.first_is.first_is;
+        middle = entry_grows plan (entries c.start_run.new.source) (entries c.gather_run.new.source) low _ _ went.asked.grows asked.found.middle_is;
         last = run.last_is;
       };
       ready = c.take_fronts.ensures.ready;

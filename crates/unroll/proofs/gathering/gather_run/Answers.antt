@@ -5,8 +5,8 @@ use Rattle.win_index.specs.Runs.{IsAtPlace}
 use Rattle.win_index.specs.Windows.{windows}
 use Rattle.unroll.specs.Below.{part}
 use Rattle.unroll.specs.Parts.{window_in, InRun}
-use Rattle.unroll.specs.WideColumns.{AreTaken}
-use Rattle.unroll.proofs.Known.{window_at, asked_both, own_entry}
+use Rattle.unroll.specs.WideColumns.{AreTakenInRun}
+use Rattle.unroll.proofs.Known.{window_at, asked_both, missing_later, own_entry}
 use Rattle.unroll.proofs.SeriesStates.{last_part, in_series, taken_more, run_ends, run_goes_on}
 use Rattle.unroll.proofs.gathering.gather_run.Given.{Over}
 use Rattle.unroll.proofs.gathering.gather_run.Goals.{After-put_lasts, At-loop-block}
@@ -25,17 +25,17 @@ module _ (g : Over) (c : After-put_lasts g) where
       c.loop-block.place c.loop-block.at c.series-count.result here.0 here.1
       (c.series-count.ensures.series (2 * c.args.upper.below + 1) c.args.upper.plan.now.ids here.0 (omega arith) here.1.is)
 
-  taken : AreTaken (g.S.Source.entries c.part_block.new.source) c.args.upper c.args.reached.run c.args.reached.index
+  taken : AreTakenInRun (g.S.Source.entries c.part_block.new.source) c.args.upper c.args.reached.run c.args.reached.index
       (c.loop-block.place + c.series-count.result) c.put_lasts.new.cells
   taken =
       let entries = g.S.Source.entries in
       let answer = c.in_ok-block.ensures in
-      let is = answer.window.block in
-      let few : c.in_ok-block.index + c.series-count.result ≤ BLOCK_WINDOWS = omega (arith, c.series-count.ensures.few, c.min.ensures, answer.window.inside, c.len.ensures) in
+      let is = answer.found.block in
+      let few : c.in_ok-block.index + c.series-count.result ≤ BLOCK_WINDOWS = omega (arith, c.series-count.ensures.few, c.min.ensures, answer.found.inside, c.len.ensures) in
       taken_more c.args.upper (entries c.args.source.now) (entries c.part_block.new.source) (window_in c.args.upper c.args.reached.index) c.args.reached.run
       (asked_both c.loop-block.invariant.asked answer.asked).grows c.requires.reached.run (entries c.loop-block.source) c.args.reached.index c.loop-block.place
       c.loop-block.at c.in_ok-block.block.now.number c.in_ok-block.index c.series-count.result c.loop-block.sent c.put_lasts.new.cells answer.asked.grows
-      c.loop-block.invariant.taken (rw (is.number_is, is.known) refl) (omega (arith, answer.window.place, is.number_is)) few c.put_lasts.ensures series
+      c.loop-block.invariant.taken (rw (is.number_is, is.known) refl) (omega (arith, answer.found.place, is.number_is)) few c.put_lasts.ensures series
 
   -- the last of them
   last : (w : List ℕ) × InRun c.args.upper (window_in c.args.upper c.args.reached.index) c.args.reached.run
@@ -47,38 +47,40 @@ module _ (g : Over) (c : After-put_lasts g) where
       let place : c.loop-block.at + (c.series-count.result - 1) ≡ c.loop-block.at + c.series-count.result - 1 = omega (arith, c.series-count.ensures.some) in
       rw place at last.1.is
 
-pub returns-in_err-block-clause-asked : goal.returns-in_err-block-clause-asked
-returns-in_err-block-clause-asked g c = asked_both c.loop-block.invariant.asked c.in_err-block.ensures.asked
+pub returns-in_err-block : goal.returns-in_err-block
+returns-in_err-block g c = missing_later _ c.from_residual.ensures.1 c.loop-block.invariant.asked c.in_err-block.ensures
 
-pub returns-then-place-len-clause-asked : goal.returns-then-place-len-clause-asked
-returns-then-place-len-clause-asked g c = asked_both c.loop-block.invariant.asked c.in_ok-block.ensures.asked
-
-pub returns-in_default-clause-asked : goal.returns-in_default-clause-asked
-returns-in_default-clause-asked g c = asked_both c.loop-block.invariant.asked c.in_ok-block.ensures.asked
-
-pub returns-then-place-len-clause-gathered : goal.returns-then-place-len-clause-gathered
-returns-then-place-len-clause-gathered g c =
+pub returns-then-place-len : goal.returns-then-place-len
+returns-then-place-len g c =
     let len = c.args.upper.len_is in
     record {
-      later = omega (arith, c.loop-block.invariant.after, c.series-count.ensures.some);
-      within = omega (arith, len, c.if-place-len.true);
-      ended = λ fewer. absurd (omega (arith, len, c.if-place-len.true, fewer));
-      last_is = own_entry _ _ _ _ _ c.in_ok-block.ensures.window.block;
-      taken = taken g (goal.at.returns-then-place-len-clause-gathered g c).After-put_lasts;
+      asked = asked_both c.loop-block.invariant.asked c.in_ok-block.ensures.asked;
+      found = record {
+        later = omega (arith, c.loop-block.invariant.after, c.series-count.ensures.some);
+        within = omega (arith, len, c.if-place-len.true);
+        ended = λ fewer. absurd (omega (arith, len, c.if-place-len.true, fewer));
+        last_is = own_entry _ _ _ _ _ c.in_ok-block.ensures.found.block;
+        taken = taken g (goal.at.returns-then-place-len g c).After-put_lasts;
+      };
+      missing = tt;
     }
 
-pub returns-in_default-clause-gathered : goal.returns-in_default-clause-gathered
-returns-in_default-clause-gathered g c =
-    let d = (goal.at.returns-in_default-clause-gathered g c).After-put_lasts in
+pub returns-in_default : goal.returns-in_default
+returns-in_default g c =
+    let d = (goal.at.returns-in_default g c).After-put_lasts in
     let some = c.series-count.ensures.some in
     let end = last g d in
     let greatest = c.in_default.ensures.last (2 * c.args.upper.below + 1) c.args.upper.plan.now.ids end.0 (omega arith) (last_place g d) in
     record {
-      later = omega (arith, c.loop-block.invariant.after, some);
-      within = omega (arith, c.args.upper.len_is, c.series-count.ensures.few, c.min.ensures, c.loop-block.invariant.within);
-      ended = λ fewer. run_ends c.args.upper _ c.args.reached.run c.loop-block.place c.series-count.result _ end.0 some end.1 greatest;
-      last_is = own_entry _ _ _ _ _ c.in_ok-block.ensures.window.block;
-      taken = taken g d;
+      asked = asked_both c.loop-block.invariant.asked c.in_ok-block.ensures.asked;
+      found = record {
+        later = omega (arith, c.loop-block.invariant.after, some);
+        within = omega (arith, c.args.upper.len_is, c.series-count.ensures.few, c.min.ensures, c.loop-block.invariant.within);
+        ended = λ fewer. run_ends c.args.upper _ c.args.reached.run c.loop-block.place c.series-count.result _ end.0 some end.1 greatest;
+        last_is = own_entry _ _ _ _ _ c.in_ok-block.ensures.found.block;
+        taken = taken g d;
+      };
+      missing = tt;
     }
 
 -- the last part of the window that is reached
@@ -125,7 +127,7 @@ loop-block-preserved g c =
       at_inside = c.in-Some.ensures.inside.1;
       asked = asked_both before.asked c.in_ok-block.ensures.asked;
       here = (later.0, run_goes_on c.args.upper _ c.args.reached.run c.loop-block.place c.series-count.result _ end.0 some end.1 later.0 c.in-Some.next later.1 later.2 later.3);
-      last = own_entry _ _ _ _ _ c.in_ok-block.ensures.window.block;
+      last = own_entry _ _ _ _ _ c.in_ok-block.ensures.found.block;
       wide = c.put_lasts.auto.cells ∙ before.wide;
       taken = taken g d;
     }

@@ -1,7 +1,7 @@
 use Rattle.std.proofs.Common.{◌≡◌, ◌-◌, ◌<◌, ◌≤◌, List, ℕ, length, IfSome}
 use Rattle.window_states.specs.Entries.{Asked}
 use Rattle.unroll.specs.Parts.{window_in, InRun, IsKnownBlock}
-use Rattle.unroll.specs.WideColumns.{AreTaken}
+use Rattle.unroll.specs.WideColumns.{AreTakenInRun}
 use Rattle.unroll.proofs.gathering.gather_run.Given as goal
 use Rattle.win_index.specs.declared.limits.TheConstants.{BLOCK_WINDOWS}
 
@@ -15,7 +15,7 @@ invariant-loop-block g l =
       here : (w : List ℕ) × InRun l.upper (window_in l.upper l.reached.index) l.run l.place l.at w;
       last : IfSome l.last (λ b. IsKnownBlock l.upper.plan.now (g.S.Source.entries l.source) l.upper.below b.now);
       wide : length l.sent ≡ BLOCK_WINDOWS;
-      taken : AreTaken (g.S.Source.entries l.source) l.upper l.run l.from l.place l.sent;
+      taken : AreTakenInRun (g.S.Source.entries l.source) l.upper l.run l.from l.place l.sent;
     }
 
 abbrev pub decreases-loop-block : goal.decreases-loop-block

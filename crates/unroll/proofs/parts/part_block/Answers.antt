@@ -16,21 +16,30 @@ known_block-requires g c κs =
     let inside = inside_level upper.plan.now.ids upper.below c.args.number _ c.requires.part in
     ((refl, tt), (c.requires.plan, ((omega (arith, upper.above), omega (arith, inside)), c.requires.last)))
 
-pub returns-clause-window : goal.returns-clause-window
-returns-clause-window g c =
+pub returns : goal.returns
+returns g c =
     let upper = c.args.upper in
     let inside = inside_level upper.plan.now.ids upper.below c.args.number _ c.requires.part in
-    record { block = c.in-Some.ensures.found; place = refl; inside = omega (arith, inside) }
+    record {
+      asked = c.in-Some.ensures.asked;
+      found = record { block = c.in-Some.ensures.block; place = refl; inside = omega (arith, inside) };
+      missing = tt;
+    }
 
-pub returns-in_default-clause-missing : goal.returns-in_default-clause-missing
-returns-in_default-clause-missing g c = (
-  record {
-    one_lower = refl;
-    place = c.args.index;
-    inside = c.requires.inside;
-    number = c.args.number;
-    is_part = c.requires.part;
-    block_is = refl;
-  },
-  c.in_default.ensures.missing,
-)
+pub returns-in_default : goal.returns-in_default
+returns-in_default g c =
+    record {
+      asked = c.in_default.ensures.asked;
+      found = tt;
+      missing = (
+        record {
+          one_lower = refl;
+          place = c.args.index;
+          inside = c.requires.inside;
+          number = c.args.number;
+          is_part = c.requires.part;
+          block_is = refl;
+        },
+        c.in_default.ensures.block,
+      );
+    }

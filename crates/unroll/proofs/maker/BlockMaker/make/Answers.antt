@@ -23,6 +23,6 @@ new-requires g c =
       size = refl;
       cells_size = c.take_rows.auto.cells ∙ c.deref_mut.ensures.len ∙ c.in-Ok.ensures.0 ∙ (λ j. len j * width j);
       states = c.rows_are_taken.ensures (length plan.program.start) (block_len plan.ids c.args.level c.args.number) cells
-          ∙ rw (registers, len) at c.take_rows.ensures ∙ c.in_ok-write_states.ensures.states;
-      sent = c.send_states.ensures.sent c.args.number c.in_ok-write_states.ensures.states;
+          ∙ rw (registers, len) at c.take_rows.ensures ∙ c.in_ok-write_states.ensures.written.0.found.0;
+      sent = c.send_states.ensures.sent c.args.number c.in_ok-write_states.ensures.written.0.found.0;
     })
