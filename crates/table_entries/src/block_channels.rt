@@ -43,9 +43,8 @@ pub(crate) fn write_channels(
 
 // Appends numbers below a limit that fits 16 bits.
 pub(crate) fn append_below(numbers: &[u32], limit: u32, entries: &mut Vec<u16>)
-    requires limit { limit ≤ 2 ^ 16 }
+    requires below { (limit ≤ 2 ^ 16) × All (λ n. n < limit) numbers.now }
     requires few { length numbers.now ≤ BLOCK_WINDOWS }
-    requires numbers { All (λ n. n < limit) numbers.now }
     requires space { vec_len entries.old + length numbers.now ≤ vec_capacity entries.old }
     ensures items { entries.new.items ≡ entries.old.items ++ numbers.now }
     ensures capacity { vec_capacity entries.old ≤ vec_capacity entries.new }
@@ -60,8 +59,7 @@ pub(crate) fn append_below(numbers: &[u32], limit: u32, entries: &mut Vec<u16>)
 
 // Copies numbers below a limit that fits 16 bits.
 fn copy_below(numbers: &[u32], limit: u32, narrow: &mut [u16])
-    requires limit { limit ≤ 2 ^ 16 }
-    requires numbers { All (λ n. n < limit) numbers.now }
+    requires below { (limit ≤ 2 ^ 16) × All (λ n. n < limit) numbers.now }
     requires len { length narrow.old ≡ length numbers.now }
     ensures { narrow.new ≡ numbers.now }
 {
