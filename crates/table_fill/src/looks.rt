@@ -1,5 +1,5 @@
 //! The looks of the caller's pass after the workers have ended.
-ghost use Rattle.std.specs.Prelude.{◌≡◌, ℕ, ◌<◌, length, IfOk, IfSome, IfNone, MatchOption, IsTrue, is_some, true, false};
+ghost use Rattle.std.specs.Prelude.{◌≡◌, ℕ, ◌<◌, length, IfOk, IfSome, MatchOption, IsTrue, is_some, true, false};
 ghost use Rattle.shared_memo.specs.PlanJobs.{IsKey, IsKeyedBlock};
 ghost use Rattle.shared_memo.specs.Passes.{known, memo_plan, IsPassOf, IsJoined};
 ghost use Rattle.win_index.specs.Blocks.{block_count};
@@ -52,9 +52,8 @@ pub(crate) fn last_blocks<'s, 'a>(
     requires pass { IsPassOf memo.now pass.old }
     requires room { HasRoom (block_count (memo_plan memo.now).ids (length (memo_plan memo.now).program.steps)) blocks }
     ensures learned { HasLearned memo.now pass.old pass.new }
-    ensures known { IfSome result (λ _. KnowsLevel (memo_plan memo.now) (known pass.new) (length (memo_plan memo.now).program.steps)) }
-    ensures gap { IfNone result (HasGap (memo_plan memo.now) pass.new) }
-    ensures blocks { IfSome result (λ blocks. AreLastBlocks (memo_plan memo.now) blocks.items) }
+    ensures blocks { MatchOption result (HasGap (memo_plan memo.now) pass.new) (λ blocks. AreLastBlocks (memo_plan memo.now) blocks.items
+        × KnowsLevel (memo_plan memo.now) (known pass.new) (length (memo_plan memo.now).program.steps)) }
 {
     let shape = memo.plan().shape();
     let level = shape.rounds();
@@ -75,9 +74,8 @@ fn look_at<'s, 'a>(
     requires pass { IsPassOf memo.now pass.old }
     requires key { IsKey (memo_plan memo.now) level number }
     ensures learned { HasLearned memo.now pass.old pass.new }
-    ensures known { IfSome result (λ _. is_some (known pass.new level number) ≡ true) }
-    ensures lacks { IfNone result (LacksBlock (memo_plan memo.now) pass.new level number) }
-    ensures block { IfSome result (λ block. IsKeyedBlock (memo_plan memo.now) level number block.now) }
+    ensures block { MatchOption result (LacksBlock (memo_plan memo.now) pass.new level number)
+        (λ block. IsKeyedBlock (memo_plan memo.now) level number block.now × (is_some (known pass.new level number) ≡ true)) }
 {
     match memo.look(pass, level, number) {
         Ok(block) => block,

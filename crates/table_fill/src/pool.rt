@@ -136,8 +136,8 @@ fn start_all<'s, 'd: 's, E, J: Jobs + Sync + 's, G: Gate + Sync + 's>(
     requires jobs { numbers_of draws.desk.now ≡ J.jobs jobs.now }
     requires handles { HasRoom (vec_len draws.tickets) handles }
     ensures workers { AreNumbered result.0.items (λ handle. handle.promise.0) }
-    ensures few { vec_len result.0 ≤ vec_len draws.entry.tickets }
-    ensures all { IsTrue result.1 ↔ (vec_len result.0 ≡ vec_len draws.entry.tickets) }
+    ensures started { (vec_len result.0 ≤ vec_len draws.entry.tickets)
+        × (IsTrue result.1 ↔ (vec_len result.0 ≡ vec_len draws.entry.tickets)) }
 {
     let Draws { desk, tickets } = draws;
     for ticket in tickets {

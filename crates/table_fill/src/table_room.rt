@@ -19,7 +19,7 @@ pub(crate) struct TableRoom<'s, 'a> {
 }
 
 impl<'s, 'a> TableRoom<'s, 'a> {
-    ghost use Rattle.std.specs.Prelude.{◌≡◌, ◌<◌, IfOk, IfSome, IfNone};
+    ghost use Rattle.std.specs.Prelude.{◌≡◌, ◌<◌, IfOk, MatchOption};
     ghost use Rattle.shared_memo.specs.Passes.{known, memo_plan, IsPassOf};
     ghost use Rattle.table_entries.specs.ProgramTables.{table_of};
     ghost use Rattle.table_fill.specs.Filled.{HasLearned, HasGap, KnowsAll};
@@ -52,9 +52,8 @@ impl<'s, 'a> TableRoom<'s, 'a> {
         requires pass { IsPassOf memo.now pass.old }
         requires room { IsRoomFor (memo_plan memo.now) self }
         ensures learned { HasLearned memo.now pass.old pass.new }
-        ensures gap { IfNone result (HasGap (memo_plan memo.now) pass.new) }
-        ensures known { IfSome result (λ _. KnowsAll (memo_plan memo.now) (known pass.new)) }
-        ensures table { IfSome result (λ table. table ≡ table_of (memo_plan memo.now).program (memo_plan memo.now).ids) }
+        ensures table { MatchOption result (HasGap (memo_plan memo.now) pass.new) (λ table. KnowsAll (memo_plan memo.now) (known pass.new)
+            × (table ≡ table_of (memo_plan memo.now).program (memo_plan memo.now).ids)) }
     {
         let TableRoom { reader, blocks } = self;
         if !look_below(memo, pass) {
