@@ -1,5 +1,5 @@
 -- The digits of a number are those of its quotient by the base, and then its last one.
-use Rattle.std.proofs.Common.{◌≡◌, ℕ, zero, suc, ◌/◌, ◌%◌, ◌^◌, ◌<◌, ◌≤◌, true, false, List, [], ◌∷◌, ◌++◌, ◌⊎◌, inl, inr, refl, sym, ap, subst, ◌∙◌, append_assoc, arith}
+use Rattle.std.proofs.Common.{◌≡◌, ℕ, zero, suc, ◌/◌, ◌%◌, ◌^◌, ◌<◌, ◌≤◌, true, false, List, [], ◌∷◌, ◌++◌, ◌⊎◌, inl, inr, refl, sym, ap, subst, ◌+◌, length, ◌∙◌, append_assoc, length-append, arith}
 use Rattle.std.specs.Prelude.{◌≢◌, ◌==◌, if◌then◌else◌}
 use Rattle.std.specs.Fmt.{decimal, digit_glyph, digits, digits_onto}
 use Rattle.std.proofs.lemmas.Bool.{ne_eqb}
@@ -67,3 +67,13 @@ more_digits b n low high large fits =
     let some : n / b ≢ 0 = λ none. let less = (div-lt_iff_lt-mul {k = b} {x = n} {y = 1} (omega arith)).0 (omega arith) in omega arith in
     more b 63 n [] some ∙ enough b 62 (n / b) (last b n ∷ []) low (fewer b 63 n low small) ∙ appended b 64 (n / b) (last b n ∷ [])
     ∙ ap (λ l. onto b 64 (n / b) [] ++ l) (last_digit b n low high)
+
+-- a number below the base has one digit, and any other one more than its quotient
+pub one_long : (b n : ℕ) → n < b → length (digits b false n) ≡ 1
+unfolding digits
+one_long b n small = ap length (one b 63 n [] (div-eq_of_lt small))
+
+pub one_longer : (b n : ℕ) → 2 ≤ b → b ≤ 10 → b ≤ n → n < 2 ^ 32 → length (digits b false n) ≡ length (digits b false (n / b)) + 1
+one_longer b n low high large fits =
+    ap length (more_digits b n low high large fits ∙ ap (λ l. digits b false (n / b) ++ l) (sym (last_digit b n low high)))
+    ∙ length-append (digits b false (n / b)) (last b n ∷ [])

@@ -1,22 +1,13 @@
 -- Numbers in a base from two to ten, and rows of them.
-use Rattle.std.specs.Prelude.{ℕ, ◌-◌, max, List, [], ◌∷◌, ◌++◌, codes, false, length, replicate}
+use Rattle.std.specs.Prelude.{ℕ, ◌-◌, ◌==◌, if◌then◌else◌, max, List, [], ◌∷◌, ◌++◌, codes, false, length, replicate}
 use Rattle.std.specs.List.{flat_map}
 use Rattle.std.specs.Fmt.{digits}
 use Rattle.numerals.specs.declared.base.Base.{Base}
-use Rattle.numerals.specs.declared.base.Base.TheVariants.{Two, Three, Four, Five, Six, Seven, Eight, Nine, Ten}
 use Rattle.numerals.specs.declared.rows.Form.{Form}
 
 -- the base as a number
 abbrev pub radix : Base → ℕ
-radix Two = 2
-radix Three = 3
-radix Four = 4
-radix Five = 5
-radix Six = 6
-radix Seven = 7
-radix Eight = 8
-radix Nine = 9
-radix Ten = 10
+radix b = b.radix
 
 -- the digits of a number in a base, without leading zeros
 abbrev pub numeral : Base → ℕ → List ℕ
@@ -33,8 +24,7 @@ widest b (n ∷ ns) = max (length (numeral b n)) (widest b ns)
 
 -- the width of numbers that are written together: that of the widest, while numbers in base ten have no leading zeros
 abbrev pub common_width : Base → List ℕ → ℕ
-common_width Ten ns = 0
-common_width b ns = widest b ns
+common_width b ns = if radix b == 10 then 0 else widest b ns
 
 -- the form of numbers that are written together
 abbrev pub form_of : Base → List ℕ → Form

@@ -1,8 +1,7 @@
 //! Numbers in a base.
 
-ghost use Rattle.std.specs.Prelude.{◌≡◌, ◌≤◌, ◌++◌, OnOk, false, string_bytes};
-ghost use Rattle.std.specs.Fmt.{digits};
-ghost use Rattle.numerals.specs.Numerals.{numeral};
+ghost use Rattle.std.specs.Prelude.{◌≤◌};
+ghost use Rattle.numerals.specs.declared.base.TheConstants.{MAX_BASE, MIN_BASE};
 
 use std::alloc::AllocError;
 use std::fmt::Write;
@@ -13,23 +12,17 @@ pub const MIN_BASE: u32 = 2;
 /// The largest base.
 pub const MAX_BASE: u32 = 10;
 
-/// The base in which numbers are written.
+/// The base in which numbers are written, from `MIN_BASE` to `MAX_BASE`.
 #[derive(Clone, Copy)]
-pub enum Base {
-    Two,
-    Three,
-    Four,
-    Five,
-    Six,
-    Seven,
-    Eight,
-    Nine,
-    Ten,
+pub struct Base {
+    radix: u32,
+    ghost low: { MIN_BASE ≤ radix },
+    ghost high: { radix ≤ MAX_BASE },
 }
 
 impl Base {
-    ghost use Rattle.std.specs.Prelude.{◌≡◌, ◌≤◌};
-    ghost use Rattle.numerals.specs.Numerals.{radix};
+    ghost use Rattle.std.specs.Prelude.{◌≡◌, ◌+◌, ◌≤◌, ◌++◌, OnOk, length, string_bytes};
+    ghost use Rattle.numerals.specs.Numerals.{numeral, radix};
 
     /// Returns the base that is this number.
     pub fn of(number: u32) -> Base
@@ -37,17 +30,7 @@ impl Base {
         requires high { number ≤ MAX_BASE }
         ensures { radix result ≡ number }
     {
-        match number {
-            2 => Base::Two,
-            3 => Base::Three,
-            4 => Base::Four,
-            5 => Base::Five,
-            6 => Base::Six,
-            7 => Base::Seven,
-            8 => Base::Eight,
-            9 => Base::Nine,
-            _ => Base::Ten,
-        }
+        Base { radix: number }
     }
 
     /// Returns the base as a number.
@@ -56,38 +39,31 @@ impl Base {
         ensures low { MIN_BASE ≤ result }
         ensures high { result ≤ MAX_BASE }
     {
-        match self {
-            Base::Two => 2,
-            Base::Three => 3,
-            Base::Four => 4,
-            Base::Five => 5,
-            Base::Six => 6,
-            Base::Seven => 7,
-            Base::Eight => 8,
-            Base::Nine => 9,
-            Base::Ten => 10,
+        self.radix
+    }
+
+    // Returns the number of digits that a number has without leading zeros.
+    #[tactic(auto, using(crate::proofs::Digits::one_long, crate::proofs::Digits::one_longer))]
+    pub(crate) fn digit_count(self, number: u32) -> usize
+        ensures count { result ≡ length (numeral self number) }
+        ensures few { result ≤ number + 1 }
+    {
+        if number < self.radix {
+            return 1;
         }
+        self.digit_count(number / self.radix) + 1
     }
-}
 
-// Appends a number in this base, without leading zeros.
-pub(crate) fn write_numeral(text: &mut String, base: Base, number: u32) -> Result<(), AllocError>
-    ensures { OnOk result (string_bytes text.new ≡ string_bytes text.old ++ numeral base number) }
-{
-    write_digits(text, base.radix(), number)
-}
-
-// Appends the digits of a number in the base `radix`. Each is below ten, and is written as a number.
-#[tactic(auto, using(crate::proofs::Digits::one_digit, crate::proofs::Digits::more_digits))]
-fn write_digits(text: &mut String, radix: u32, number: u32) -> Result<(), AllocError>
-    requires low { MIN_BASE ≤ radix }
-    requires high { radix ≤ MAX_BASE }
-    ensures { OnOk result (string_bytes text.new ≡ string_bytes text.old ++ digits radix false number) }
-{
-    if number < radix {
-        return write!(text, "{number}");
+    // Appends a number without leading zeros. Each digit is below ten, and is written as a number.
+    #[tactic(auto, using(crate::proofs::Digits::one_digit, crate::proofs::Digits::more_digits))]
+    pub(crate) fn write_numeral(self, text: &mut String, number: u32) -> Result<(), AllocError>
+        ensures { OnOk result (string_bytes text.new ≡ string_bytes text.old ++ numeral self number) }
+    {
+        if number < self.radix {
+            return write!(text, "{number}");
+        }
+        self.write_numeral(text, number / self.radix)?;
+        let digit = number % self.radix;
+        write!(text, "{digit}")
     }
-    write_digits(text, radix, number / radix)?;
-    let digit = number % radix;
-    write!(text, "{digit}")
 }

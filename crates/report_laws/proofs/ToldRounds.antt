@@ -1,8 +1,8 @@
 -- Reports and global rounds, and the report of a print.
 use Rattle.std.proofs.Common.{◌≡◌, ℕ, ◌-◌, ◌<◌, List, [], ◌∷◌, ◌++◌, codes, replicate, ap, ap₂, append_assoc, arith, refl, subst, sym, ◌∙◌}
-use Rattle.std.specs.Prelude.{◌↔◌, length}
+use Rattle.std.specs.Prelude.{◌==◌, ◌↔◌, false, if◌then◌else◌, length}
 use Rattle.std.specs.List.{flat_map, range_with_len}
-use Rattle.std.specs.Fmt.{decimal}
+use Rattle.std.specs.Fmt.{decimal, digits}
 use Rattle.std.proofs.lemmas.List.FromFn.{length-map-range_with_len}
 use Rattle.node_program.specs.Term.{ProgramTree}
 use Rattle.node_program.specs.GlobalRounds.{channel_at, channels_of}
@@ -21,9 +21,8 @@ use Rattle.headline.specs.Laws.{ProgramTablesAreApart}
 use Rattle.border_exchange.specs.SegmentCounts.{IsSegmentCount}
 use Rattle.reports.specs.declared.status.Status.TheVariants.{Done, No}
 use Rattle.reports.specs.Lines.{line, numbers_text}
-use Rattle.numerals.specs.Numerals.{form_of, padded, row, after_blanks}
+use Rattle.numerals.specs.Numerals.{after_blanks, form_of, padded, radix, row, widest}
 use Rattle.numerals.specs.declared.base.Base.{Base}
-use Rattle.numerals.specs.declared.base.Base.TheVariants.{Ten}
 use Rattle.value_trees.specs.Explanation.{explanation}
 use Rattle.value_trees.specs.Laws.{ShowsTrace, ExplanationsShowTraces}
 use Rattle.value_trees.specs.Trace.{register_lines, round_lines, row_line, trace_lines}
@@ -106,48 +105,49 @@ explain_shows shown one_reading no_refusal no_fault m place ring base input p r 
     subst (ShowsTrace base p ring.items place) (sym says.0) (shown base p ring.items place within)
 
 -- a number in base ten has no leading zeros
-plain : (ns : List ℕ) (n : ℕ) → codes " " ++ padded (form_of Ten ns) n ≡ 32 ∷ decimal n
-plain ns n =
+plain : (b : Base) (ns : List ℕ) (n : ℕ) → radix b ≡ 10 → codes " " ++ padded (form_of b ns) n ≡ 32 ∷ decimal n
+plain b ns n ten =
     let none : 0 - length (decimal n) ≡ 0 = omega arith in
-    ap (λ k. 32 ∷ (replicate k 48 ++ decimal n)) none
+    ap (λ r. 32 ∷ (replicate ((if r == 10 then 0 else widest b ns) - length (digits r false n)) 48 ++ digits r false n)) ten
+    ∙ ap (λ k. 32 ∷ (replicate k 48 ++ decimal n)) none
 
-all_plain : (ms ns : List ℕ) → after_blanks (form_of Ten ms) ns ≡ flat_map (λ n. 32 ∷ decimal n) ns
-all_plain ms [] = refl
-all_plain ms (n ∷ ns) = ap₂ (λ a b. a ++ b) (plain ms n) (all_plain ms ns)
+all_plain : (b : Base) (ms ns : List ℕ) → radix b ≡ 10 → after_blanks (form_of b ms) ns ≡ flat_map (λ n. 32 ∷ decimal n) ns
+all_plain b ms [] ten = refl
+all_plain b ms (n ∷ ns) ten = ap₂ (λ a b. a ++ b) (plain b ms n ten) (all_plain b ms ns ten)
 
 -- a row in base ten is a blank and the line of its numbers
-row_is_line : (ns : List ℕ) → 0 < length ns → row Ten ns ≡ codes " " ++ line (numbers_text ns ∷ [])
-row_is_line [] some = absurd (omega arith)
-row_is_line (n ∷ ns) some =
-    ap (λ l. l ++ codes "\n") (all_plain (n ∷ ns) (n ∷ ns) ∙ ap (λ l. 32 ∷ l) (joined_after decimal 32 n ns))
+row_is_line : (b : Base) (ns : List ℕ) → radix b ≡ 10 → 0 < length ns → row b ns ≡ codes " " ++ line (numbers_text ns ∷ [])
+row_is_line b [] ten some = absurd (omega arith)
+row_is_line b (n ∷ ns) ten some =
+    ap (λ l. l ++ codes "\n") (all_plain b (n ∷ ns) (n ∷ ns) ten ∙ ap (λ l. 32 ∷ l) (joined_after decimal 32 n ns))
 
 some_channels : (p : ProgramTree) (x : List ℕ) → 0 < length x → 0 < length (channels_of p x)
 some_channels p x some = omega (arith, length-map-range_with_len (channel_at p x) 0 (length x))
 
 -- a trace is some lines followed by the line of its channels
-ends : (p : ProgramTree) (x : List ℕ) → 0 < length x
-    → trace_lines Ten p x
-    ≡ (row_line Ten (codes "ring") x
-    ++ (register_lines Ten p x 0 ++ flat_map (round_lines Ten p x) (range_with_len 0 (length p.steps))))
+ends : (b : Base) (p : ProgramTree) (x : List ℕ) → radix b ≡ 10 → 0 < length x
+    → trace_lines b p x
+    ≡ (row_line b (codes "ring") x
+    ++ (register_lines b p x 0 ++ flat_map (round_lines b p x) (range_with_len 0 (length p.steps))))
     ++ (codes "finish " ++ line (numbers_text (channels_of p x) ∷ []))
-ends p x some =
-    let ring : List ℕ = row_line Ten (codes "ring") x in
-    let start : List ℕ = register_lines Ten p x 0 in
-    let rounds : List ℕ = flat_map (round_lines Ten p x) (range_with_len 0 (length p.steps)) in
-    let last : List ℕ = row_line Ten (codes "finish") (channels_of p x) in
+ends b p x ten some =
+    let ring : List ℕ = row_line b (codes "ring") x in
+    let start : List ℕ = register_lines b p x 0 in
+    let rounds : List ℕ = flat_map (round_lines b p x) (range_with_len 0 (length p.steps)) in
+    let last : List ℕ = row_line b (codes "finish") (channels_of p x) in
     ap (λ l. ring ++ l) (sym (append_assoc start rounds last)) ∙ sym (append_assoc ring (start ++ rounds) last)
     ∙ ap (λ l. (ring ++ (start ++ rounds)) ++ (codes "finish" ++ l))
-    (row_is_line (channels_of p x) (some_channels p x some))
+    (row_is_line b (channels_of p x) ten (some_channels p x some))
 
 pub trace_ends : OneReading → AcceptedProgramsHaveNoRefusal → RingsHaveNoFault → TraceEndsWithRun
-trace_ends one_reading no_refusal no_fault m segments ring input p r s text is_ring within trace run =
+trace_ends one_reading no_refusal no_fault m segments ring base input p r s text ten is_ring within trace run =
     let x = ring.items in
-    let lines = trace_tells one_reading no_refusal no_fault m ring Ten input p r text is_ring trace in
+    let lines = trace_tells one_reading no_refusal no_fault m ring base input p r text is_ring trace in
     let channels = run_tells one_reading no_refusal no_fault m segments ring input p s text is_ring within run in
     let some : 0 < length x = omega (arith, is_ring.long) in
-    let front = row_line Ten (codes "ring") x
-    ++ (register_lines Ten p x 0 ++ flat_map (round_lines Ten p x) (range_with_len 0 (length p.steps))) in
-    (front, lines.0 ∙ ends p x some ∙ ap (λ l. front ++ (codes "finish " ++ l)) (sym channels.0))
+    let front = row_line base (codes "ring") x
+    ++ (register_lines base p x 0 ++ flat_map (round_lines base p x) (range_with_len 0 (length p.steps))) in
+    (front, lines.0 ∙ ends base p x ten some ∙ ap (λ l. front ++ (codes "finish " ++ l)) (sym channels.0))
 
 pub print_tells : OneReading → PrintedIsRead → PrintsAreReadBack
 print_tells one_reading read input p r reads (text_refused refused) = absurd (refused.none p reads)

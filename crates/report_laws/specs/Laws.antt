@@ -18,7 +18,7 @@ use Rattle.channel_tables.specs.Witnesses.{IsWitness}
 use Rattle.lower_bound.specs.Towers.{tower, spread}
 use Rattle.table_entries.specs.ProgramTables.{table_of}
 use Rattle.numerals.specs.declared.base.Base.{Base}
-use Rattle.numerals.specs.declared.base.Base.TheVariants.{Ten}
+use Rattle.numerals.specs.Numerals.{radix}
 use Rattle.value_trees.specs.Explanation.{explanation}
 use Rattle.value_trees.specs.Laws.{ShowsTrace}
 use Rattle.value_trees.specs.Trace.{trace_lines}
@@ -100,9 +100,10 @@ ExplainShowsTrace =
 -- segments in its range
 abbrev pub TraceEndsWithRun : Type 0
 TraceEndsWithRun =
-    (m segments : ℕ) (ring : Vec ℕ Global) (input : List ℕ) (p : ProgramTree) (r s : Report) → IsAcceptedText input m p
+    (m segments : ℕ) (ring : Vec ℕ Global) (base : Base) (input : List ℕ) (p : ProgramTree) (r s : Report) →
+    IsAcceptedText input m p → radix base ≡ 10
     → IsRing m (length p.steps) ring.items → IsSegmentCount segments (length ring.items)
-    → IsReport (Trace m ring Ten) input r → IsReport (Run m ring segments) input s
+    → IsReport (Trace m ring base) input r → IsReport (Run m ring segments) input s
     → (lines : List ℕ) × (r.bytes ≡ lines ++ (codes "finish " ++ s.bytes))
 
 -- the report of a print on the text of a program is a text of the same program, and the print of that text

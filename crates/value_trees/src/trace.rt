@@ -35,7 +35,7 @@ pub fn trace_text(
     let mut text = String::new(alloc);
     let mut places = Configuration::new(alloc, plan, ring)?;
     text.push_str("ring")?;
-    write_row(alloc, &mut text, base, ring.ids())?;
+    write_row(&mut text, base, ring.ids())?;
     let numbers = Numbers { alloc, base };
     write_trace(&mut text, numbers, &mut places, plan.shape().rounds())?;
     Ok(text)
@@ -113,7 +113,7 @@ fn write_readings(
         ≡ string_bytes text.old ++ row numbers.base (of_places places.now.places (reading places.now what))) }
 {
     let row = numbers_of(numbers.alloc, places, what)?;
-    write_row(numbers.alloc, text, numbers.base, &row)
+    write_row(text, numbers.base, &row)
 }
 
 // Returns the number `what` of each place.

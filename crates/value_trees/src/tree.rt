@@ -98,25 +98,18 @@ impl<'e> Tree<'e> {
             ≡ string_bytes text.old ++ part_lines base (env_of self.now.env) (map part_of self.now.lines.items)) }
     {
         let values = self.values(alloc)?;
-        let form = form_of(alloc, base, &values)?;
-        self.write_lines(alloc, text, form, &values)
+        self.write_lines(text, form_of(base, &values), &values)
     }
 
     // Appends the text of the lines with these values in this form.
-    fn write_lines(
-        &self,
-        alloc: Global,
-        text: &mut String,
-        form: Form,
-        values: &[u32],
-    ) -> Result<(), AllocError>
+    fn write_lines(&self, text: &mut String, form: Form, values: &[u32]) -> Result<(), AllocError>
         requires { values.now ≡ values_of (env_of self.now.env) (map part_of self.now.lines.items) }
         ensures { OnOk result (string_bytes text.new ≡ string_bytes text.old
             ++ flat_map (told_part form (env_of self.now.env)) (map part_of self.now.lines.items)) }
     {
         'lines: for (index, line) in self.lines.iter().enumerate() {
             write_beginning(text, *line)?;
-            write_number(alloc, text, form, values[index])?;
+            write_number(text, form, values[index])?;
             write_ending(text, line.counts)?;
         }
         Ok(())
