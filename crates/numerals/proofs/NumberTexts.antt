@@ -1,35 +1,21 @@
 -- Numbers in decimal, and the byte that ends them.
-use Rattle.std.proofs.Common.{◌≡◌, ◌≢◌, ℕ, zero, suc, ◌^◌, ◌<◌, true, false, nat_lt, ◌&&◌, ◌==◌, List, [], ◌∷◌, ◌++◌, length, get_or, drop, slice_index, refl, sym, ap, ◌∙◌, arith}
+use Rattle.std.proofs.Common.{◌≡◌, ℕ, zero, suc, ◌^◌, ◌<◌, true, false, nat_lt, ◌&&◌, ◌==◌, List, [], ◌∷◌, ◌++◌, length, get_or, drop, slice_index, refl, sym, ap, ◌∙◌, arith}
 use Rattle.std.specs.Fmt.{decimal}
-use Rattle.std.specs.Int.{IsInRange}
-use Rattle.std.specs.Str.{IsUtf8}
-use Rattle.std.specs.Str.Parse.{AllDigits, IsNumeral, digits_value, without_leading_plus}
+use Rattle.std.specs.Str.Parse.{AllDigits, IsNumeral, digits_value}
 use Rattle.std.proofs.lemmas.Bool.{and_parts, eqb-true}
 use Rattle.std.proofs.lemmas.Bool.Decides.{nat_tests}
 use Rattle.std.proofs.lemmas.List.{append_cancel_left}
-use Rattle.std.proofs.lemmas.Fmt.{decimal_is_IsNumeral, decimal_digit, first_decimal, IsAscii-decimal, decimal_injective, decimal-digits_value}
-use Rattle.std.proofs.lemmas.Str.{IsUtf8-from_ascii}
-use Rattle.std.proofs.lemmas.Str.Parse.{digit_at, digit_from_value, without_leading_plus_none, numerals_by_value, tells_digits}
+use Rattle.std.proofs.lemmas.Fmt.{decimal_is_IsNumeral, decimal_digit, first_decimal, decimal_injective, decimal-digits_value}
+use Rattle.std.proofs.lemmas.Str.Parse.{digit_from_value, numerals_by_value, tells_digits}
 use Rattle.numerals.specs.Bytes.{Lacks}
 
 digits : (n : ℕ) → n < 2 ^ 32 → IsNumeral 10 (decimal n)
 digits n small = (decimal_is_IsNumeral n (omega arith)).0
 
--- the first byte of a number is a digit
-first_digit : (n : ℕ) → n < 2 ^ 32 → IsInRange 48 57 (get_or (decimal n) 0 0)
-first_digit n small = let is = digits n small in digit_at (decimal n) 0 is.1 is.0
-
-no_sign : (n : ℕ) → n < 2 ^ 32 → get_or (decimal n) 0 0 ≢ 43
-no_sign n small signed = let first = first_digit n small in omega (arith, first.0, signed)
-
 -- a number that begins with 0 is that digit alone
 one_zero : (n : ℕ) → n < 2 ^ 32 → get_or (decimal n) 0 0 ≡ 48 → length (decimal n) ≡ 1
 one_zero zero small first = ap length (decimal_digit 0 (omega arith))
 one_zero (suc n) small first = absurd (omega (arith, first_decimal (suc n) (omega arith) (omega arith), first))
-
--- a word with a sign is not a number
-pub signed_word : (word : List ℕ) (n : ℕ) → (slice_index word 0 == 43) ≡ true → n < 2 ^ 32 → word ≡ decimal n → ⊥
-signed_word word n signed small same = no_sign n small (ap (λ w. get_or w 0 0) (sym same) ∙ eqb-true (slice_index word 0) 43 signed)
 
 -- a word with a leading zero is not a number
 pub padded_word : (word : List ℕ) (n : ℕ) → (nat_lt 1 (length word) && (slice_index word 0 == 48)) ≡ true → n < 2 ^ 32 → word ≡ decimal n → ⊥
@@ -39,27 +25,17 @@ padded_word word n padded small same =
     let one = ap length same ∙ one_zero n small zero_first in
     grind (arith, nat_tests)
 
--- the digits of a number, after a leading plus sign if there is one
-pub digits_parse : (word : List ℕ) (n : ℕ) → n < 2 ^ 32 → word ≡ decimal n
-    → IsNumeral 10 (without_leading_plus word) × (digits_value 10 (without_leading_plus word) < 2 ^ 32)
-digits_parse word n small same =
-    let is = decimal_is_IsNumeral n (omega arith) in
-    let plain = without_leading_plus_none (decimal n) (no_sign n small) in
-    rw (same, plain) (is.0, omega (arith, is.1))
+-- the digits of a number have it as their value
+pub value-decimal : (word : List ℕ) (n : ℕ) → n < 2 ^ 32 → word ≡ decimal n → IsNumeral 10 word × (digits_value 10 word ≡ n)
+value-decimal word n small same = rw same (decimal_is_IsNumeral n (omega arith))
 
--- digits without a sign and a leading zero are those of their value
-pub parsed_word : (word : List ℕ) (x : ℕ) → (slice_index word 0 == 43) ≡ false → (nat_lt 1 (length word) && (slice_index word 0 == 48)) ≡ false
-    → IsNumeral 10 (without_leading_plus word) × (digits_value 10 (without_leading_plus word) < 2 ^ 32)
-    → x ≡ digits_value 10 (without_leading_plus word) → word ≡ decimal x
-parsed_word word x unsigned unpadded is value =
-    let plain = without_leading_plus_none word (grind (arith, nat_tests)) in
-    let numeral = rw plain at is in
+-- digits are a number without leading zeros, if they have none
+pub unpadded_word : (word : List ℕ) → (nat_lt 1 (length word) && (slice_index word 0 == 48)) ≡ false → IsNumeral 10 word
+    → digits_value 10 word < 2 ^ 64 → word ≡ decimal (digits_value 10 word)
+unpadded_word word unpadded is small =
     let own = numerals_by_value (AllDigits 10) tells_digits in
     let short : get_or word 0 0 ≡ 48 → length word ≡ 1 = λ first. grind (arith, nat_tests) in
-    sym (ap decimal (value ∙ ap (digits_value 10) plain) ∙ decimal-digits_value own word numeral.0.1 numeral.0.0 short (omega (arith, numeral.1)))
-
-pub utf8_digits : (n : ℕ) → n < 2 ^ 32 → IsUtf8 (decimal n)
-utf8_digits n small = IsUtf8-from_ascii (decimal n) (IsAscii-decimal n (omega arith))
+    sym (decimal-digits_value own word is.1 is.0 short small)
 
 lacks_digits : (end : ℕ) (ds : List ℕ) → end < 48 → AllDigits 10 ds → Lacks end ds
 lacks_digits end [] small is = tt

@@ -2,6 +2,8 @@
 
 ghost use Rattle.std.specs.Prelude.{◌≡◌, ◌==◌, ◌<◌, ◌&&◌, ◌^◌, ℕ, List, ◌∷◌, ◌++◌, nat_lt, length, slice_index, MatchOption, IfSome, IfNone};
 ghost use Rattle.std.specs.Fmt.{decimal};
+ghost use Rattle.std.specs.Option.{SomeIff};
+ghost use Rattle.std.specs.Str.Parse.{IsNumeral, digits_value};
 ghost use Rattle.numerals.specs.Bytes.{Lacks, IsFirstByte};
 
 // Returns the index of the first byte of this value.
@@ -21,16 +23,24 @@ fn cut_at(text: &[u8], end: u8) -> Option<(&[u8], &[u8])>
     Some((&text[..place], &text[place + 1..]))
 }
 
-fn is_signed(word: &[u8]) -> bool
-    ensures { result ≡ (slice_index word.now 0 == 43) }
-{
-    !word.is_empty() && word[0] == b'+'
-}
-
 fn is_padded(word: &[u8]) -> bool
     ensures { result ≡ (nat_lt 1 (length word.now) && (slice_index word.now 0 == 48)) }
 {
     word.len() > 1 && word[0] == b'0'
+}
+
+/// Returns the value of one or more decimal digits, which may begin with zeros. The answer is `None`
+/// if the word has no digit or another byte, or if the value is 2^64 or more.
+pub fn decimal_value(word: &[u8]) -> Option<u64>
+    ensures { SomeIff result (IsNumeral 10 word.now × (digits_value 10 word.now < 2 ^ 64)) (digits_value 10 word.now) }
+{
+    let Ok(digits) = str::from_utf8(word) else {
+        return None;
+    };
+    match word {
+        [b'+', ..] => None,
+        _ => digits.parse::<u64>().ok(),
+    }
 }
 
 // Returns the number with these decimal digits: `0`, or digits that do not begin with 0.
@@ -38,16 +48,10 @@ fn number_of(word: &[u8]) -> Option<u32>
     ensures number { IfSome result (λ number. word.now ≡ decimal number) }
     ensures none { IfNone result ((number : ℕ) → number < 2 ^ 32 → word.now ≡ decimal number → ⊥) }
 {
-    if is_signed(word) {
-        return None;
-    }
     if is_padded(word) {
         return None;
     }
-    let Ok(digits) = str::from_utf8(word) else {
-        return None;
-    };
-    let Ok(number) = digits.parse::<u32>() else {
+    let Ok(number) = u32::try_from(decimal_value(word)?) else {
         return None;
     };
     Some(number)

@@ -8,6 +8,6 @@ mod fields;
 mod rows;
 
 pub use base::{Base, MAX_BASE, MIN_BASE};
-pub use decimals::number_before;
+pub use decimals::{decimal_value, number_before};
 pub use fields::{after, field};
 pub use rows::{Form, form_of, write_number, write_row};

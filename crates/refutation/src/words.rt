@@ -1,10 +1,9 @@
 //! Numbers and literals in words.
-ghost use Rattle.std.specs.Prelude.{◌≡◌, ◌+◌, ◌*◌, ◌^◌, ◌<◌, ◌==◌, ℕ, List, Option, true};
-ghost use Rattle.std.specs.Char.{digit_value, is_ascii_digit};
+ghost use Rattle.std.specs.Prelude.{◌≡◌, ◌==◌, ℕ, List, Option};
 ghost use Rattle.std.specs.List.{list_all};
-ghost use Rattle.std.specs.Option.{SomeIff};
 ghost use Rattle.refutation.specs.Words as spelled;
 
+use numerals::decimal_value;
 use table_formula::Literal;
 
 /// An item of a list, which a word spells.
@@ -37,24 +36,7 @@ impl Spelled for Literal {
 pub(crate) fn number_in(word: &[u8]) -> Option<u64>
     ensures { result ≡ spelled.number_in word.now }
 {
-    if word.is_empty() {
-        return None;
-    }
-    let mut value: u64 = 0;
-    for byte in word {
-        value = push_digit(value, *byte)?;
-    }
-    Some(value)
-}
-
-// Returns the number that has one more digit.
-fn push_digit(value: u64, byte: u8) -> Option<u64>
-    ensures { SomeIff result ((is_ascii_digit byte ≡ true) × (value * 10 + digit_value byte < 2 ^ 64)) (value * 10 + digit_value byte) }
-{
-    if !byte.is_ascii_digit() {
-        return None;
-    }
-    value.checked_mul(10)?.checked_add(u64::from(byte - b'0'))
+    decimal_value(word)
 }
 
 // Returns the literal that a word spells: a number, with a minus in front for a negation.
