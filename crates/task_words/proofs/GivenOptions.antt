@@ -1,245 +1,170 @@
--- The values of the options of each command, if `clap` accepts the words.
-use Rattle.std.proofs.Common.{◌≡◌, ℕ, Bool, true, false, List, [], ◌∷◌, Option, Some, None, Result, Ok, Err, ◌⊎◌, inl, inr, map, pos, refl, sym, ◌∙◌, ap, subst, arith, codes, ◌<◌, ◌≤◌, ◌^◌}
-use Rattle.std.specs.Prelude.{◌||◌, if◌then◌else◌, IfErr}
-use Rattle.std.proofs.lemmas.Option.{none-some, same_Some}
+-- The values of the options of the command that is called, if `clap` accepts the words.
+use Rattle.std.proofs.Common.{◌≡◌, ℕ, Bool, true, false, true≢false, not, List, [], ◌∷◌, Option, Some, None, Result, inl, inr, pos, refl, sym, ◌∙◌, ap, subst, arith, codes, ◌<◌, ◌^◌}
+use Rattle.std.specs.Prelude.{◌||◌, ◌&&◌, ◌==◌, if◌then◌else◌}
+use Rattle.std.proofs.lemmas.Bool.{and_parts, or_left, or_right}
+use Rattle.std.proofs.lemmas.Bool.Decides.{Decides-ltb, Decides-eqb}
+use Rattle.std.proofs.lemmas.Slice.Eq.{bytes_eq-Decides}
+use Rattle.std.specs.List.{list_any}
 use Rattle.std.specs.Option.{IsSomeAnd}
 use Rattle.std.specs.Str.{bytes_eq}
 use Rattle.std.specs.Str.Parse.{ParsesUnsigned, ExplainsUnsignedError, HasUnsignedDigitsIfOk}
 use Rattle.std.specs.declared.num.ParseIntError.{ParseIntError}
+use Rattle.clap.specs.Facts.{parser_of_value}
 use Rattle.clap.specs.declared.parser.matches.Found.{Found}
-use Rattle.clap.specs.Words.{ReadsOne, Row, Rule, Shape, Text, fault_of, one_text, rows_of, subcommand_of, without_minus}
+use Rattle.clap.specs.Words.{Accepts, IsSignedIn, ReadsOne, Row, Rule, Shape, Text, fault_of, first_of, one_of, one_text, read_as, reading_of, rows_of, subcommand_of, without_minus}
 use Rattle.clap.proofs.CallerReads.{signed_reads}
 use Rattle.clap.proofs.WalkLemmas.{one_text-rows}
+use Rattle.clap.specs.declared.builder.value_parser.ValueParser.{ValueParser}
 use Rattle.clap.specs.declared.builder.value_parser.ValueParser.TheVariants.{Signed}
 use Rattle.option_values.specs.OptionLines.{HasValue, HaveValues, IsOneOf, is_always_given, is_option_line}
 use Rattle.option_values.specs.Laws.{OptionsHaveValues}
-use Rattle.task_words.specs.CommandLine.{command_line, option_rule, ids_rule, ring_rule, place_rule, base_rule, workers_rule, segments_rule, near_rule, far_rule, rounds_rule, channels_rule}
-use Rattle.task_words.specs.Counts.{IsCount, IsNear, IsFar, AreFormulaNumbers}
-use Rattle.task_words.specs.Options.{IsBaseGiven, IsNumberGiven, IsTextGiven}
-use Rattle.task_words.proofs.Commands.{parts_of}
-use Rattle.task_words.specs.declared.limits.TheConstants.{MAX_CHANNELS, MAX_COUNT, MAX_DISTANCE, MAX_ROUNDS}
-use Rattle.task_words.specs.CommandNames.{formula_name, ring_name}
-use Rattle.task_words.specs.Words.{HasNumber, IsRingBad, IsRingName}
-use Rattle.task_words.specs.declared.rows.FormulaCommand.{FormulaCommand}
-use Rattle.task_words.specs.declared.rows.FormulaCommand.TheVariants as formula
-use Rattle.task_words.specs.declared.rows.RingCommand.{RingCommand}
-use Rattle.task_words.specs.declared.rows.RingCommand.TheVariants as ring
-use Rattle.task_words.specs.declared.words.WordsFault.{WordsFault}
-use Rattle.task_words.specs.declared.words.WordsFault.TheVariants.{BadRing, OutOfMemory}
+use Rattle.task_words.specs.CommandLine.{command_line}
+use Rattle.task_words.specs.Options.{IsBetween, IsNamed, IsTaken, is_parser_of, is_rule_of, names_with}
+use Rattle.task_words.specs.Words.{HasNumber, IsRingName}
+use Rattle.task_words.specs.declared.option_rows.OptionRow.{OptionRow}
+use Rattle.task_words.specs.declared.option_rows.Values.{Values}
+use Rattle.task_words.specs.declared.option_rows.Values.TheVariants as values
 
--- ---- the value of an option
+-- ---- an option of the command that is called
 
--- the first rule with this id
-rule_named : Text → List Rule → Option Rule
-rule_named id [] = None
-rule_named id (rule ∷ rest) = if bytes_eq rule.id id then Some rule else rule_named id rest
+-- whether one of the commands has this name
+abbrev is_name : List Shape → Text → Bool
+is_name commands name = list_any (λ command. bytes_eq command.name name) commands
 
--- a rule among others that is always given has a value
-named_has : (id : Text) (rules : List Rule) (rule : Rule) (values : List Row) → rule_named id rules ≡ Some rule → is_always_given rule ≡ true
-    → HaveValues rules values → HasValue rule values
-unfolding rule_named
-named_has id [] rule values is always have = absurd (none-some rule is)
-named_has id (first ∷ rest) rule values is always have = go (bytes_eq first.id id) is (λ same. named_has id rest rule values same always have.1)
+-- no two commands have one name
+abbrev have_own_names : List Shape → Bool
+have_own_names [] = true
+have_own_names (command ∷ commands) = not (is_name commands command.name) && have_own_names commands
+
+first_is_name : (command : Shape) (commands : List Shape) (name : Text) → name ≡ command.name → is_name (command ∷ commands) name ≡ true
+first_is_name command commands name is = or_left _ _ ((bytes_eq-Decides command.name name).1 (sym is))
+
+called_is_name : (commands : List Shape) (name : Text) (values : List Row) → IsOneOf commands name values → is_name commands name ≡ true
+called_is_name [] name values one = absurd one
+called_is_name (command ∷ commands) name values (inl (is, have)) = first_is_name command commands name is
+called_is_name (command ∷ commands) name values (inr one) = or_right (bytes_eq command.name name) _ (called_is_name commands name values one)
+
+named_is_name : (test : Rule → Bool) (commands : List Shape) (name : Text) → IsNamed (names_with test commands) name → is_name commands name ≡ true
+named_is_name test [] name named = absurd named
+named_is_name test (command ∷ commands) name named = go (list_any test command.rules) named (named_is_name test commands name)
   where
-    go : (b : Bool) → (if b then Some first else rule_named id rest) ≡ Some rule → (rule_named id rest ≡ Some rule → HasValue rule values) → HasValue rule values
-    go true is later =
-        let same : rule ≡ first = sym (same_Some first rule is) in
-        subst (λ r. HasValue r values) (sym same) (have.0 (ap is_always_given (sym same) ∙ always))
-    go false is later = later is
+    go : (b : Bool) → IsNamed (if b then command.name ∷ names_with test commands else names_with test commands) name
+        → (IsNamed (names_with test commands) name → is_name commands name ≡ true) → is_name (command ∷ commands) name ≡ true
+    go true (inl is) rest = first_is_name command commands name is
+    go true (inr more) rest = or_right (bytes_eq command.name name) _ (rest more)
+    go false more rest = or_right (bytes_eq command.name name) _ (rest more)
 
--- the rule with this id of a command whose name passes a test, and this rule for each other command
-abbrev rule_for : (Text → Bool) → Text → Rule → Shape → Option Rule
-rule_for test id rule s = if test s.name then rule_named id s.rules else Some rule
+-- an option that passes a test has a value
+abbrev IsGiven : (Rule → Bool) → List Row → Type 0
+IsGiven test values = (rule : Rule) × (test rule ≡ true) × (is_always_given rule ≡ true → HasValue rule values)
 
--- If each command whose name passes a test has this rule, and the rule is always given, it has a value in each call of such
--- a command.
-given : (test : Text → Bool) (id : Text) (rule : Rule) (subs : List Shape) (name : Text) (values : List Row)
-    → map (rule_for test id rule) subs ≡ map (λ _. Some rule) subs → is_always_given rule ≡ true → IsOneOf subs name values → test name ≡ true
-    → HasValue rule values
-given test id rule [] name values all always one takes = absurd one
-given test id rule (s ∷ rest) name values all always (inl (is, have)) takes =
-    let first = (parts_of _ _ _ _ all).0 in
-    let passes : test s.name ≡ true = ap test (sym is) ∙ takes in
-    named_has id s.rules rule values (ap (λ b. if b then rule_named id s.rules else Some rule) (sym passes) ∙ first) always have
-given test id rule (s ∷ rest) name values all always (inr one) takes =
-    given test id rule rest name values (parts_of _ _ _ _ all).1 always one takes
+one_given : (test : Rule → Bool) (rules : List Rule) (values : List Row) → list_any test rules ≡ true → HaveValues rules values → IsGiven test values
+one_given test [] values some have = absurd (true≢false (sym some))
+one_given test (rule ∷ rules) values some have = go (test rule) refl some (λ more. one_given test rules values more have.1)
+  where
+    go : (b : Bool) → test rule ≡ b → (b || list_any test rules) ≡ true → (list_any test rules ≡ true → IsGiven test values) → IsGiven test values
+    go true is some rest = (rule, is, have.0)
+    go false is some rest = rest some
 
--- ---- the options of each command
+-- a command that has an option that passes a test is called with it
+given : (test : Rule → Bool) (commands : List Shape) (name : Text) (values : List Row) → have_own_names commands ≡ true
+    → IsOneOf commands name values → IsNamed (names_with test commands) name → IsGiven test values
+given test [] name values own one named = absurd one
+given test (command ∷ commands) name values own one named =
+    let (apart, rest) = and_parts (not (is_name commands command.name)) _ own in
+    go (list_any test command.rules) refl one named apart (given test commands name values rest)
+  where
+    other : not (is_name commands command.name) ≡ true → is_name commands name ≡ true → ¬ (name ≡ command.name)
+    other apart among is =
+        let among' : is_name commands command.name ≡ true = subst (λ n. is_name commands n ≡ true) is among in
+        true≢false (sym apart ∙ ap not among')
 
-abbrev pub is_named : Text → Text → Bool
-is_named other name = bytes_eq name other
-
-abbrev pub takes_workers : Text → Bool
-takes_workers name = is_named (codes "table") name || (is_named (codes "judge") name || is_named (codes "plan") name)
-
--- the commands on the formula of all tables
-abbrev pub takes_rounds : Text → Bool
-takes_rounds name = is_named (codes "formula") name || is_named (codes "refute") name
-
-abbrev pub takes_near : Text → Bool
-takes_near name = is_named (codes "table") name || (is_named (codes "judge") name || takes_rounds name)
-
-abbrev pub takes_base : Text → Bool
-takes_base name = is_named (codes "trace") name || is_named (codes "explain") name
-
--- the commands on a program and a ring
-abbrev pub takes_program_and_ring : Text → Bool
-takes_program_and_ring name = is_named (codes "run") name || (takes_base name || is_named (codes "plan") name)
-
-abbrev pub takes_ring : Text → Bool
-takes_ring name = takes_program_and_ring name || is_named (codes "apply") name
-
-abbrev pub takes_ids : Text → Bool
-takes_ids name = is_named (codes "check") name || (takes_near name || takes_program_and_ring name)
-
--- each name of a command on a program and a ring passes a test that all four names pass
-pub ring_takes : (test : Text → Bool) (command : RingCommand) → test (codes "run") ≡ true → test (codes "trace") ≡ true → test (codes "explain") ≡ true
-    → test (codes "plan") ≡ true → test (ring_name command) ≡ true
-ring_takes test ring.Run run trace explain plan = run
-ring_takes test ring.Trace run trace explain plan = trace
-ring_takes test ring.Explain run trace explain plan = explain
-ring_takes test ring.Plan run trace explain plan = plan
-
-pub is_ring_name : (command : RingCommand) → IsRingName (ring_name command)
-is_ring_name ring.Run = inl refl
-is_ring_name ring.Trace = inr (inl refl)
-is_ring_name ring.Explain = inr (inr (inl refl))
-is_ring_name ring.Plan = inr (inr (inr (inl refl)))
-
-pub is_apply_name : IsRingName (codes "apply")
-is_apply_name = inr (inr (inr (inr refl)))
-
--- a fault of a command with a ring is one of its name
-pub refused_ring : {T : Type 0} (r : Result T WordsFault) (name : Text) (values : List Row) → IsRingName name
-    → IfErr r (λ fault. (fault ≡ OutOfMemory) ⊎ ((fault ≡ BadRing) × IsRingBad values))
-    → IfErr r (λ fault. (fault ≡ OutOfMemory) ⊎ ((fault ≡ BadRing) × IsRingName name × IsRingBad values))
-refused_ring (Ok task) name values is told = tt
-refused_ring (Err fault) name values is (inl memory) = inl memory
-refused_ring (Err fault) name values is (inr bad) = inr (bad.0, is, bad.1)
-
--- each name of a command on the formula passes a test that both names pass
-pub formula_takes : (test : Text → Bool) (command : FormulaCommand) → test (codes "formula") ≡ true → test (codes "refute") ≡ true
-    → test (formula_name command) ≡ true
-formula_takes test formula.Formula first second = first
-formula_takes test formula.Refute first second = second
-
--- the value of an option that takes a number
-number_of_value : (option : Text) (low high : ℕ) (values : List Row) → HasValue (record (option_rule option (Signed (pos low) (pos high))) { required = true }) values
-    → IsNumberGiven values option low high
-number_of_value option low high values value = (value.0, value.2, value.3)
-
--- the same if it has a default
-number_by_default : (option : Text) (low high : ℕ) (default : Text) (values : List Row)
-    → HasValue (record (option_rule option (Signed (pos low) (pos high))) { defaults = default ∷ [] }) values → IsNumberGiven values option low high
-number_by_default option low high default values value = (value.0, value.2, value.3)
-
-module _ (name : Text) (values : List Row) (one : IsOneOf command_line.subs name values) where
-  pub ids_given : takes_ids name ≡ true → IsNumberGiven values (codes "ids") 0 4294967295
-  unfolding rule_named
-  ids_given takes = number_of_value _ _ _ values (given takes_ids (codes "ids") ids_rule command_line.subs name values refl refl one takes)
-
-  pub workers_given : takes_workers name ≡ true → IsNumberGiven values (codes "workers") 1 MAX_COUNT
-  unfolding rule_named
-  workers_given takes = number_by_default _ _ _ (codes "1") values (given takes_workers (codes "workers") workers_rule command_line.subs name values refl refl one takes)
-
-  pub segments_given : is_named (codes "run") name ≡ true → IsNumberGiven values (codes "segments") 1 MAX_COUNT
-  unfolding rule_named
-  segments_given takes =
-      number_by_default _ _ _ (codes "1") values (given (is_named (codes "run")) (codes "segments") segments_rule command_line.subs name values refl refl one takes)
-
-  pub place_given : is_named (codes "explain") name ≡ true → IsNumberGiven values (codes "place") 0 4294967295
-  unfolding rule_named
-  place_given takes =
-      number_of_value _ _ _ values (given (is_named (codes "explain")) (codes "place") place_rule command_line.subs name values refl refl one takes)
-
-  pub near_given : takes_near name ≡ true → IsNumberGiven values (codes "near") 1 MAX_DISTANCE
-  unfolding rule_named
-  near_given takes = number_by_default _ _ _ (codes "1") values (given takes_near (codes "near") near_rule command_line.subs name values refl refl one takes)
-
-  pub far_given : takes_near name ≡ true → IsNumberGiven values (codes "far") 0 MAX_DISTANCE
-  unfolding rule_named
-  far_given takes = number_by_default _ _ _ (codes "0") values (given takes_near (codes "far") far_rule command_line.subs name values refl refl one takes)
-
-  pub rounds_given : takes_rounds name ≡ true → IsNumberGiven values (codes "rounds") 0 MAX_ROUNDS
-  unfolding rule_named
-  rounds_given takes = number_of_value _ _ _ values (given takes_rounds (codes "rounds") rounds_rule command_line.subs name values refl refl one takes)
-
-  pub channels_given : takes_rounds name ≡ true → IsNumberGiven values (codes "channels") 1 MAX_CHANNELS
-  unfolding rule_named
-  channels_given takes = number_of_value _ _ _ values (given takes_rounds (codes "channels") channels_rule command_line.subs name values refl refl one takes)
-
-  pub ring_given : takes_ring name ≡ true → IsTextGiven values (codes "ring")
-  unfolding rule_named
-  ring_given takes =
-      let value = given takes_ring (codes "ring") ring_rule command_line.subs name values refl refl one takes in
-      (value.0, value.1)
-
-  pub base_given : takes_base name ≡ true → IsBaseGiven values
-  unfolding rule_named
-  base_given takes = number_by_default _ _ _ (codes "10") values (given takes_base (codes "base") base_rule command_line.subs name values refl refl one takes)
+    go : (b : Bool) → list_any test command.rules ≡ b → IsOneOf (command ∷ commands) name values
+        → IsNamed (if b then command.name ∷ names_with test commands else names_with test commands) name → not (is_name commands command.name) ≡ true
+        → (IsOneOf commands name values → IsNamed (names_with test commands) name → IsGiven test values) → IsGiven test values
+    go true has (inl (is, have)) named apart rest = one_given test command.rules values has have
+    go false has (inl (is, have)) named apart rest = absurd (other apart (named_is_name test commands name named) is)
+    go true has (inr one) (inl is) apart rest = absurd (other apart (called_is_name commands name values one) is)
+    go true has (inr one) (inr named) apart rest = rest one named
+    go false has (inr one) named apart rest = rest one named
 
 -- ---- the number that a value is
+
+-- the option has a value
+abbrev pub IsTextGiven : Text → List Row → Type 0
+IsTextGiven option rows = (text : Text) × (first_of option rows ≡ Some text)
+
+-- the option has a value, which is one of these numbers
+abbrev IsNumberGiven : Values → Text → List Row → Type 0
+IsNumberGiven values.Text option rows = ⊥
+IsNumberGiven (values.Numbers low high) option rows =
+    (high < 2 ^ 32) × (text : Text) × (one_of option rows ≡ Some (without_minus text)) × IsSignedIn (pos low) (pos high) text
+
+-- a value that a parser of these numbers accepts is one of them
+by_parser : (v : Values) (parser : ValueParser) (ignore_case : Bool) (id option : Text) (rows : List Row) → id ≡ option → is_parser_of v parser ≡ true
+    → (text : Text) × (first_of id rows ≡ Some text) × (one_of id rows ≡ Some (read_as (reading_of parser) text)) × Accepts ignore_case parser text
+    → IsNumberGiven v option rows
+by_parser (values.Numbers low high) (Signed (pos first) (pos last)) ignore_case id option rows same is (text, found, one, accepted) =
+    let (low_is, rest) = and_parts (low == first) _ is in
+    let (high_is, small) = and_parts (high == last) _ rest in
+    let low_same : low ≡ first = (Decides-eqb low first).0 low_is in
+    let high_same : high ≡ last = (Decides-eqb high last).0 high_is in
+    ((Decides-ltb high (2 ^ 32)).0 small, text, subst (λ (o : Text). one_of o rows ≡ Some (without_minus text)) same one, rw (low_same, high_same) accepted)
+by_parser _ _ ignore_case id option rows same is value = absurd (true≢false (sym is))
+
+-- a command is called with the option of each row that it takes
+pub number_given : (row : OptionRow) (name : Text) (rows : List Row) → IsOneOf command_line.subs name rows → IsTaken row name
+    → IsNumberGiven row.values row.name.now rows
+number_given row name rows one taken =
+    let (rule, is, value) = given (is_rule_of row) command_line.subs name rows refl one taken in
+    let (named, rest) = and_parts (bytes_eq rule.id row.name.now) _ is in
+    let (parser, always) = and_parts (is_parser_of row.values (parser_of_value rule.parser)) _ rest in
+    by_parser row.values (parser_of_value rule.parser) rule.ignore_case rule.id row.name.now rows ((bytes_eq-Decides rule.id row.name.now).0 named) parser
+    (value always)
 
 -- what `u32` reads from a text
 abbrev Reads32 : List ℕ → Result ℕ ParseIntError → Type 0
 Reads32 text r = ParsesUnsigned 32 10 text r × ExplainsUnsignedError 10 text r × HasUnsignedDigitsIfOk text r
 
--- an option whose value is a number in a range of 32 bits reads as this number
-pub number_read : (f : Found) (option : Text) (r : Option ℕ) (low high : ℕ) → high < 2 ^ 32
-    → ((text : Text) → one_text f option ≡ Some text → ReadsOne Reads32 text r) → IsNumberGiven (rows_of f) option low high
-    → (n : ℕ) × (r ≡ Some n) × HasNumber (rows_of f) option n × (low ≤ n) × (n ≤ high)
-number_read f option r low high fits reads given =
-    let read = reads (without_minus given.0) (one_text-rows f option ∙ given.1) in
-    let number = signed_reads ParseIntError Reads32 32 low high given.0 r read (λ u x g. g.0) fits given.2 in
-    (number.0, number.1, go r number.0 number.1 read, number.2, number.3)
+-- the number that the value of an option is
+pub number_read : (f : Found) (row : OptionRow) (r : Option ℕ) → ((text : Text) → one_text f row.name.now ≡ Some text → ReadsOne Reads32 text r)
+    → IsNumberGiven row.values row.name.now (rows_of f) → (n : ℕ) × (r ≡ Some n) × HasNumber (rows_of f) row.name.now n × IsBetween row.values n
+number_read f row r reads value = go row.values value
   where
-    go : (o : Option ℕ) (n : ℕ) → o ≡ Some n → ReadsOne Reads32 (without_minus given.0) o → HasNumber (rows_of f) option n
-    go (Some m) n is read =
+    read_is : (o : Option ℕ) (n : ℕ) (text : Text) → one_of row.name.now (rows_of f) ≡ Some (without_minus text) → o ≡ Some n
+        → ReadsOne Reads32 (without_minus text) o → HasNumber (rows_of f) row.name.now n
+    read_is (Some m) n text found is read =
         let same : n ≡ m = grind arith in
-        (without_minus given.0, given.1, read.0.0, same ∙ read.0.1)
-    go None n is read = absurd (grind arith)
+        (without_minus text, found, read.0.0, same ∙ read.0.1)
+    read_is None n text found is read = absurd (grind arith)
 
--- a number is in each range of 32 bits in which the value of the option is
-abbrev IsRanged : List Row → Text → ℕ → Type 0
-IsRanged values option n = (low high : ℕ) → high < 2 ^ 32 → IsNumberGiven values option low high → (low ≤ n) × (n ≤ high)
+    go : (v : Values) → IsNumberGiven v row.name.now (rows_of f) → (n : ℕ) × (r ≡ Some n) × HasNumber (rows_of f) row.name.now n × IsBetween v n
+    go values.Text none = absurd none
+    go (values.Numbers low high) (fits, text, found, passed) =
+        let read = reads (without_minus text) (one_text-rows f row.name.now ∙ found) in
+        let number = signed_reads ParseIntError Reads32 32 low high text r read (λ u x g. g.0) fits passed in
+        (number.0, number.1, read_is r number.0 text found number.1 read, (number.2, number.3))
 
-pub count_is : (values : List Row) (option : Text) (n : ℕ) → IsRanged values option n → IsNumberGiven values option 1 MAX_COUNT → IsCount n
-count_is values option n ranged given = let range = ranged 1 MAX_COUNT (omega arith) given in record { some = range.0; few = range.1 }
+-- ---- the ring
 
-pub near_is : (values : List Row) (n : ℕ) → IsRanged values (codes "near") n → IsNumberGiven values (codes "near") 1 MAX_DISTANCE → IsNear n
-near_is values n ranged given = let range = ranged 1 MAX_DISTANCE (omega arith) given in record { some = range.0; small = range.1 }
+-- a rule is a required option `--ring`
+abbrev is_ring_rule : Rule → Bool
+is_ring_rule rule = bytes_eq rule.id (codes "ring") && is_always_given rule
 
-pub far_is : (values : List Row) (n : ℕ) → IsRanged values (codes "far") n → IsNumberGiven values (codes "far") 0 MAX_DISTANCE → IsFar n
-far_is values n ranged given = (ranged 0 MAX_DISTANCE (omega arith) given).1
-
--- the numbers of a command that has workers and a separation are in their ranges
-pub all_in_range : (name : Text) (values : List Row) (workers near far : ℕ) → IsOneOf command_line.subs name values
-    → takes_workers name ≡ true → takes_near name ≡ true
-    → IsRanged values (codes "workers") workers → IsRanged values (codes "near") near → IsRanged values (codes "far") far
-    → IsCount workers × IsNear near × IsFar far
-all_in_range name values workers near far one is_filled is_judged w n f = (
-  count_is values (codes "workers") workers w (workers_given name values one is_filled),
-  near_is values near n (near_given name values one is_judged),
-  far_is values far f (far_given name values one is_judged),
-)
-
--- the numbers of a command on the formula are in their ranges
-pub formula_in_range : (command : FormulaCommand) (values : List Row) (rounds channels near far : ℕ) → IsOneOf command_line.subs (formula_name command) values
-    → IsRanged values (codes "rounds") rounds → IsRanged values (codes "channels") channels → IsRanged values (codes "near") near → IsRanged values (codes "far") far
-    → AreFormulaNumbers rounds channels near far
-formula_in_range command values rounds channels near far one r c n f =
-    let name = formula_name command in
-    let takes = formula_takes takes_rounds command refl refl in
-    let judged = formula_takes takes_near command refl refl in
-    let rounds_range = r 0 MAX_ROUNDS (omega arith) (rounds_given name values one takes) in
-    let channels_range = c 1 MAX_CHANNELS (omega arith) (channels_given name values one takes) in
-    record {
-      few_rounds = rounds_range.1;
-      some_channels = channels_range.0;
-      few_channels = channels_range.1;
-      near_fits = near_is values near n (near_given name values one judged);
-      far_fits = far_is values far f (far_given name values one judged);
-    }
+-- a command that takes a ring is called with one
+pub ring_given : (name : Text) (rows : List Row) → IsOneOf command_line.subs name rows → IsRingName name → IsTextGiven (codes "ring") rows
+ring_given name rows one on_ring =
+    let (rule, is, value) = given is_ring_rule command_line.subs name rows refl one (named on_ring) in
+    let (ring, always) = and_parts (bytes_eq rule.id (codes "ring")) _ is in
+    let (text, found, one_is, accepted) = value always in
+    (text, subst (λ (o : Text). first_of o rows ≡ Some text) ((bytes_eq-Decides rule.id (codes "ring")).0 ring) found)
+  where
+    named : IsRingName name → IsNamed (names_with is_ring_rule command_line.subs) name
+    named (inl is) = inl is
+    named (inr (inl is)) = inr (inl is)
+    named (inr (inr (inl is))) = inr (inr (inl is))
+    named (inr (inr (inr (inl is)))) = inr (inr (inr (inl is)))
+    named (inr (inr (inr (inr is)))) = inr (inr (inr (inr (inl is))))
 
 -- ---- the law at this command line
 

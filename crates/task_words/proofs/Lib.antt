@@ -2,4 +2,4 @@ mod Parts
 mod GivenOptions
 mod Refusals
 mod Calls
-mod Commands
+mod Rows

@@ -1,6 +1,6 @@
 -- The command line of the program, as `clap` reads it: one of thirteen commands, then its options in any order, each
 -- with one value.
-use Rattle.std.specs.Prelude.{◌≡◌, ℕ, List, [], ◌∷◌, ◌++◌, Some, true, false, codes, pos}
+use Rattle.std.specs.Prelude.{◌≡◌, ℕ, List, [], ◌∷◌, Some, true, false, codes, pos}
 use Rattle.clap.specs.Words.{App, Rule, Shape, new_app, new_rule, shape_of}
 use Rattle.clap.specs.declared.builder.command.Command.{Command}
 use Rattle.clap.specs.declared.builder.command.Command.TheViews.{out-Command}
@@ -134,34 +134,11 @@ program = record {
   subs = [];
 }
 
--- the commands that read a program and make no table of it
-abbrev pub text_commands : List Shape
-text_commands = check_command ∷ print_command ∷ []
-
--- the commands that read a program and take no ring
-abbrev pub program_commands : List Shape
-program_commands = text_commands ++ table_command ∷ judge_command ∷ []
-
--- the commands that run a program on a ring
-abbrev pub running_commands : List Shape
-running_commands = run_command ∷ trace_command ∷ explain_command ∷ []
-
--- the commands that read a program and take a ring
-abbrev pub ring_commands : List Shape
-ring_commands = running_commands ++ plan_command ∷ []
-
--- the program with these commands
-abbrev pub line_of : List Shape → App
-line_of commands = record { top = record program.top { is_leaf = false }; subs = commands }
-
--- the commands that read a table text
-abbrev pub table_commands : List Shape
-table_commands = audit_command ∷ apply_command ∷ migrate_command ∷ []
-
--- the commands on the formula of all tables
-abbrev pub formula_commands : List Shape
-formula_commands = formula_command ∷ refute_command ∷ []
-
 -- the words after the program's name: the name of one of the thirteen commands, and its options
 abbrev pub command_line : App
-command_line = line_of (program_commands ++ (ring_commands ++ (table_commands ++ formula_commands)))
+command_line = record {
+  top = record program.top { is_leaf = false };
+  subs =
+      check_command ∷ print_command ∷ table_command ∷ judge_command ∷ run_command ∷ trace_command ∷ explain_command ∷ plan_command ∷ audit_command
+      ∷ apply_command ∷ migrate_command ∷ formula_command ∷ refute_command ∷ [];
+}

@@ -8,7 +8,6 @@ pub mod CommandLine
 pub mod Words
 pub mod Options
 pub mod WordsFault
-pub mod CommandNames
 pub mod Rows
 pub mod RingTips
 pub mod Tips

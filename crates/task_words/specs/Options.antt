@@ -1,28 +1,56 @@
--- The results of a parse that `clap` accepts or refuses. No public contract cites this file.
-use Rattle.std.specs.Prelude.{◌≡◌, ◌≢◌, ◌<◌, ◌^◌, ℕ, List, Some, ⊤, codes, pos}
-use Rattle.clap.specs.Words.{IsSignedIn, Row, Text, first_of, one_of, without_minus}
+-- The options of the command that is called, and the results of a parse that `clap` accepts or refuses. No public contract
+-- cites this file.
+use Rattle.std.specs.Prelude.{◌≡◌, ◌≢◌, ◌⊎◌, ◌≤◌, ◌^◌, ◌==◌, ◌&&◌, ℕ, Bool, List, [], ◌∷◌, ⊤, false, nat_lt, pos, if◌then◌else◌}
+use Rattle.std.specs.List.{list_any}
+use Rattle.std.specs.Str.{bytes_eq}
+use Rattle.clap.specs.Facts.{parser_of_value}
+use Rattle.clap.specs.Words.{Row, Rule, Shape, Text, found_of, rows_of}
+use Rattle.clap.specs.declared.builder.value_parser.ValueParser.{ValueParser}
+use Rattle.clap.specs.declared.builder.value_parser.ValueParser.TheVariants.{Signed}
 use Rattle.clap.specs.declared.error.kind.ErrorKind.{ErrorKind}
 use Rattle.clap.specs.declared.error.kind.ErrorKind.TheVariants as kind
+use Rattle.option_values.specs.OptionLines.{is_always_given}
+use Rattle.task_words.specs.CommandLine.{command_line}
 use Rattle.task_words.specs.Words.{AsksForHelp, IsRefused}
-use Rattle.task_words.specs.declared.limits.TheConstants.{MAX_BASE, MIN_BASE}
+use Rattle.task_words.specs.declared.option_rows.OptionRow.{OptionRow}
+use Rattle.task_words.specs.declared.option_rows.Values.{Values}
+use Rattle.task_words.specs.declared.option_rows.Values.TheVariants as values
+use Rattle.task_words.specs.declared.options.Call.{Call}
 use Rattle.task_words.specs.declared.words.WordsFault.{WordsFault}
 use Rattle.task_words.specs.declared.words.WordsFault.TheVariants.{Usage, BadRing, OutOfMemory, Help}
 
--- the option has a value, which is a number in this range
-abbrev pub IsNumberGiven : List Row → Text → ℕ → ℕ → Type 0
-IsNumberGiven values option low high = (text : Text) × (one_of option values ≡ Some (without_minus text)) × IsSignedIn (pos low) (pos high) text
+-- the values of the options of a call
+abbrev pub values_of : Call → List Row
+values_of call = rows_of (found_of call.options.now)
 
--- the option has a value, which is a number of 32 bits
-abbrev pub IsSomeNumberGiven : List Row → Text → Type 0
-IsSomeNumberGiven values option = (low : ℕ) × (high : ℕ) × (high < 2 ^ 32) × IsNumberGiven values option low high
+-- the number is one of those that an option takes
+abbrev pub IsBetween : Values → ℕ → Type 0
+IsBetween values.Text number = ⊥
+IsBetween (values.Numbers low high) number = (low ≤ number) × (number ≤ high)
 
--- the option has a value
-abbrev pub IsTextGiven : List Row → Text → Type 0
-IsTextGiven values option = (text : Text) × (first_of option values ≡ Some text)
+-- whether a parser accepts the numbers that an option takes, which have 32 bits
+abbrev pub is_parser_of : Values → ValueParser → Bool
+is_parser_of (values.Numbers low high) (Signed (pos first) (pos last)) = (low == first) && ((high == last) && nat_lt high (2 ^ 32))
+is_parser_of _ _ = false
 
--- `--base` has a value, which is the number of a base
-abbrev pub IsBaseGiven : List Row → Type 0
-IsBaseGiven values = IsNumberGiven values (codes "base") MIN_BASE MAX_BASE
+-- whether a rule is the option of this row, which takes numbers, and has a value in each call
+abbrev pub is_rule_of : OptionRow → Rule → Bool
+is_rule_of row rule = bytes_eq rule.id row.name.now && (is_parser_of row.values (parser_of_value rule.parser) && is_always_given rule)
+
+-- the names of the commands with an option that passes a test
+abbrev pub names_with : (Rule → Bool) → List Shape → List Text
+names_with test [] = []
+names_with test (command ∷ commands) =
+    if list_any test command.rules then command.name ∷ names_with test commands else names_with test commands
+
+-- this is one of the names
+abbrev pub IsNamed : List Text → Text → Type 0
+IsNamed [] name = ⊥
+IsNamed (other ∷ names) name = (name ≡ other) ⊎ IsNamed names name
+
+-- the command with this name takes the option of this row
+abbrev pub IsTaken : OptionRow → Text → Type 0
+IsTaken row name = IsNamed (names_with (is_rule_of row) command_line.subs) name
 
 -- the fault of the words for an error of this kind
 abbrev pub IsRefusalOf : ErrorKind → WordsFault → Type 0

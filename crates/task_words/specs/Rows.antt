@@ -1,19 +1,17 @@
 -- The commands and options of the tables. No public contract cites this file.
 use Rattle.std.specs.Prelude.{◌≡◌, Bool, List, [], ◌∷◌, Option, Some, None, true, false, map, pos}
 use Rattle.std.specs.Borrow.{Bor}
-use Rattle.clap.specs.Words.{App, Row, Rule, Shape, Text, rule_of, shape_of, with_rule, with_subcommand}
+use Rattle.clap.specs.Words.{App, Rule, Shape, Text, rule_of, shape_of, with_rule, with_subcommand}
 use Rattle.clap.specs.declared.builder.arg.Arg.{Arg}
 use Rattle.clap.specs.declared.builder.command.Command.{Command}
 use Rattle.clap.specs.declared.builder.command.Command.TheViews.{out-Command}
 use Rattle.clap.specs.declared.builder.value_parser.ValueParser.{ValueParser}
 use Rattle.clap.specs.declared.builder.value_parser.ValueParser.TheVariants.{String, Signed}
-use Rattle.option_values.specs.OptionLines.{IsOneOf}
 use Rattle.task_words.specs.CommandLine.{command_of, option_rule}
-use Rattle.task_words.specs.CommandNames.{name_of}
-use Rattle.task_words.specs.declared.rows.CommandRow.{CommandRow}
-use Rattle.task_words.specs.declared.rows.OptionRow.{OptionRow}
-use Rattle.task_words.specs.declared.rows.Values.{Values}
-use Rattle.task_words.specs.declared.rows.Values.TheVariants as values
+use Rattle.task_words.specs.declared.commands.CommandRow.{CommandRow}
+use Rattle.task_words.specs.declared.option_rows.OptionRow.{OptionRow}
+use Rattle.task_words.specs.declared.option_rows.Values.{Values}
+use Rattle.task_words.specs.declared.option_rows.Values.TheVariants as values
 
 -- the parser of these values
 abbrev pub parser_in : Values → ValueParser
@@ -31,7 +29,7 @@ rule_in row = with_default (option_rule row.name.now (parser_in row.values)) row
 
 -- the command of a row
 abbrev pub command_in : CommandRow → Shape
-command_in row = command_of (name_of row.command) (map rule_in row.options.now)
+command_in row = command_of row.name.now (map rule_in row.options.now)
 
 -- the rule of an option, and whether subcommands share it
 abbrev pub facts_of_option : Arg → Rule × Bool
@@ -58,7 +56,3 @@ with_commands line (shape ∷ shapes) = with_commands (with_subcommand line shap
 abbrev pub with_options : App → List Rule → App
 with_options command [] = command
 with_options command (rule ∷ rules) = with_options (with_rule command rule) rules
-
--- none of these commands has this name
-abbrev pub IsNoName : List Shape → Text → Type 0
-IsNoName shapes name = (values : List Row) → ¬ IsOneOf shapes name values

@@ -6,8 +6,9 @@ ghost use Rattle.clap.specs.declared.builder.command.Command.TheViews.{out-Comma
 ghost use Rattle.task_words.specs.CommandLine.{IsCommandOf, command_line, program};
 ghost use Rattle.task_words.specs.Rows.{AreCommandsOf, AreOptionsOf, command_in, parser_in, rule_in, with_commands};
 
+use crate::commands::{COMMANDS, CommandRow};
 use crate::help;
-use crate::rows::{COMMANDS, CommandRow, OptionRow, Values};
+use crate::option_rows::{OptionRow, Values};
 use clap::builder::ValueParser;
 use clap::{Arg, ArgAction, Command};
 use std::alloc::{AllocError, Global};
@@ -54,7 +55,7 @@ fn command<'a>(alloc: Global, row: &CommandRow) -> Result<Command<'a>, AllocErro
     ensures { IfOk result (IsCommandOf (command_in row.now)) }
 {
     let options = options(alloc, row.options)?;
-    described(alloc, row.command.name(), row.about, row.details).args(options)
+    described(alloc, row.name, row.about, row.details).args(options)
 }
 
 // Returns a command with the texts of its help.

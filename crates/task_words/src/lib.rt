@@ -2,16 +2,17 @@
 #![tactic(auto)]
 
 mod command_line;
+mod commands;
 mod foreign_names;
 mod help;
 pub mod limits;
+mod option_rows;
 mod options;
 mod parsing;
 mod process;
 mod refused;
 pub mod ring_text;
 mod ring_tips;
-mod rows;
 pub mod task;
 mod tips;
 mod word_advice;

@@ -6,7 +6,7 @@ ghost use Rattle.task_words.specs.WordsFault.{IsNotUtf8};
 ghost use Rattle.task_words.specs.declared.words.WordsFault.TheVariants.{OutOfMemory};
 ghost use Rattle.std.specs.IoError.{error_kind};
 
-use crate::options::task_in;
+use crate::options::Call;
 use crate::parsing::parsed;
 use crate::task::Task;
 use option_values::options_have_values;
@@ -85,9 +85,9 @@ pub fn words_fault(alloc: Global, error: io::Error) -> Result<WordsFault, AllocE
 }
 
 /// Returns the task that the words after the program's name request, by the rules of `clap`: the
-/// name of a command, and its options in any order, each with one value. The table of commands and
-/// options is in `rows.rt`. The value of `--ring` is a ring text, any other one a decimal number in
-/// the range of its option.
+/// name of a command, and its options in any order, each with one value. The table of commands is in
+/// `commands.rt`. The value of `--ring` is a ring text, any other one a decimal number in the range of
+/// its option.
 ///
 /// Fails with `Usage` if `clap` refuses the words, with `BadRing` if it accepts them but the value
 /// of `--ring` is not a ring text, with `Help` if they ask for help, and with `OutOfMemory` if
@@ -98,7 +98,7 @@ pub fn task_of(alloc: Global, words: &[String]) -> Result<Task, WordsFault>
     options_have_values();
     let matches = parsed(alloc, words)?;
     match matches.subcommand() {
-        Some((name, options)) => task_in(alloc, name, options),
+        Some((name, options)) => Call { name, options }.task(alloc),
         None => unreachable!(),
     }
 }

@@ -1,6 +1,6 @@
 use Rattle.std.proofs.Common.{ap₂}
 use Rattle.task_words.specs.Rows.{facts_of_option}
-use Rattle.task_words.proofs.Commands.{facts_more}
+use Rattle.task_words.proofs.Rows.{facts_more}
 use Rattle.task_words.proofs.command_line.options.Goals as goal
 
 pub options-preserved : goal.options-preserved

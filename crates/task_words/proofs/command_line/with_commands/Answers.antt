@@ -1,5 +1,5 @@
 use Rattle.std.proofs.lemmas.Result.{IfOk-weaker}
-use Rattle.task_words.proofs.Commands.{commands_added}
+use Rattle.task_words.proofs.Rows.{commands_added}
 use Rattle.task_words.proofs.command_line.with_commands.Goals as goal
 
 pub returns : goal.returns

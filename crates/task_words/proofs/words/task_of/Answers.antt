@@ -6,8 +6,8 @@ use Rattle.task_words.specs.Words.{IsCallOf}
 use Rattle.task_words.proofs.words.task_of.Goals.{Joined-matches}
 use Rattle.task_words.proofs.words.task_of.Goals as goal
 
-pub task_in-requires : goal.task_in-requires
-task_in-requires c =
+pub task-requires : goal.task-requires
+task-requires c =
     command_given c.options_have_values.ensures (map string_bytes c.args.words.now) c.in-Some.name.now (rows_of (found_of c.in-Some.options.now)) c.in_ok-matches.ensures.taken
     (call_is (map string_bytes c.args.words.now) c.in_ok-matches.matches c.subcommand.result c.subcommand.ensures.name c.subcommand.ensures.rows c.in_ok-matches.ensures.rows ∙ ap met_of c.in-Some.is)
 
@@ -26,12 +26,12 @@ returns c =
     let name = c.in-Some.name.now in
     let values = rows_of (found_of c.in-Some.options.now) in
     let taken = c.in_ok-matches.ensures.taken in
-    let told = c.task_in.ensures in
+    let told = c.task.ensures in
     record {
-      task = task_is c.task_in.result words name values taken (call c) told.task;
+      task = task_is c.task.result words name values taken (call c) told.task;
       range = told.range;
-      ok = is_ok c.task_in.result words name values taken (call c) told.good told.refused;
-      bad_ring = is_bad_ring c.task_in.result words name values taken (call c) told.good told.refused;
-      usage = λ usage. no_text c.task_in.result name values told.refused (inl usage);
-      help = λ help. no_text c.task_in.result name values told.refused (inr help);
+      ok = is_ok c.task.result words name values taken (call c) told.good told.refused;
+      bad_ring = is_bad_ring c.task.result words name values taken (call c) told.good told.refused;
+      usage = λ usage. no_text c.task.result name values told.refused (inl usage);
+      help = λ help. no_text c.task.result name values told.refused (inr help);
     }

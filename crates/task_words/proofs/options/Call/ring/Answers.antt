@@ -8,8 +8,9 @@ use Rattle.task_words.specs.Words.{IsRingBad}
 use Rattle.task_words.specs.WordsFault.{MemoryAside}
 use Rattle.task_words.specs.declared.words.WordsFault.{WordsFault}
 use Rattle.task_words.specs.declared.words.WordsFault.TheVariants.{BadRing, OutOfMemory}
-use Rattle.task_words.proofs.options.ring_in.Goals.{After-ring_of}
-use Rattle.task_words.proofs.options.ring_in.Goals as goal
+use Rattle.task_words.proofs.GivenOptions.{ring_given}
+use Rattle.task_words.proofs.options.Call.ring.Goals.{After-ring_of}
+use Rattle.task_words.proofs.options.Call.ring.Goals as goal
 
 -- the value of `--ring` is the text that was read
 value_is : (text : Text) (values : List Row) → first_of (codes "ring") values ≡ Some text → IsRingBad values → ¬ IsRingText text
@@ -32,16 +33,17 @@ refused (Err fault) text values is told (inl bad) = inr (bad, (text, is, (told (
 
 pub unreachable-requires : goal.unreachable-requires
 unreachable-requires c =
-    let none : None ≡ Some c.requires.0 = c.in_default.ensures ∙ (first_value-rows (found_of c.args.options.now) (codes "ring") ∙ c.requires.1) in
+    let given = ring_given c.args.self.now.name.now (rows_of (found_of c.args.self.now.options.now)) c.requires.given c.requires.on_ring in
+    let none : None ≡ Some given.0 = c.in_default.ensures ∙ (first_value-rows (found_of c.args.self.now.options.now) (codes "ring") ∙ given.1) in
     cc
 
 -- the values of the options
 abbrev values : After-ring_of → List Row
-values c = rows_of (found_of c.args.options.now)
+values c = rows_of (found_of c.args.self.now.options.now)
 
 -- the text that was read, as the value of `--ring`
 text_is : (c : After-ring_of) → first_of (codes "ring") (values c) ≡ Some c.in-Some.text.now
-text_is c = sym (first_value-rows (found_of c.args.options.now) (codes "ring")) ∙ sym c.in-Some.ensures
+text_is c = sym (first_value-rows (found_of c.args.self.now.options.now) (codes "ring")) ∙ sym c.in-Some.ensures
 
 pub returns-clause-ring : goal.returns-clause-ring
 returns-clause-ring c =

@@ -1,15 +1,14 @@
 -- The commands of the tables, one after another.
-use Rattle.std.proofs.Common.{ap, ap₂, ℕ, suc, All, inl, inr, arith, ◌+◌, ◌<◌, ◌≡◌, ◌∙◌, ◌||◌, false, List, [], ◌∷◌, map, length, get_or, take, sym, append_assoc, append-nil, refl, ◌++◌}
+use Rattle.std.proofs.Common.{ap, ap₂, ℕ, ◌+◌, ◌<◌, ◌≡◌, ◌∙◌, ◌||◌, false, List, [], ◌∷◌, map, length, get_or, take, sym, append_assoc, append-nil, refl, ◌++◌}
 use Rattle.std.proofs.lemmas.List.{map_more, map_push}
-use Rattle.clap.specs.Words.{AddsArg, AddsInTurn, AddsSubcommand, App, Rule, Shape, Text, app_of, new_app, rule_of, shape_of, with_rule, with_subcommand}
+use Rattle.clap.specs.Words.{AddsArg, AddsInTurn, AddsSubcommand, App, Rule, Shape, app_of, new_app, rule_of, shape_of, with_rule, with_subcommand}
 use Rattle.clap.specs.declared.builder.arg.Arg.{Arg}
 use Rattle.clap.specs.declared.builder.command.Command.{Command}
 use Rattle.clap.specs.declared.builder.command.Command.TheViews.{out-Command}
 use Rattle.task_words.specs.CommandLine.{IsCommandOf}
-use Rattle.task_words.specs.CommandNames.{name_of}
-use Rattle.task_words.specs.Rows.{AreCommandsOf, AreOptionsOf, IsNoName, command_in, rule_in, with_commands, with_options}
-use Rattle.task_words.specs.declared.rows.CommandRow.{CommandRow}
-use Rattle.task_words.specs.declared.rows.OptionRow.{OptionRow}
+use Rattle.task_words.specs.Rows.{AreCommandsOf, AreOptionsOf, command_in, rule_in, with_commands, with_options}
+use Rattle.task_words.specs.declared.commands.CommandRow.{CommandRow}
+use Rattle.task_words.specs.declared.option_rows.OptionRow.{OptionRow}
 
 -- one more item, with the facts of its row
 pub facts_more : {A B X : Type 0} (facts : A → X) (told : B → X) (items after : List A) (item : A) (rows : List B) (j : ℕ) (d : B) → j < length rows
@@ -44,11 +43,11 @@ options_added old new (row ∷ rows) (option ∷ options) are local (next, adds,
     (after.0 ∙ ap (λ line. with_options line (map rule_in rows)) (adds.shape own ∙ ap (with_rule (app_of old)) rule), after.1)
 
 -- a new command with the options of a row
-pub command_is : (old new : Command) (row : CommandRow) (options : List Arg) → AreOptionsOf row.options.now options → app_of old ≡ new_app (name_of row.command)
+pub command_is : (old new : Command) (row : CommandRow) (options : List Arg) → AreOptionsOf row.options.now options → app_of old ≡ new_app row.name.now
     → (out-Command old).has_globals ≡ false → AddsInTurn AddsArg old options new → IsCommandOf (command_in row) new
 command_is old new row options are is local added =
     let after = options_added old new row.options.now options are local added in
-    let whole = after.0 ∙ ap (λ line. with_options line (map rule_in row.options.now)) is ∙ options_after (new_app (name_of row.command)).top [] (map rule_in row.options.now) in
+    let whole = after.0 ∙ ap (λ line. with_options line (map rule_in row.options.now)) is ∙ options_after (new_app row.name.now).top [] (map rule_in row.options.now) in
     (ap (λ (a : App). a.top) whole, after.1)
 
 -- the commands of rows, added in turn
@@ -62,9 +61,3 @@ commands_added start old new (row ∷ rows) (command ∷ commands) are is (next,
     let shape : shape_of command ≡ command_in row = ap (λ p. p.0) first in
     let local : (out-Command command).has_globals ≡ false = ap (λ p. p.1) first in
     commands_added (with_subcommand start (command_in row)) next new rows commands (record { facts = rest }) (adds.shape local ∙ ap₂ with_subcommand is shape) more
-
--- a name that no row has is no command of the rows
-pub no_name : (rows : List CommandRow) (name : Text) → All (λ row. ¬ (name ≡ name_of row.command)) rows → IsNoName (map command_in rows) name
-no_name [] name none values one = one
-no_name (row ∷ rows) name none values (inl (is, have)) = none 0 row (omega arith) is
-no_name (row ∷ rows) name none values (inr one) = no_name rows name (λ k d within. none (suc k) d (omega (arith, within))) values one
