@@ -5,7 +5,7 @@ use Rattle.node_lang.specs.declared.token.Token.TheVariants as token
 use Rattle.node_lang.specs.Lexemes.{Lexeme}
 use Rattle.lang_check.specs.declared.acceptance.CheckFault.{CheckFault}
 use Rattle.lang_check.specs.declared.acceptance.CheckFault.TheVariants as check
-use Rattle.fault_notes.specs.declared.scanning.Place.{Place}
+use Rattle.fault_notes.specs.declared.cause_places.Place.{Place}
 use Rattle.fault_notes.specs.FaultTokens.{in_start, in_round, in_assignment}
 
 -- the place after these tokens

@@ -2,7 +2,7 @@
 
 ghost use Rattle.std.specs.Prelude.{◌≤◌, length};
 
-use crate::words::is_word_byte;
+use crate::word_texts::is_word_byte;
 use node_lang::{Expected, Token, token_from};
 use source_places::{first_line_len, is_one_of};
 

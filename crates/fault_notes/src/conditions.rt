@@ -15,8 +15,8 @@ use crate::around::{
     is_no_register, is_number, is_operand, is_register, is_repeated, is_token, is_turned,
     open_operation,
 };
-use crate::operations::{is_glued, is_glued_to_number, is_operation};
-use crate::parts::{begins_feed, begins_so, is_based};
+use crate::operation_names::{is_glued, is_glued_to_number, is_operation};
+use crate::text_beginnings::{begins_feed, begins_so, is_based};
 use node_lang::{Expected, Token};
 use source_places::is_one_of;
 

@@ -2,22 +2,22 @@
 //! and advice, by rules.
 #![tactic(auto)]
 
+mod advice_at_end;
+mod advice_on_bytes;
 mod around;
-mod bounds;
-mod bytes;
+mod bound_lines;
+mod cause_places;
 mod conditions;
-mod ends;
 mod mark_rules;
-mod operations;
-mod parts;
+mod operation_names;
 mod place_rules;
 mod placed;
-mod programs;
+mod program_notes;
 mod rules;
-mod scanning;
-mod texts;
+mod text_beginnings;
+mod text_notes;
 mod word_rules;
-mod words;
+mod word_texts;
 
-pub use programs::{check_note, ids_note};
-pub use texts::text_note;
+pub use program_notes::{check_note, ids_note};
+pub use text_notes::text_note;

@@ -4,7 +4,7 @@ ghost use Rattle.std.specs.Prelude.{◌≡◌, IfOk, string_bytes};
 ghost use Rattle.fault_notes.specs.FaultTokens.{place_of_cause};
 ghost use Rattle.fault_notes.specs.Placed.{placed_note};
 
-use crate::scanning::place_of;
+use crate::cause_places::place_of;
 use lang_check::CheckFault;
 use node_program::OutOfMemory;
 use source_places::{write_marked_line, write_place_head};

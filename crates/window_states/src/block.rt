@@ -1,5 +1,5 @@
 //! Blocks of states, with the next messages of their nodes.
-use crate::numbers;
+use crate::block_numbers;
 use lang_check::Plan;
 use round_eval::{row_at, width_of};
 use std::marker::Model;
@@ -59,7 +59,7 @@ impl<'a> Block<'a> {
             lists.states.items lists.to_left.items lists.to_right.items }
         ensures { result ≡ record { plan = plan.entry.now; level = level; number = number; maker = maker } }
     {
-        let len = numbers::block_len(plan.shape(), level, number);
+        let len = block_numbers::block_len(plan.shape(), level, number);
         let BlockLists {
             states,
             to_left,

@@ -4,15 +4,15 @@
 #![tactic(auto)]
 
 mod block;
+mod block_numbers;
 mod laws;
-mod numbers;
 mod source;
 mod window;
 
 pub use block::{Block, BlockLists};
+pub use block_numbers::{block_len, first_number};
 pub use laws::{
     lines_are_rows, locality, one_state_remains, states_from_parts, windows_are_within,
 };
-pub use numbers::{block_len, first_number};
 pub use source::Source;
 pub use window::window_state;

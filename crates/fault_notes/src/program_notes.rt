@@ -10,9 +10,9 @@ ghost use Rattle.fault_notes.specs.ProgramNotes.{IsMostIds, IsIdsNote, IsCheckNo
 ghost use Rattle.fault_notes.specs.ProgramNotes as notes;
 ghost use Rattle.fault_notes.specs.BoundNotes.{growth_text};
 
-use crate::bounds::write_growth;
+use crate::bound_lines::write_growth;
+use crate::cause_places::has_not;
 use crate::placed::placed_note;
-use crate::scanning::has_not;
 use lang_check::CheckFault;
 use node_lang::{MAX_CHANNELS, Program};
 use node_program::OutOfMemory;

@@ -2,7 +2,7 @@ use Rattle.std.proofs.Common.{◌≡◌, ◌≤◌, ◌-◌, length}
 use Rattle.std.specs.List.{list_any}
 use Rattle.node_lang.specs.Lexemes.{lexemes_from}
 use Rattle.fault_notes.specs.ProgramNotes.{is_not, has_not}
-use Rattle.fault_notes.proofs.scanning.has_not.Given as goal
+use Rattle.fault_notes.proofs.cause_places.has_not.Given as goal
 
 -- no `not` is before this place
 abbrev pub invariant-tokens : goal.invariant-tokens

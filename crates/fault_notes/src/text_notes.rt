@@ -9,11 +9,11 @@ ghost use Rattle.source_places.specs.Heads.{place_head};
 ghost use Rattle.source_places.specs.Shown.{marked_line};
 ghost use Rattle.fault_notes.specs.TextNotes.{quoted, cause_of, IsTextNote, IsLongNote};
 
+use crate::advice_at_end::end_advice;
+use crate::advice_on_bytes::byte_advice;
 use crate::around::{Place, place_in};
-use crate::bytes::byte_advice;
-use crate::ends::end_advice;
 use crate::rules::advice_by;
-use crate::words::{first_word, is_word_byte, write_wanted_part};
+use crate::word_texts::{first_word, is_word_byte, write_wanted_part};
 use node_lang::{Expected, FaultKind, TextFault, expected_in};
 use node_program::OutOfMemory;
 use source_places::{TextKind, kind_advice, write_marked_line, write_place_head, write_shown};

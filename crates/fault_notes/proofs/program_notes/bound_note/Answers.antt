@@ -1,7 +1,7 @@
 use Rattle.std.proofs.Common.{◌++◌, ap, ◌∙◌}
 use Rattle.fault_notes.specs.BoundNotes.{growth_text}
 use Rattle.fault_notes.specs.ProgramNotes.{bound_note, not_line}
-use Rattle.fault_notes.proofs.programs.bound_note.Goals as goal
+use Rattle.fault_notes.proofs.program_notes.bound_note.Goals as goal
 
 -- The three pieces.
 pub returns : goal.returns

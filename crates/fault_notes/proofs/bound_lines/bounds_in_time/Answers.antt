@@ -3,7 +3,7 @@ use Rattle.std.specs.Prelude.{slice_index}
 use Rattle.std.specs.List.{range_with_len}
 use Rattle.std.proofs.lemmas.List.FromFn.{map-range_with_len_more}
 use Rattle.node_program.specs.Bounds.{register_bounds}
-use Rattle.fault_notes.proofs.bounds.bounds_in_time.Goals as goal
+use Rattle.fault_notes.proofs.bound_lines.bounds_in_time.Goals as goal
 
 pub loop-rounds-preserved : goal.loop-rounds-preserved
 loop-rounds-preserved c =

@@ -2,7 +2,7 @@ use Rattle.std.proofs.Common.{◌≡◌, map}
 use Rattle.std.specs.Prelude.{slice_index}
 use Rattle.std.specs.List.{range_with_len}
 use Rattle.node_program.specs.Bounds.{register_bounds}
-use Rattle.fault_notes.proofs.bounds.bounds_in_time.Given as goal
+use Rattle.fault_notes.proofs.bound_lines.bounds_in_time.Given as goal
 
 abbrev pub invariant-loop-rounds : goal.invariant-loop-rounds
 invariant-loop-rounds l =

@@ -2,7 +2,7 @@ use Rattle.std.proofs.Common.{◌++◌, ap, ◌∙◌, append_assoc, string_byte
 use Rattle.fault_notes.specs.Words.{wanted_part}
 use Rattle.fault_notes.specs.TextNotes.{quoted}
 use Rattle.std.proofs.lemmas.Result.{IfOk-equal}
-use Rattle.fault_notes.proofs.texts.write_word.Goals as goal
+use Rattle.fault_notes.proofs.text_notes.write_word.Goals as goal
 
 -- The three pieces.
 pub returns : goal.returns

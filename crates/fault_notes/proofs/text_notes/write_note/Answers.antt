@@ -2,7 +2,7 @@ use Rattle.std.proofs.Common.{◌++◌, ap, ◌∙◌, string_bytes}
 use Rattle.fault_notes.specs.TextNotes.{cause_of}
 use Rattle.fault_notes.proofs.Joined.{note_pieces}
 use Rattle.std.proofs.lemmas.Result.{on_ok_weaker}
-use Rattle.fault_notes.proofs.texts.write_note.Goals as goal
+use Rattle.fault_notes.proofs.text_notes.write_note.Goals as goal
 
 -- The pieces of the note, one after another.
 pub returns : goal.returns

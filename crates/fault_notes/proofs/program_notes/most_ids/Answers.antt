@@ -1,7 +1,7 @@
 use Rattle.std.proofs.Common.{◌-◌, arith}
 use Rattle.win_index.specs.declared.limits.TheConstants.{MAX_IDS}
 use Rattle.fault_notes.proofs.MostIds.{shapes_between}
-use Rattle.fault_notes.proofs.programs.most_ids.Goals as goal
+use Rattle.fault_notes.proofs.program_notes.most_ids.Goals as goal
 
 pub returns-then-makes_shape-clause-most : goal.returns-then-makes_shape-clause-most
 returns-then-makes_shape-clause-most c =

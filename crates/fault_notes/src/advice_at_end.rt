@@ -3,8 +3,8 @@
 ghost use Rattle.std.specs.Prelude.{◌≤◌, length};
 
 use crate::around::{last_line, place_in};
-use crate::parts::has_one;
 use crate::rules::advice_by;
+use crate::text_beginnings::has_one;
 use node_lang::{Expected, Token};
 
 const HIDDEN: &str = "; a comment goes up to the end of its line";

@@ -3,7 +3,7 @@
 ghost use Rattle.std.specs.Prelude.{◌≤◌, length};
 
 use crate::around::{Place, after_blanks, is_keyword, is_register};
-use crate::words::is_word_byte;
+use crate::word_texts::is_word_byte;
 
 // Parts of a link that stand for a line feed, a carriage return and `=`, which each program has.
 const LINKED: [&[u8]; 5] = [b"%0A", b"%0a", b"%0D", b"%3D", b"%3d"];

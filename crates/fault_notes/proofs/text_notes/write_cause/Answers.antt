@@ -1,7 +1,7 @@
 use Rattle.std.proofs.Common.{◌++◌, ap, ◌∙◌, append_assoc, string_bytes, codes}
 use Rattle.std.proofs.lemmas.Result.{IfOk-equal}
 use Rattle.fault_notes.specs.Words.{wanted_part}
-use Rattle.fault_notes.proofs.texts.write_cause.Goals as goal
+use Rattle.fault_notes.proofs.text_notes.write_cause.Goals as goal
 
 pub returns-in_ok-push_str-in-EndOfText : goal.returns-in_ok-push_str-in-EndOfText
 returns-in_ok-push_str-in-EndOfText c =

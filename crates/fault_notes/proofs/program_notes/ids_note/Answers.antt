@@ -2,7 +2,7 @@ use Rattle.std.proofs.Common.{◌++◌, ◌∙◌}
 use Rattle.std.specs.Prelude.{codes}
 use Rattle.std.specs.Fmt.{decimal}
 use Rattle.fault_notes.specs.ProgramNotes.{some}
-use Rattle.fault_notes.proofs.programs.ids_note.Goals as goal
+use Rattle.fault_notes.proofs.program_notes.ids_note.Goals as goal
 
 pub returns : goal.returns
 returns c =
