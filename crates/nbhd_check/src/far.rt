@@ -19,7 +19,7 @@ use std::thread::Threads;
 
 // The maximum number of tuples that are tested before masks are made, so that an early no does not pay
 // for them.
-const FIRST_TUPLES: usize = 1 << 13;
+const TUPLES_BEFORE_MASKS: usize = 1 << 13;
 
 /// Returns a number of windows such that none of the windows below it begins a bad tuple. `near` is the
 /// result of the search of second windows. At most `threads` threads search.
@@ -50,13 +50,13 @@ pub(crate) fn far_free_windows<R: Threads + Sync>(
 }
 
 // Returns the number of windows whose tuples are tested before masks are made: those of as many runs
-// as have at most `FIRST_TUPLES` tuples.
+// as have at most `TUPLES_BEFORE_MASKS` tuples.
 fn windows_before_masks(table: &Table) -> u32
     requires { 1 ≤ table.now.rounds }
 {
     let run = windows_per_run(table);
-    let runs = FIRST_TUPLES / run.saturating_mul(windows_per_family(table)).max(1);
-    runs.saturating_mul(run).min(FIRST_TUPLES) as u32
+    let runs = TUPLES_BEFORE_MASKS / run.saturating_mul(windows_per_family(table)).max(1);
+    runs.saturating_mul(run).min(TUPLES_BEFORE_MASKS) as u32
 }
 
 // Returns a number as `far_free_windows` does, by masks of third windows, or `None` if they do not decide.

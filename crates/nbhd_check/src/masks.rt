@@ -3,7 +3,7 @@
 ghost use Rattle.std.specs.Prelude.{◌≡◌, ℕ, List, ◌+◌, ◌*◌, ◌^◌, ◌<◌, ◌≤◌, ◌↔◌, IsTrue, drop, length, slice_index};
 ghost use Rattle.std.specs.Bool.{OnFalse};
 ghost use Rattle.channel_tables.specs.Tables.{IsTable};
-ghost use Rattle.nbhd_check.specs.declared.masks.TheConstants.{MAX_DISTANCE};
+ghost use Rattle.nbhd_check.specs.declared.masks.TheConstants.{MAX_MASKED_DISTANCE};
 ghost use Rattle.nbhd_check.specs.Counts.{family_len};
 ghost use Rattle.nbhd_check.specs.Masks.{AreMasks, Covers, HasBit, HasBitsOf, NoneClose};
 
@@ -14,7 +14,7 @@ use std::alloc::Global;
 use std::thread::{Threads, for_each_chunk_mut};
 
 /// The greatest distance for which masks are made. They hardly help at greater ones.
-pub(crate) const MAX_DISTANCE: u32 = 8;
+pub(crate) const MAX_MASKED_DISTANCE: u32 = 8;
 
 // The minimum number of windows of a group with a mask. A mask saves no time at smaller groups, and
 // the masks of such groups take no more memory than the channels of their windows.
@@ -101,7 +101,7 @@ pub(crate) fn group_masks<R: Threads + Sync>(
     ensures { AreMasks table.now.entries grouping.len grouping.distance result.items }
 {
     let Grouping { len, distance } = grouping;
-    if distance > MAX_DISTANCE || !masks_help(table, len) {
+    if distance > MAX_MASKED_DISTANCE || !masks_help(table, len) {
         return Vec::new(alloc);
     }
     let entries = table.entries();
@@ -184,7 +184,7 @@ fn fill_masks<R: Threads + Sync>(
     grouping: Grouping,
     size: usize,
 )
-    requires few { grouping.distance ≤ MAX_DISTANCE }
+    requires few { grouping.distance ≤ MAX_MASKED_DISTANCE }
     requires some { 0 < size }
     requires room { length masks.old * grouping.len ≤ length entries.now }
     ensures { AreMasks entries.now grouping.len grouping.distance masks.new }
@@ -194,7 +194,7 @@ fn fill_masks<R: Threads + Sync>(
         masks,
         size,
         &|start: usize, part: &mut [u64]|
-            requires { (grouping.distance ≤ MAX_DISTANCE) × ((start + length part.old) * grouping.len ≤ length entries.now) }
+            requires { (grouping.distance ≤ MAX_MASKED_DISTANCE) × ((start + length part.old) * grouping.len ≤ length entries.now) }
             ensures { (length part.new ≡ length part.old)
                 × AreMasks (drop (start * grouping.len) entries.entry.now) grouping.len grouping.distance part.new }
         { fill_part(part, &entries[start * grouping.len..], grouping) },
@@ -203,7 +203,7 @@ fn fill_masks<R: Threads + Sync>(
 
 // Makes the masks of the first groups, on the calling thread.
 fn fill_part(masks: &mut [u64], entries: &[u16], grouping: Grouping)
-    requires few { grouping.distance ≤ MAX_DISTANCE }
+    requires few { grouping.distance ≤ MAX_MASKED_DISTANCE }
     requires room { length masks.old * grouping.len ≤ length entries.now }
     ensures { AreMasks entries.now grouping.len grouping.distance masks.new }
 {
@@ -216,7 +216,7 @@ fn fill_part(masks: &mut [u64], entries: &[u16], grouping: Grouping)
 
 // Returns the bits of the channels that are close to one of these.
 fn mask_of(channels: &[u16], distance: u32) -> u64
-    requires { distance ≤ MAX_DISTANCE }
+    requires { distance ≤ MAX_MASKED_DISTANCE }
     ensures { (place : ℕ) → place < length channels.now → Covers result distance (slice_index channels.now place) }
 {
     let mut mask = 0;
@@ -228,7 +228,7 @@ fn mask_of(channels: &[u16], distance: u32) -> u64
 
 // Returns the bits of the channels that are close to this one.
 fn near_bits(channel: u16, distance: u32) -> u64
-    requires { distance ≤ MAX_DISTANCE }
+    requires { distance ≤ MAX_MASKED_DISTANCE }
     ensures { Covers result distance channel }
 {
     let channel = u32::from(channel);
