@@ -5,6 +5,7 @@ ghost use Rattle.border_exchange.specs.declared.Side.TheVariants.{Rightward, Lef
 ghost use Rattle.node_program.specs.declared.limits.TheConstants.{MAX_ROUNDS};
 ghost use Rattle.ring_exec.specs.Borders.{AreBlanksOf};
 ghost use Rattle.ring_exec.specs.Sides.{opposite};
+ghost use Rattle.ring_exec.specs.Stops.{stop_of};
 ghost use Rattle.round_eval.specs.declared.fault.WorkFault.TheVariants.{Stranger};
 
 use crate::border_name::{Blanks, BorderName, LeftLedger, RightLedger};
@@ -23,18 +24,14 @@ pub(crate) enum Stop {
     Fault(WorkFault),
 }
 
-// The stop of a segment whose message was not put.
-impl<M: Drop> From<(M, PutFault)> for Stop {
-    ghost use Rattle.ring_exec.specs.Stops.{stop_of};
-
-    ghost from_gives = { λ refused stop. stop ≡ stop_of refused.1 };
-
-    fn from(refused: (M, PutFault)) -> Stop {
-        match refused.1 {
-            PutFault::Closed => Stop::BorderClosed,
-            PutFault::Misplaced => Stop::Fault(WorkFault::Stranger),
-            PutFault::OutOfMemory => Stop::Fault(WorkFault::OutOfMemory),
-        }
+// Returns why a segment stops whose message was not put.
+fn stop_of(fault: PutFault) -> Stop
+    ensures { result ≡ stop_of fault }
+{
+    match fault {
+        PutFault::Closed => Stop::BorderClosed,
+        PutFault::Misplaced => Stop::Fault(WorkFault::Stranger),
+        PutFault::OutOfMemory => Stop::Fault(WorkFault::OutOfMemory),
     }
 }
 
@@ -65,8 +62,10 @@ impl<M: Dated + Copy, N: BorderName> End<M, N> {
         ensures put { OnOk result (self.new.seat ≡ record self.old.seat { puts = self.old.seat.puts + 1 }) }
         ensures expected { IfErr result (λ stop. stop ≢ Fault Stranger) }
     {
-        self.border.put(rt, &mut self.seat, message)?;
-        Ok(())
+        match self.border.put(rt, &mut self.seat, message) {
+            Ok(()) => Ok(()),
+            Err((_message, fault)) => Err(stop_of(fault)),
+        }
     }
 
     // Takes the neighbour's message of this round, and waits for it.
