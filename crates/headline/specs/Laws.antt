@@ -6,7 +6,7 @@ use Rattle.win_index.specs.Arcs.{window_around}
 use Rattle.win_index.specs.Ring.{IsRing}
 use Rattle.channel_tables.specs.Tables.{ChannelTable, channel_of}
 use Rattle.node_program.specs.Term.{ProgramTree}
-use Rattle.table_entries.specs.ProgramTables.{table_of}
+use Rattle.table_fill.specs.ProgramTables.{table_of}
 use Rattle.channel_tables.specs.declared.separation.Separation.{Separation}
 use Rattle.channel_tables.specs.Apart.{extra, IsApartEverywhere}
 use Rattle.headline.specs.Headline.{ChannelsAreApart}

@@ -104,7 +104,7 @@ fn in_range(ring: &Ring, workers: u32, segments: u32) -> Result<(), FindingsFaul
 }
 
 // Returns the table of a plan's program, from a memo of its own.
-#[tactic(auto, unfolding(table_entries::specs::ProgramTables::table_of))]
+#[tactic(auto, unfolding(table_fill::specs::ProgramTables::table_of))]
 fn compiled<R: Threads + Wait + Sync, G: Gate + Sync>(
     rt: &R,
     alloc: Global,

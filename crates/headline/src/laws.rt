@@ -2,7 +2,7 @@
 
 ghost use Rattle.headline.specs.Laws as law;
 
-use table_entries::table_has_the_channels_of_rounds;
+use table_fill::table_has_the_channels_of_rounds;
 
 /// The table of a program keeps a separation on every ring if and only if the channels of
 /// synchronous rounds do.

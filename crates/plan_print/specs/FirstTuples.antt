@@ -4,7 +4,7 @@ use Rattle.lang_check.specs.Plans.{ProgramForIds}
 use Rattle.channel_tables.specs.Tables.{ChannelTable}
 use Rattle.channel_tables.specs.declared.separation.Separation.{Separation}
 use Rattle.channel_tables.specs.Apart.{tuples, IsLeastBad}
-use Rattle.table_entries.specs.ProgramTables.{table_of}
+use Rattle.table_fill.specs.ProgramTables.{table_of}
 use Rattle.plan_print.specs.declared.first_tuples.TheConstants.{FIRST_TUPLES}
 
 -- the table of a plan's program

@@ -33,7 +33,7 @@ pub use Rattle.win_index.specs.RingFaults
 pub use Rattle.win_index.specs.ShapeRange
 pub use Rattle.win_index.specs.ShapeFaults
 pub use Rattle.channel_tables.specs.Tables
-pub use Rattle.table_entries.specs.ProgramTables
+pub use Rattle.table_fill.specs.ProgramTables
 pub use Rattle.channel_tables.specs.Apart
 pub use Rattle.channel_tables.specs.Proper
 pub use Rattle.channel_tables.specs.Witnesses

@@ -2,7 +2,7 @@
 use Rattle.std.specs.Prelude.{ℕ, List, Option, None, Some, MatchOption, length}
 use Rattle.node_program.specs.Term.{ProgramTree}
 use Rattle.table_formula.specs.Problems.{Problem}
-use Rattle.table_entries.specs.ProgramTables.{table_of}
+use Rattle.table_fill.specs.ProgramTables.{table_of}
 use Rattle.reports.specs.Report.{Report, Says, accepted_line, place_lines, IsAnswerOnRing, IsApplyAnswer, IsExplainAnswer, IsJudgement, IsPrintReport, IsProgramReport, IsRunAnswer, IsTableReport, IsTableText}
 use Rattle.reports.specs.FormulaReports.{IsFormulaReport, IsRefuteReport}
 use Rattle.reports.specs.declared.status.Status.TheVariants.{Done}

@@ -1,7 +1,7 @@
 //! The reports of the tasks on a program that need its table or a run.
 
 ghost use Rattle.std.specs.Prelude.{◌≡◌, length, IfOk, IfErr};
-ghost use Rattle.table_entries.specs.ProgramTables.{table_of};
+ghost use Rattle.table_fill.specs.ProgramTables.{table_of};
 ghost use Rattle.task_words.specs.Counts.{IsCount};
 ghost use Rattle.plan_print.specs.Engine.{IsTaskFault};
 ghost use Rattle.plan_print.specs.ReportedFaults.{reported_fill_fault, reported_run_fault};

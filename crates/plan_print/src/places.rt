@@ -1,7 +1,7 @@
 //! The channels of a ring's places, looked up in the table of a program.
 
 ghost use Rattle.std.specs.Prelude.{◌≡◌, length, IfOk, string_bytes};
-ghost use Rattle.table_entries.specs.ProgramTables.{table_of};
+ghost use Rattle.table_fill.specs.ProgramTables.{table_of};
 ghost use Rattle.reports.specs.Report.{place_lines};
 
 use channel_tables::Table;
@@ -9,7 +9,7 @@ use lang_check::Plan;
 use node_program::OutOfMemory;
 use reports::places::{one_list_of_lines, table_lines};
 use std::alloc::Global;
-use table_entries::table_has_the_channels_of_rounds;
+use table_fill::table_has_the_channels_of_rounds;
 use win_index::Ring;
 
 // Returns the lines of a ring's places, from place 0 on, by the table of a plan's program.

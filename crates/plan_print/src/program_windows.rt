@@ -5,7 +5,7 @@ use channel_tables::Windows;
 use lang_check::Plan;
 use node_program::MAX_REGISTERS;
 use round_eval::{channel, width_of};
-use table_entries::table_has_the_channels_of_windows;
+use table_fill::table_has_the_channels_of_windows;
 use win_index::Shape;
 use window_states::window_state;
 
@@ -19,12 +19,12 @@ pub(crate) struct ProgramWindows<'a> {
 impl<'a> Windows for ProgramWindows<'a> {
     ghost table = { λ windows. plan_table windows.plan.now };
 
-    #[tactic(auto, unfolding(table_entries::specs::ProgramTables::table_of))]
+    #[tactic(auto, unfolding(table_fill::specs::ProgramTables::table_of))]
     fn shape(&self) -> Shape {
         self.plan.shape()
     }
 
-    #[tactic(auto, unfolding(table_entries::specs::ProgramTables::table_of))]
+    #[tactic(auto, unfolding(table_fill::specs::ProgramTables::table_of))]
     fn channel_of_window(&self, window: &[u32]) -> u32 {
         table_has_the_channels_of_windows();
         let mut cells = [0; MAX_REGISTERS as usize];

@@ -10,7 +10,7 @@ use Rattle.border_exchange.specs.SegmentCounts.{IsSegmentCount}
 use Rattle.channel_tables.specs.Tables.{ChannelTable}
 use Rattle.channel_tables.specs.declared.separation.Separation.{Separation}
 use Rattle.channel_tables.specs.Apart.{tuples}
-use Rattle.table_entries.specs.ProgramTables.{table_of}
+use Rattle.table_fill.specs.ProgramTables.{table_of}
 use Rattle.table_text.specs.TableText.{table_text}
 use Rattle.task_words.specs.declared.task.Task.{Task}
 use Rattle.task_words.specs.declared.task.Task.TheVariants.{Check, Print, Table, Judge, Run, Trace, Explain, Plan, Audit, Apply, Migrate, Formula, Refute}

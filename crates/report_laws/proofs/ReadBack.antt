@@ -3,8 +3,8 @@ use Rattle.std.proofs.Common.{◌≡◌, ℕ, List, [], length, append-nil, sym,
 use Rattle.node_program.specs.Term.{ProgramTree}
 use Rattle.channel_tables.specs.Tables.{ChannelTable, IsTable}
 use Rattle.channel_tables.specs.declared.separation.Separation.{Separation}
-use Rattle.table_entries.specs.Laws.{ProgramTablesAreTables, TableHasTheChannelsOfRounds}
-use Rattle.table_entries.specs.ProgramTables.{table_of}
+use Rattle.table_fill.specs.Laws.{ProgramTablesAreTables, TableHasTheChannelsOfRounds}
+use Rattle.table_fill.specs.ProgramTables.{table_of}
 use Rattle.table_text.specs.declared.version.Version.{Version}
 use Rattle.table_text.specs.declared.version.Version.TheVariants.{One, Two}
 use Rattle.table_text.specs.Laws.{TableTextsAreApart, TableTextsAreRead}

@@ -10,8 +10,8 @@ use Rattle.channel_tables.specs.Apart.{extra, IsApartEverywhere}
 use Rattle.channel_tables.specs.Laws.{ApartTablesHaveNoWitness, LessIsApart}
 use Rattle.node_lang.specs.Laws.{OneReading}
 use Rattle.lower_bound.specs.Laws.{TablesNeedChannels, TablesNeedThree}
-use Rattle.table_entries.specs.Laws.{ProgramTablesAreTables}
-use Rattle.table_entries.specs.ProgramTables.{table_of}
+use Rattle.table_fill.specs.Laws.{ProgramTablesAreTables}
+use Rattle.table_fill.specs.ProgramTables.{table_of}
 use Rattle.headline.specs.Laws.{ProgramTablesAreApart}
 use Rattle.table_formula.specs.Problems.{Problem, IsImpossible}
 use Rattle.refutation.specs.Laws.{RefutationsAreSound}

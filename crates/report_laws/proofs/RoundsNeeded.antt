@@ -14,8 +14,8 @@ use Rattle.win_index.proofs.Kept.{kept_is}
 use Rattle.win_index.proofs.Numbers.{push_window, windows_all}
 use Rattle.win_index.proofs.Unused.{lacks, length-unused}
 use Rattle.channel_tables.specs.Tables.{ChannelTable, channel_of}
-use Rattle.table_entries.specs.Laws.{TableHasTheChannelsOfRounds, TableHasTheChannelsOfWindows}
-use Rattle.table_entries.specs.ProgramTables.{table_of, window_channel}
+use Rattle.table_fill.specs.Laws.{TableHasTheChannelsOfRounds, TableHasTheChannelsOfWindows}
+use Rattle.table_fill.specs.ProgramTables.{table_of, window_channel}
 use Rattle.headline.specs.Laws.{ProgramTablesAreApart}
 use Rattle.lower_bound.specs.Laws.{IsFull, TablesNeedChannels, TablesNeedThree, TablesNeedFour, TablesNeedFive}
 use Rattle.report_laws.specs.Laws.{ChannelsAreBelow, RoundsNeedChannels, RoundsNeedThree, RoundsNeedFour, RoundsNeedFive}

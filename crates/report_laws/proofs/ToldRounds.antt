@@ -12,8 +12,8 @@ use Rattle.node_lang.specs.Laws.{OneReading, PrintedIsRead}
 use Rattle.win_index.specs.Laws.{RingsHaveNoFault}
 use Rattle.win_index.specs.Ring.{IsRing}
 use Rattle.lang_check.specs.Laws.{AcceptedProgramsHaveNoRefusal}
-use Rattle.table_entries.specs.Laws.{TableHasTheChannelsOfRounds}
-use Rattle.table_entries.specs.ProgramTables.{table_of}
+use Rattle.table_fill.specs.Laws.{TableHasTheChannelsOfRounds}
+use Rattle.table_fill.specs.ProgramTables.{table_of}
 use Rattle.channel_tables.specs.declared.separation.Separation.{Separation}
 use Rattle.channel_tables.specs.Laws.{ApartTablesHaveNoWitness}
 use Rattle.headline.specs.Headline.{ChannelsAreApart}

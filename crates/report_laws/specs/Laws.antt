@@ -16,7 +16,7 @@ use Rattle.channel_tables.specs.declared.separation.Separation.{Separation}
 use Rattle.channel_tables.specs.Apart.{extra, IsApartEverywhere}
 use Rattle.channel_tables.specs.Witnesses.{IsWitness}
 use Rattle.lower_bound.specs.Towers.{tower, spread}
-use Rattle.table_entries.specs.ProgramTables.{table_of}
+use Rattle.table_fill.specs.ProgramTables.{table_of}
 use Rattle.numerals.specs.declared.base.Base.{Base}
 use Rattle.numerals.specs.Numerals.{radix}
 use Rattle.value_trees.specs.Explanation.{explanation}

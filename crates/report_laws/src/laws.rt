@@ -10,7 +10,7 @@ use lower_bound::{nearby_places_need_four, odd_rings_need_three, tables_need_cha
 use node_lang::{first_fault, one_reading, one_text_fault, printed_is_read_back, reading_is_exact};
 use refutation::{each_text_has_a_verdict, one_refutation_verdict, refutations_are_sound};
 use reports::places::{one_list_of_lines, tables_have_channels};
-use table_entries::{
+use table_fill::{
     program_tables_are_tables, table_has_the_channels_of_rounds, table_has_the_channels_of_windows,
 };
 use table_text::{one_table_fault, table_texts_are_apart, table_texts_are_read};

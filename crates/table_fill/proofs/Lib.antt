@@ -1,4 +1,6 @@
 -- Lemmas that several proofs share.
+pub mod Programs
+pub mod JoinedEntries
 pub mod SharedFill
 mod Numbered
 mod Together

@@ -5,7 +5,7 @@ use Rattle.win_index.specs.Arcs.{window_around}
 use Rattle.win_index.specs.Ring.{IsRing}
 use Rattle.lang_check.specs.Plans.{ProgramForIds}
 use Rattle.channel_tables.specs.Tables.{ChannelTable, channel_of}
-use Rattle.table_entries.specs.ProgramTables.{table_of}
+use Rattle.table_fill.specs.ProgramTables.{table_of}
 use Rattle.shared_memo.specs.declared.pass.Pass.{Pass}
 use Rattle.shared_memo.specs.Passes.{known}
 use Rattle.round_eval.specs.declared.fault.WorkFault.TheVariants as work

@@ -1,19 +1,29 @@
 //! The compilation of a program to its table, by workers that share a memo. They fill jobs, which they
-//! draw at one desk, each worker on a thread of its own if there are several.
+//! draw at one desk, each worker on a thread of its own if there are several. The entries are then read
+//! from the blocks of the last level, in shares on threads.
 #![tactic(auto)]
 
+mod block_channels;
 mod cell_maker;
+mod entry_columns;
 mod fault;
 mod filling;
 mod jobs;
+mod laws;
 mod looks;
 mod memo_fill;
 mod own_reader;
 mod pool;
+mod reading;
+mod share;
+mod shares;
 mod table_room;
 
 pub use channel_tables::{Table, TableMaker};
 pub use fault::FillFault;
 pub use filling::compile;
 pub use jobs::Jobs;
+pub use laws::{
+    program_tables_are_tables, table_has_the_channels_of_rounds, table_has_the_channels_of_windows,
+};
 pub use pool::fill_by_workers;

@@ -4,7 +4,7 @@ ghost use Rattle.shared_memo.specs.PlanJobs.{IsKey, IsKeyedBlock};
 ghost use Rattle.shared_memo.specs.Passes.{known, memo_plan, IsPassOf, IsJoined};
 ghost use Rattle.win_index.specs.Blocks.{block_count};
 ghost use Rattle.table_fill.specs.Workers.{HasRoom};
-ghost use Rattle.table_entries.specs.EntryShares.{AreLastBlocks};
+ghost use Rattle.table_fill.specs.EntryShares.{AreLastBlocks};
 ghost use Rattle.table_fill.specs.Filled.{HasLearned, KnowsLevel, LacksBlock, HasGap};
 
 use node_program::OutOfMemory;

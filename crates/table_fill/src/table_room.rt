@@ -1,12 +1,12 @@
 //! Memory to read a table.
 
 use crate::looks::{empty_blocks, last_blocks, look_below};
+use crate::reading::EntryReader;
 use channel_tables::Table;
 use node_program::OutOfMemory;
 use shared_memo::{Memo, Pass};
 use std::alloc::Global;
 use std::thread::Threads;
-use table_entries::EntryReader;
 use unroll::Code;
 use window_states::Block;
 
@@ -21,7 +21,7 @@ pub(crate) struct TableRoom<'s, 'a> {
 impl<'s, 'a> TableRoom<'s, 'a> {
     ghost use Rattle.std.specs.Prelude.{◌≡◌, ◌<◌, IfOk, MatchOption};
     ghost use Rattle.shared_memo.specs.Passes.{known, memo_plan, IsPassOf};
-    ghost use Rattle.table_entries.specs.ProgramTables.{table_of};
+    ghost use Rattle.table_fill.specs.ProgramTables.{table_of};
     ghost use Rattle.table_fill.specs.Filled.{HasLearned, HasGap, KnowsAll};
     ghost use Rattle.table_fill.specs.TableRooms.{IsRoomFor};
 

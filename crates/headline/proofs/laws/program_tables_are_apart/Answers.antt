@@ -1,5 +1,5 @@
 use Rattle.std.proofs.Common.{refl}
-use Rattle.table_entries.specs.ProgramTables.{table_of}
+use Rattle.table_fill.specs.ProgramTables.{table_of}
 use Rattle.headline.proofs.Agreement.{good_tables}
 use Rattle.headline.proofs.laws.program_tables_are_apart.Goals as goal
 

@@ -1,4 +1,4 @@
-use Rattle.table_entries.specs.ProgramTables.{table_of}
+use Rattle.table_fill.specs.ProgramTables.{table_of}
 use Rattle.plan_print.proofs.answer.judge_report.Goals as goal
 
 pub returns-in-Some-clause-answer : goal.returns-in-Some-clause-answer

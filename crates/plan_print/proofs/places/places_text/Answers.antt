@@ -3,8 +3,8 @@ use Rattle.std.proofs.lemmas.Result.{IfOk-weaker}
 use Rattle.node_program.specs.GlobalRounds.{channel_at}
 use Rattle.node_program.specs.Term.{ProgramTree}
 use Rattle.channel_tables.specs.Tables.{ChannelTable}
-use Rattle.table_entries.specs.Laws.{TableHasTheChannelsOfRounds}
-use Rattle.table_entries.specs.ProgramTables.{table_of}
+use Rattle.table_fill.specs.Laws.{TableHasTheChannelsOfRounds}
+use Rattle.table_fill.specs.ProgramTables.{table_of}
 use Rattle.win_index.specs.Ring.{IsRing}
 use Rattle.reports.specs.Report.{HasChannels}
 use Rattle.plan_print.proofs.places.places_text.Goals as goal

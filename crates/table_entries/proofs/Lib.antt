@@ -1,3 +1,0 @@
--- Lemmas that several proofs share.
-pub mod Programs
-pub mod JoinedEntries
