@@ -2,15 +2,15 @@
 
 ghost use Rattle.std.specs.Prelude.{◌≡◌, ◌<◌, length, IfSome};
 ghost use Rattle.fault_notes.specs.FaultTokens.{place_of_cause};
-ghost use Rattle.fault_notes.specs.CausePlaces.{next_place, is_cause_at};
+ghost use Rattle.fault_notes.specs.CausePlaces.{next_scope, is_cause_at};
 ghost use Rattle.fault_notes.specs.ProgramNotes as notes;
 
 use lang_check::CheckFault;
 use node_lang::{Token, token_from};
 
-// Where a token of a program text is, by the tokens before it.
+// The scope of a program text that a token is in, by the tokens before it.
 #[derive(Clone, Copy)]
-struct Place {
+struct Scope {
     // The last of `start`, `round` and `finish` is `start`.
     in_start: bool,
     // The last of them is `round`.
@@ -19,11 +19,11 @@ struct Place {
     in_assignment: bool,
 }
 
-// Returns the place after one more token.
-fn next_place(place: Place, token: Token) -> Place
-    ensures { result ≡ next_place place token }
+// Returns the scope after one more token.
+fn next_scope(scope: Scope, token: Token) -> Scope
+    ensures { result ≡ next_scope scope token }
 {
-    let mut next = place;
+    let mut next = scope;
     match token {
         Token::Start | Token::Round | Token::Finish => {
             next.in_start = token == Token::Start;
@@ -36,15 +36,15 @@ fn next_place(place: Place, token: Token) -> Place
     next
 }
 
-// Returns whether a token at this place is the cause of a refusal.
-fn is_cause(fault: CheckFault, place: Place, token: Token) -> bool
-    ensures { result ≡ is_cause_at fault place token }
+// Returns whether a token in this scope is the cause of a refusal.
+fn is_cause(fault: CheckFault, scope: Scope, token: Token) -> bool
+    ensures { result ≡ is_cause_at fault scope token }
 {
     match (fault, token) {
         (CheckFault::RegisterOutOfRange(wanted), Token::Register(register)) => register == wanted,
-        (CheckFault::IdOutsideStart, Token::Id) => !place.in_start,
+        (CheckFault::IdOutsideStart, Token::Id) => !scope.in_start,
         (CheckFault::MessageOutsideStep, Token::FromLeft | Token::FromRight) => {
-            !(place.in_round && place.in_assignment)
+            !(scope.in_round && scope.in_assignment)
         }
         _ => false,
     }
@@ -55,17 +55,17 @@ pub(crate) fn place_of(text: &[u8], fault: CheckFault) -> Option<usize>
     ensures exact { result ≡ place_of_cause text.now fault }
     ensures within { IfSome result (λ offset. offset < length text.now) }
 {
-    let mut place = Place {
+    let mut scope = Scope {
         in_start: false,
         in_round: false,
         in_assignment: false,
     };
     let mut at = 0;
     'tokens: while let Some(placed) = token_from(text, at) {
-        if is_cause(fault, place, placed.token) {
+        if is_cause(fault, scope, placed.token) {
             return Some(placed.start);
         }
-        place = next_place(place, placed.token);
+        scope = next_scope(scope, placed.token);
         at = placed.end;
     }
     None

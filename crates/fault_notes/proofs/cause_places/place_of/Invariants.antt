@@ -8,7 +8,7 @@ use Rattle.fault_notes.proofs.cause_places.place_of.Given as goal
 abbrev pub invariant-tokens : goal.invariant-tokens
 invariant-tokens l = record {
   within : l.at ≤ length l.text;
-  same : offset_from l.text (cause_from l.fault l.place (lexemes_from l.text l.at)) ≡ place_of_cause l.text l.fault;
+  same : offset_from l.text (cause_from l.fault l.scope (lexemes_from l.text l.at)) ≡ place_of_cause l.text l.fault;
 }
 
 abbrev pub decreases-tokens : goal.decreases-tokens
