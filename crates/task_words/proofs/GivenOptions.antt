@@ -16,8 +16,8 @@ use Rattle.clap.proofs.CallerReads.{signed_reads}
 use Rattle.clap.proofs.WalkLemmas.{one_text-rows}
 use Rattle.clap.specs.declared.builder.value_parser.ValueParser.{ValueParser}
 use Rattle.clap.specs.declared.builder.value_parser.ValueParser.TheVariants.{Signed}
-use Rattle.option_values.specs.OptionLines.{HasValue, HaveValues, IsOneOf, is_always_given, is_option_line}
-use Rattle.option_values.specs.Laws.{OptionsHaveValues}
+use Rattle.task_words.specs.OptionLines.{HasValue, HaveValues, IsOneOf, is_always_given, is_option_line}
+use Rattle.task_words.proofs.OwnSubcommands.{options_have_values}
 use Rattle.task_words.specs.CommandLine.{command_line}
 use Rattle.task_words.specs.Options.{IsBetween, IsNamed, IsTaken, is_parser_of, is_rule_of, names_with}
 use Rattle.task_words.specs.Words.{HasNumber, IsRingName}
@@ -166,20 +166,20 @@ ring_given name rows one on_ring =
     named (inr (inr (inr (inl is)))) = inr (inr (inr (inl is)))
     named (inr (inr (inr (inr is)))) = inr (inr (inr (inr (inl is))))
 
--- ---- the law at this command line
+-- ---- the command that is called
 
 is_line : is_option_line command_line ≡ true
 is_line = refl
 
 -- if `clap` accepts the words, they name one of the commands, whose options have their values
-taken : OptionsHaveValues → (words : List Text) → fault_of command_line words ≡ [] → IsSomeAnd (subcommand_of command_line words) (λ met. IsOneOf command_line.subs met.0 met.1)
-taken law words clean = law command_line words is_line clean
+taken : (words : List Text) → fault_of command_line words ≡ [] → IsSomeAnd (subcommand_of command_line words) (λ met. IsOneOf command_line.subs met.0 met.1)
+taken words clean = options_have_values command_line words is_line clean
 
-pub command_given : OptionsHaveValues → (words : List Text) (name : Text) (values : List Row) → fault_of command_line words ≡ []
+pub command_given : (words : List Text) (name : Text) (values : List Row) → fault_of command_line words ≡ []
     → subcommand_of command_line words ≡ Some (name, values) → IsOneOf command_line.subs name values
-command_given law words name values clean met =
-    subst (λ o. IsSomeAnd o (λ (p : Text × List Row). IsOneOf command_line.subs p.0 p.1)) met (taken law words clean)
+command_given words name values clean met =
+    subst (λ o. IsSomeAnd o (λ (p : Text × List Row). IsOneOf command_line.subs p.0 p.1)) met (taken words clean)
 
-pub some_command : OptionsHaveValues → (words : List Text) → fault_of command_line words ≡ [] → subcommand_of command_line words ≡ None → ⊥
-some_command law words clean met =
-    subst (λ o. IsSomeAnd o (λ (p : Text × List Row). IsOneOf command_line.subs p.0 p.1)) met (taken law words clean)
+pub some_command : (words : List Text) → fault_of command_line words ≡ [] → subcommand_of command_line words ≡ None → ⊥
+some_command words clean met =
+    subst (λ o. IsSomeAnd o (λ (p : Text × List Row). IsOneOf command_line.subs p.0 p.1)) met (taken words clean)

@@ -1,4 +1,9 @@
 mod Parts
+mod OptionRows
+mod OptionWalks
+mod OptionLevels
+mod Stops
+mod OwnSubcommands
 mod GivenOptions
 mod Refusals
 mod Calls

@@ -1,10 +1,12 @@
 -- The definitions that the contracts cite: numbers and ring texts, numbers of workers and segments, tasks, the command
--- line, the tasks of words, faults of words, the commands and the rows of the tables, tips on words, and what the process gets.
+-- line, the values of its options, the tasks of words, faults of words, the commands and the rows of the tables, tips on
+-- words, and what the process gets.
 pub mod Decimal
 pub mod RingText
 pub mod Counts
 pub mod Task
 pub mod CommandLine
+pub mod OptionLines
 pub mod Words
 pub mod Options
 pub mod WordsFault

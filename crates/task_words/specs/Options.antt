@@ -9,7 +9,7 @@ use Rattle.clap.specs.declared.builder.value_parser.ValueParser.{ValueParser}
 use Rattle.clap.specs.declared.builder.value_parser.ValueParser.TheVariants.{Signed}
 use Rattle.clap.specs.declared.error.kind.ErrorKind.{ErrorKind}
 use Rattle.clap.specs.declared.error.kind.ErrorKind.TheVariants as kind
-use Rattle.option_values.specs.OptionLines.{is_always_given}
+use Rattle.task_words.specs.OptionLines.{is_always_given}
 use Rattle.task_words.specs.CommandLine.{command_line}
 use Rattle.task_words.specs.Words.{AsksForHelp, IsRefused}
 use Rattle.task_words.specs.declared.option_rows.OptionRow.{OptionRow}

@@ -1,7 +1,7 @@
 //! The task of a command, from the values of its options.
 
 ghost use Rattle.std.specs.Prelude.{◌≡◌, ◌⊎◌, ◌↔◌, IsTrue, IfOk, IfErr};
-ghost use Rattle.option_values.specs.OptionLines.{IsOneOf};
+ghost use Rattle.task_words.specs.OptionLines.{IsOneOf};
 ghost use Rattle.task_words.specs.CommandLine.{command_line};
 ghost use Rattle.task_words.specs.Options.{IsBetween, IsTaken, values_of};
 ghost use Rattle.task_words.specs.Task.{IsInRange};

@@ -9,7 +9,6 @@ ghost use Rattle.std.specs.IoError.{error_kind};
 use crate::options::Call;
 use crate::parsing::parsed;
 use crate::task::Task;
-use option_values::options_have_values;
 use std::alloc::{AllocError, AllocFailed, Global};
 use std::io;
 use std::io::ErrorKind;
@@ -95,7 +94,6 @@ pub fn words_fault(alloc: Global, error: io::Error) -> Result<WordsFault, AllocE
 pub fn task_of(alloc: Global, words: &[String]) -> Result<Task, WordsFault>
     ensures { IsAnswer (map string_bytes words.now) result }
 {
-    options_have_values();
     let matches = parsed(alloc, words)?;
     match matches.subcommand() {
         Some((name, options)) => Call { name, options }.task(alloc),

@@ -8,12 +8,12 @@ use Rattle.task_words.proofs.words.task_of.Goals as goal
 
 pub task-requires : goal.task-requires
 task-requires c =
-    command_given c.options_have_values.ensures (map string_bytes c.args.words.now) c.in-Some.name.now (rows_of (found_of c.in-Some.options.now)) c.in_ok-matches.ensures.taken
+    command_given (map string_bytes c.args.words.now) c.in-Some.name.now (rows_of (found_of c.in-Some.options.now)) c.in_ok-matches.ensures.taken
     (call_is (map string_bytes c.args.words.now) c.in_ok-matches.matches c.subcommand.result c.subcommand.ensures.name c.subcommand.ensures.rows c.in_ok-matches.ensures.rows ∙ ap met_of c.in-Some.is)
 
 pub unreachable-requires : goal.unreachable-requires
 unreachable-requires c =
-    some_command c.options_have_values.ensures (map string_bytes c.args.words.now) c.in_ok-matches.ensures.taken (call_is (map string_bytes c.args.words.now) c.in_ok-matches.matches c.subcommand.result c.subcommand.ensures.name c.subcommand.ensures.rows c.in_ok-matches.ensures.rows ∙ ap met_of c.in-None.is)
+    some_command (map string_bytes c.args.words.now) c.in_ok-matches.ensures.taken (call_is (map string_bytes c.args.words.now) c.in_ok-matches.matches c.subcommand.result c.subcommand.ensures.name c.subcommand.ensures.rows c.in_ok-matches.ensures.rows ∙ ap met_of c.in-None.is)
 
 -- the call that was parsed
 call : (c : Joined-matches) → IsCallOf (map string_bytes c.args.words.now) c.in-Some.name.now (rows_of (found_of c.in-Some.options.now))

@@ -12,7 +12,7 @@ use Rattle.clap.specs.Walk.{subcommand, subcommand_met, subcommand_or_other, tak
 use Rattle.clap.specs.Simple.{Shape}
 use Rattle.clap.specs.Faults.{bundle_fault, bundle_step_fault, flag_word_fault, flags_fault, long_fault, option_fault, other_fault, positional_fault, react_fault, settle_fault, short_fault, step_fault, stray_fault, turn_fault, use_fault, walk_fault, word_fault}
 use Rattle.clap.specs.declared.error.kind.ErrorKind.TheVariants as kind
-use Rattle.option_values.proofs.OptionRows.{AreRowsOf, ArePlain, IsPlain, found_plain, split_or, use_good}
+use Rattle.task_words.proofs.OptionRows.{AreRowsOf, ArePlain, IsPlain, found_plain, split_or, use_good}
 
 module _ (c : List Rule) (plain_rules : ArePlain c c) (again : Bool) where
   settled_good : (pending : Option (Text × List Text)) (rows : List Row) → option_map_or (λ p. option_map_or (λ a. use_fault again a p.1 rows) (arg_by_id c p.0) []) pending [] ≡ []

@@ -21,9 +21,9 @@ use Rattle.clap.proofs.WalkLemmas.{both}
 use Rattle.clap.proofs.SimpleLemmas.{is_false}
 use Rattle.clap.specs.declared.builder.value_parser.Reading.{Reading}
 use Rattle.clap.specs.declared.builder.value_parser.ValueParser.{ValueParser}
-use Rattle.option_values.specs.OptionLines.{HasValue, HaveValues, has_plain_options, have_own_ids, is_always_given, is_plain_option}
-use Rattle.option_values.proofs.OptionRows.{AreRowsOf, ArePlain, IsPlain, IsRowOf, same_some, split_or, with_values_good}
-use Rattle.option_values.proofs.OptionWalks.{held_good, walk_good}
+use Rattle.task_words.specs.OptionLines.{HasValue, HaveValues, has_plain_options, have_own_ids, is_always_given, is_plain_option}
+use Rattle.task_words.proofs.OptionRows.{AreRowsOf, ArePlain, IsPlain, IsRowOf, same_some, split_or, with_values_good}
+use Rattle.task_words.proofs.OptionWalks.{held_good, walk_good}
 
 -- ---- options with ids of their own
 

@@ -13,7 +13,7 @@ use Rattle.clap.specs.declared.builder.action.ArgAction.{ArgAction}
 use Rattle.clap.specs.declared.builder.action.ArgAction.TheVariants as action
 use Rattle.clap.specs.declared.parser.matches.ValueSource.{ValueSource}
 use Rattle.clap.proofs.FaultLemmas.{past}
-use Rattle.option_values.specs.OptionLines.{is_plain_option, is_set}
+use Rattle.task_words.specs.OptionLines.{is_plain_option, is_set}
 
 -- the argument is a plain option, and is found by its id
 abbrev pub IsPlain : List Rule → Rule → Type 0

@@ -9,7 +9,7 @@ use Rattle.clap.specs.Walk.{Held, Names, Outcome, Rule, Step, Text, Waiting, Wal
 use Rattle.clap.specs.Simple.{Shape}
 use Rattle.clap.specs.Faults.{other_fault, step_fault, turn_fault, walk_fault, word_fault}
 use Rattle.clap.specs.declared.error.kind.ErrorKind.TheVariants as kind
-use Rattle.option_values.proofs.OptionRows.{split_or}
+use Rattle.task_words.proofs.OptionRows.{split_or}
 
 abbrev pub IsNotHelp : Text → Type 0
 IsNotHelp name = bytes_eq name (codes "help") ≡ false

@@ -9,19 +9,18 @@ use Rattle.std.proofs.lemmas.Bool.Decides.{nat_tests}
 use Rattle.clap.specs.Facts.{parser_of_value}
 use Rattle.clap.specs.Values.{Accepts, read_as, reading_of}
 use Rattle.clap.specs.Walk.{Row, Rule, Text, answers_to, finished, first_of, is_empty, nothing_held, one_of, rows_after, settled, stop_after, walk, walk_from}
-use Rattle.clap.specs.Simple.{App, Shape, argument_words, built, built_leaf, entered, filled, filled_from, help_rule, help_shape, index_after, inherited, label_of, marked_built, names_of, parser_for, rows_at, version_rule, with_filled_rules, with_help_flag, with_index, with_leaf_noted, with_version_flag}
+use Rattle.clap.specs.Simple.{App, Shape, argument_words, built, built_leaf, entered, filled, filled_from, help_rule, help_shape, index_after, inherited, label_of, marked_built, names_of, parser_for, rows_at, subcommand_of, version_rule, with_filled_rules, with_help_flag, with_index, with_leaf_noted, with_version_flag}
 use Rattle.clap.specs.Kinds.{check_kinds, or_else}
-use Rattle.clap.specs.Faults.{built_fault, check_fault, defaults_fault, entered_fault, level_fault, settle_fault, walk_fault}
+use Rattle.clap.specs.Faults.{built_fault, check_fault, defaults_fault, entered_fault, fault_of, level_fault, settle_fault, walk_fault}
 use Rattle.clap.specs.declared.builder.action.ArgAction.{ArgAction}
 use Rattle.clap.specs.declared.builder.action.ArgAction.TheVariants as action
 use Rattle.clap.specs.declared.builder.value_parser.ValueParser.{ValueParser}
 use Rattle.clap.proofs.WalkLemmas.{both}
 use Rattle.clap.proofs.SimpleLemmas.{is_false}
-use Rattle.option_values.specs.OptionLines.{HasValue, HaveValues, IsOneOf, gets_help, has_plain_options, is_always_given, is_made_of_options, is_made_with_set, is_named_help, is_plain_subcommand, is_set}
-use Rattle.option_values.specs.Laws.{OptionsHaveValues}
-use Rattle.option_values.proofs.OptionRows.{same_some, split_or}
-use Rattle.option_values.proofs.OptionLevels.{level_values, or_more}
-use Rattle.option_values.proofs.Stops.{IsNotHelp, StopsAtNoHelp, walk_stops}
+use Rattle.task_words.specs.OptionLines.{HasValue, HaveValues, IsOneOf, gets_help, has_plain_options, is_always_given, is_option_line, is_made_of_options, is_made_with_set, is_named_help, is_plain_subcommand, is_set}
+use Rattle.task_words.proofs.OptionRows.{same_some, split_or}
+use Rattle.task_words.proofs.OptionLevels.{level_values, or_more}
+use Rattle.task_words.proofs.Stops.{IsNotHelp, StopsAtNoHelp, walk_stops}
 
 -- ---- an option as building fills it in
 
@@ -190,7 +189,10 @@ built_helps app fresh helps = rw (fresh, helps) refl
 built_requires : (app : App) → app.top.is_built ≡ false → (app.top.is_leaf || app.top.disable_help_subcommand) ≡ false → (built app).top.subcommand_required ≡ app.top.subcommand_required
 built_requires app fresh helps = rw (fresh, helps) refl
 
-pub options_have_values : OptionsHaveValues
+-- If the words have no fault, a subcommand of the caller's was given, and each of its options that is required or has a
+-- default has a value that its parser accepts.
+pub options_have_values : (app : App) (words : List Text) → is_option_line app ≡ true → fault_of app words ≡ []
+    → IsSomeAnd (subcommand_of app words) (λ met. IsOneOf app.subs met.0 met.1)
 options_have_values app words line taken =
     let gets = both (gets_help app) (app.top.subcommand_required && (list_all is_made_of_options app.subs && list_all is_plain_subcommand (built app).subs)) line in
     let needs = both app.top.subcommand_required (list_all is_made_of_options app.subs && list_all is_plain_subcommand (built app).subs) gets.1 in
