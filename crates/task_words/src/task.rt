@@ -122,8 +122,8 @@ pub enum Task {
 }
 
 impl Task {
-    ghost use Rattle.std.specs.Prelude.{◌≡◌, ◌↔◌, IsTrue};
-    ghost use Rattle.task_words.specs.Task.{IsRunnable, segments_of};
+    ghost use Rattle.std.specs.Prelude.{◌↔◌, IsTrue};
+    ghost use Rattle.task_words.specs.Task.{IsRunnable};
 
     /// Returns whether the task can be done: its number of workers, if it has one, is 1 to
     /// `MAX_COUNT`, its minimum differences of channels, if it has any, are at most `MAX_DISTANCE`,
@@ -161,16 +161,6 @@ impl Task {
                 ..
             } => are_formula_numbers(*rounds, *channels, *near, *far),
             _ => true,
-        }
-    }
-
-    /// Returns the number of segments in which its ring is run, 1 if the task has no such number.
-    pub fn segments(&self) -> u32
-        ensures { result ≡ segments_of self.now }
-    {
-        match self {
-            Task::Run { segments, .. } => *segments,
-            _ => 1,
         }
     }
 }
