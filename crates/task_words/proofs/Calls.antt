@@ -1,6 +1,7 @@
 -- The command that was parsed, and the result of its task.
-use Rattle.std.proofs.Common.{◌≡◌, ◌⊎◌, List, Option, Some, None, Result, Ok, Err, Bor, inl, inr, refl, sym, ◌∙◌, ap, ap₂, subst, true, false, Global}
-use Rattle.std.specs.Prelude.{◌↔◌, Box, IfOk, IfErr, IsErrOf, IsOk, option_map}
+use Rattle.std.proofs.Common.{◌≡◌, ◌⊎◌, List, Option, Some, None, Result, Ok, Err, Bor, inl, inr, refl, sym, ◌∙◌, ap₂, subst, Global}
+use Rattle.std.specs.Prelude.{◌↔◌, Box, IfOk, OnOk, IsErrOf, IsOk, option_map}
+use Rattle.std.proofs.lemmas.Result.{IfOk-weaker, IfErr-weaker}
 use Rattle.clap.specs.Words.{Row, Text, found_of, rows_of, subcommand_name_of, subcommand_of, subcommand_rows, subcommand_rows_of}
 use Rattle.clap.specs.declared.parser.matches.ArgMatches.{ArgMatches}
 use Rattle.clap.specs.declared.parser.matches.ArgMatches.TheViews.{out-ArgMatches, out-SubCommand}
@@ -8,10 +9,11 @@ use Rattle.clap.specs.declared.parser.matches.SubCommand.{SubCommand}
 use Rattle.std.specs.Box.{box_value}
 use Rattle.task_words.specs.CommandLine.{command_line}
 use Rattle.task_words.specs.Words.{HasBadRing, IsCallOf, IsCommand, IsRingBad, IsRingName, IsTaskFor, IsTaskOf}
-use Rattle.task_words.specs.WordsFault.{IsHelp, IsUsage, MemoryAside}
+use Rattle.task_words.specs.WordsFault.{FailsBy, IsHelp, IsUsage, MemoryAside}
 use Rattle.task_words.specs.declared.task.Task.{Task}
 use Rattle.task_words.specs.declared.words.WordsFault.{WordsFault}
-use Rattle.task_words.specs.declared.words.WordsFault.TheVariants.{BadRing, OutOfMemory}
+use Rattle.task_words.specs.declared.words.WordsFault.TheVariants.{BadRing}
+use Rattle.task_words.proofs.Parts.{decided}
 
 -- the name of the command that was parsed, and the values of its options
 abbrev pub met_of : Option (Bor Text × Bor ArgMatches) → Option (Text × List Row)
@@ -45,7 +47,7 @@ pub call_is : (words : List Text) (m : ArgMatches) (o : Option (Bor Text × Bor 
     → subcommand_rows_of m ≡ subcommand_of command_line words → subcommand_of command_line words ≡ met_of o
 call_is words m o name rows is = sym (met o (out-ArgMatches m).subcommand name rows ∙ is)
 
--- the command that was parsed has a bad ring
+-- the call that was parsed is a bad one
 IsBadMet : Option (Text × List Row) → Type 0
 IsBadMet None = ⊥
 IsBadMet (Some p) = IsRingName p.0 × IsRingBad p.1
@@ -54,42 +56,27 @@ bad_met : (words : List Text) (name : Text) (values : List Row) → IsCallOf wor
 unfolding IsBadMet
 bad_met words name values call bad = subst IsBadMet (sym bad.3 ∙ call) (bad.4, bad.5)
 
-not_ok : false ≡ true → ⊥
-not_ok bad = cc
-
-pub is_ok : {T : Type 0} (r : Result T WordsFault) (words : List Text) (name : Text) (values : List Row) → IsCommand words → IsCallOf words name values
-    → IfOk r (λ _. IsRingName name → ¬ IsRingBad values)
-    → IfErr r (λ fault. (fault ≡ OutOfMemory) ⊎ ((fault ≡ BadRing) × IsRingName name × IsRingBad values))
-    → MemoryAside r (IsOk r ↔ (IsCommand words × ¬ HasBadRing words))
-is_ok (Ok task) words name values clean call good refused aside =
-    ((λ _. (clean, λ bad. let met = bad_met words name values call bad in good met.0 met.1)), λ _. refl)
-is_ok (Err fault) words name values clean call good (inl memory) aside = absurd (aside (ap Err memory))
-is_ok (Err fault) words name values clean call good (inr bad) aside =
-    ((λ ok. absurd (not_ok ok)), λ fine. absurd (fine.1 (clean, name, values, call, bad.1, bad.2)))
+-- the result of the task of the call that was parsed is Ok unless the ring is bad, and BadRing if it is
+pub told : {T : Type 0} (r : Result T WordsFault) (words : List Text) (name : Text) (values : List Row) → IsCommand words → IsCallOf words name values
+    → OnOk r (¬ (IsRingName name × IsRingBad values)) → FailsBy r (IsRingName name × IsRingBad values)
+    → MemoryAside r (IsOk r ↔ (IsCommand words × ¬ HasBadRing words)) × MemoryAside r (IsErrOf r BadRing ↔ HasBadRing words)
+told r words name values clean call good refused =
+    decided r (IsCommand words × ¬ HasBadRing words) (HasBadRing words) (λ fine bad. fine.1 bad)
+    (IfOk-weaker r _ _ (λ _ fine. (clean, λ bad. fine (bad_met words name values call bad))) good)
+    (IfErr-weaker r _ _ (λ fault found. elim found [
+      | inl memory ↦ inl memory
+      | inr bad ↦ inr (bad.0, (clean, name, values, call, bad.1.0, bad.1.1))
+    ]) refused)
 
 pub task_is : (r : Result Task WordsFault) (words : List Text) (name : Text) (values : List Row) → IsCommand words → IsCallOf words name values
     → IfOk r (IsTaskFor name values) → IfOk r (λ task. IsCommand words × IsTaskOf words task)
-task_is (Ok task) words name values clean call is = (clean, (name, values, call, is))
-task_is (Err fault) words name values clean call is = tt
-
-pub is_bad_ring : {T : Type 0} (r : Result T WordsFault) (words : List Text) (name : Text) (values : List Row) → IsCommand words → IsCallOf words name values
-    → IfOk r (λ _. IsRingName name → ¬ IsRingBad values)
-    → IfErr r (λ fault. (fault ≡ OutOfMemory) ⊎ ((fault ≡ BadRing) × IsRingName name × IsRingBad values))
-    → MemoryAside r (IsErrOf r BadRing ↔ HasBadRing words)
-is_bad_ring (Ok task) words name values clean call good refused aside =
-    ((λ is. absurd (not_err is)), λ bad. let met = bad_met words name values call bad in absurd (good met.0 met.1))
-  where
-    not_err : Ok task ≡ Err BadRing → ⊥
-    not_err is = cc
-is_bad_ring (Err fault) words name values clean call good (inl memory) aside = absurd (aside (ap Err memory))
-is_bad_ring (Err fault) words name values clean call good (inr bad) aside = ((λ _. (clean, name, values, call, bad.1, bad.2)), λ _. ap Err bad.0)
+task_is r words name values clean call is = IfOk-weaker r _ _ (λ task is. (clean, (name, values, call, is))) is
 
 -- a fault of a task is no text of `clap`
-pub no_text : {T X : Type 0} (r : Result T WordsFault) (name : Text) (values : List Row)
-    → IfErr r (λ fault. (fault ≡ OutOfMemory) ⊎ ((fault ≡ BadRing) × IsRingName name × IsRingBad values)) → IsUsage r ⊎ IsHelp r → X
-no_text (Ok task) name values refused (inl is) = let same = is.1 in cc
-no_text (Ok task) name values refused (inr is) = let same = is.1 in cc
-no_text (Err fault) name values (inl memory) (inl is) = let same = is.1 in cc
-no_text (Err fault) name values (inl memory) (inr is) = let same = is.1 in cc
-no_text (Err fault) name values (inr bad) (inl is) = let same = is.1 in let ring = bad.0 in cc
-no_text (Err fault) name values (inr bad) (inr is) = let same = is.1 in let ring = bad.0 in cc
+pub no_text : {T X : Type 0} (r : Result T WordsFault) (Q : Type 0) → FailsBy r Q → IsUsage r ⊎ IsHelp r → X
+no_text (Ok task) Q refused (inl is) = let same = is.1 in cc
+no_text (Ok task) Q refused (inr is) = let same = is.1 in cc
+no_text (Err fault) Q (inl memory) (inl is) = let same = is.1 in cc
+no_text (Err fault) Q (inl memory) (inr is) = let same = is.1 in cc
+no_text (Err fault) Q (inr bad) (inl is) = let same = is.1 in let ring = bad.0 in cc
+no_text (Err fault) Q (inr bad) (inr is) = let same = is.1 in let ring = bad.0 in cc

@@ -1,13 +1,13 @@
 -- Facts of borrowed parts, lifted to the text that they are parts of.
-use Rattle.std.proofs.Common.{◌≡◌, ℕ, ◌+◌, ◌<◌, List, [], ◌∷◌, ◌++◌, length, map, get_or, take, All, Bor, subst, sym, ap, ◌∙◌, ◌⊎◌, ◌↔◌, Result, Ok, Err, OnOk, IfErr, IsOk, IsErrOf, inl, inr, refl}
+use Rattle.std.proofs.Common.{◌≡◌, ℕ, ◌+◌, ◌<◌, List, [], ◌∷◌, ◌++◌, length, map, get_or, take, All, Bor, subst, sym, ap, ◌∙◌, ◌↔◌, Result, Ok, Err, OnOk, IsOk, IsErrOf, inl, inr, refl}
 use Rattle.std.proofs.lemmas.List.Elements.{All-map}
 use Rattle.std.proofs.lemmas.List.{map_more, get_or-map, length-map}
 use Rattle.std.proofs.lemmas.Simd.{map-map}
 use Rattle.task_words.specs.Decimal.{IsNumber, number_in}
 use Rattle.task_words.specs.RingText.{parts_of, IsRingText, ring_in}
-use Rattle.task_words.specs.WordsFault.{MemoryAside}
+use Rattle.task_words.specs.WordsFault.{FailsBy, MemoryAside}
 use Rattle.task_words.specs.declared.words.WordsFault.{WordsFault}
-use Rattle.task_words.specs.declared.words.WordsFault.TheVariants.{BadRing, OutOfMemory}
+use Rattle.task_words.specs.declared.words.WordsFault.TheVariants.{BadRing}
 
 -- the values of the first i parts, followed by the next one
 pub values_more : (parts : List (Bor (List ℕ))) (i number : ℕ) (d : Bor (List ℕ)) (before after : List ℕ) → i < length parts
@@ -34,13 +34,9 @@ parts_of_ring_text parts text same ring =
     let within' : k < length (map (λ part. part.now) parts) = simp length-map within in
     subst IsNumber (get_or-map (λ part. part.now) parts k d d.now within) (each k d.now within')
 
--- a result that is Ok only if P holds, and BadRing only if P fails, decides P
-pub decided : {T : Type 0} (r : Result T WordsFault) (P : Type 0) → OnOk r P
-    → IfErr r (λ fault. (fault ≡ OutOfMemory) ⊎ ((fault ≡ BadRing) × ¬ P))
-    → MemoryAside r (IsOk r ↔ P) × MemoryAside r (IsErrOf r BadRing ↔ ¬ P)
-decided (Ok x) P good bad = (λ aside. (λ ok. good, λ p. refl), λ aside. (λ is. cc, λ not_p. absurd (not_p good)))
-decided (Err e) P good bad =
-    elim bad [
-      | inl none ↦ (λ aside. absurd (aside (ap Err none)), λ aside. absurd (aside (ap Err none)))
-      | inr b ↦ (λ aside. (λ is. cc, λ p. absurd (b.1 p)), λ aside. (λ is. b.1, λ not_p. ap Err b.0))
-    ]
+-- a result that is Ok only if P holds, and BadRing only if Q holds, decides which of them holds
+pub decided : {T : Type 0} (r : Result T WordsFault) (P Q : Type 0) → (P → Q → ⊥) → OnOk r P → FailsBy r Q
+    → MemoryAside r (IsOk r ↔ P) × MemoryAside r (IsErrOf r BadRing ↔ Q)
+decided (Ok x) P Q apart good bad = (λ aside. (λ ok. good, λ p. refl), λ aside. (λ is. cc, λ q. absurd (apart good q)))
+decided (Err e) P Q apart good (inl none) = (λ aside. absurd (aside (ap Err none)), λ aside. absurd (aside (ap Err none)))
+decided (Err e) P Q apart good (inr (is, q)) = (λ aside. (λ ok. cc, λ p. absurd (apart p q)), λ aside. (λ _. q, λ _. ap Err is))

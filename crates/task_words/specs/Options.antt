@@ -11,7 +11,7 @@ use Rattle.clap.specs.declared.error.kind.ErrorKind.{ErrorKind}
 use Rattle.clap.specs.declared.error.kind.ErrorKind.TheVariants as kind
 use Rattle.task_words.specs.OptionLines.{is_always_given}
 use Rattle.task_words.specs.CommandLine.{command_line}
-use Rattle.task_words.specs.Words.{AsksForHelp, IsRefused}
+use Rattle.task_words.specs.Words.{AsksForHelp, IsRefused, IsRingBad, IsRingName}
 use Rattle.task_words.specs.declared.option_rows.OptionRow.{OptionRow}
 use Rattle.task_words.specs.declared.option_rows.Values.{Values}
 use Rattle.task_words.specs.declared.option_rows.Values.TheVariants as values
@@ -22,6 +22,10 @@ use Rattle.task_words.specs.declared.words.WordsFault.TheVariants.{Usage, BadRin
 -- the values of the options of a call
 abbrev pub values_of : Call → List Row
 values_of call = rows_of (found_of call.options.now)
+
+-- the command takes a ring, but the value of `--ring` is not a ring text
+abbrev pub IsBadCall : Call → Type 0
+IsBadCall call = IsRingName call.name.now × IsRingBad (values_of call)
 
 -- the number is one of those that an option takes
 abbrev pub IsBetween : Values → ℕ → Type 0

@@ -1,5 +1,5 @@
 -- Faults of words, and the exit status after them.
-use Rattle.std.specs.Prelude.{◌≡◌, ℕ, Result, Err, String, codes, string_bytes}
+use Rattle.std.specs.Prelude.{◌≡◌, ◌⊎◌, ℕ, Result, Err, IfErr, String, codes, string_bytes}
 use Rattle.std.specs.declared.alloc.Global.{Global}
 use Rattle.task_words.specs.declared.words.WordsFault.{WordsFault}
 use Rattle.task_words.specs.declared.words.WordsFault.TheVariants.{Usage, BadRing, OutOfMemory, Help}
@@ -7,6 +7,10 @@ use Rattle.task_words.specs.declared.words.WordsFault.TheVariants.{Usage, BadRin
 -- a fact that holds unless memory was refused
 abbrev pub MemoryAside : {T : Type 0} → Result T WordsFault → Type 0 → Type 0
 MemoryAside result fact = ¬ (result ≡ Err OutOfMemory) → fact
+
+-- if the result is a fault, it is OutOfMemory, or BadRing, for this cause
+abbrev pub FailsBy : {T : Type 0} → Result T WordsFault → Type 0 → Type 0
+FailsBy result cause = IfErr result (λ fault. (fault ≡ OutOfMemory) ⊎ ((fault ≡ BadRing) × cause))
 
 -- the result is a fault with a text of `clap`
 abbrev pub IsUsage : {T : Type 0} → Result T WordsFault → Type 0

@@ -1,12 +1,12 @@
 //! The task of a command, from the values of its options.
 
-ghost use Rattle.std.specs.Prelude.{◌≡◌, ◌⊎◌, ◌↔◌, IsTrue, IfOk, IfErr};
+ghost use Rattle.std.specs.Prelude.{◌↔◌, IsTrue, IfOk, OnOk};
 ghost use Rattle.task_words.specs.OptionLines.{IsOneOf};
 ghost use Rattle.task_words.specs.CommandLine.{command_line};
-ghost use Rattle.task_words.specs.Options.{IsBetween, IsTaken, values_of};
+ghost use Rattle.task_words.specs.Options.{IsBadCall, IsBetween, IsTaken, values_of};
 ghost use Rattle.task_words.specs.Task.{IsInRange};
 ghost use Rattle.task_words.specs.Words.{HasNumber, HasRing, IsRingBad, IsRingName, IsTaskFor};
-ghost use Rattle.task_words.specs.declared.words.WordsFault.TheVariants.{BadRing, OutOfMemory};
+ghost use Rattle.task_words.specs.WordsFault.{FailsBy};
 
 use crate::option_rows::{
     BASE, CHANNELS, FAR, IDS, NEAR, OptionRow, PLACE, RING, ROUNDS, SEGMENTS, WORKERS,
@@ -31,9 +31,8 @@ impl Call<'_, '_> {
         requires { IsOneOf command_line.subs self.now.name.now (values_of self.now) }
         ensures task { IfOk result (IsTaskFor self.now.name.now (values_of self.now)) }
         ensures range { IfOk result IsInRange }
-        ensures good { IfOk result (λ _. IsRingName self.now.name.now → ¬ IsRingBad (values_of self.now)) }
-        ensures refused { IfErr result (λ fault. (fault ≡ OutOfMemory)
-            ⊎ ((fault ≡ BadRing) × IsRingName self.now.name.now × IsRingBad (values_of self.now))) }
+        ensures good { OnOk result (¬ IsBadCall self.now) }
+        ensures refused { FailsBy result (IsBadCall self.now) }
     {
         if !self.takes_ring() {
             return Ok(self.text_task());
@@ -147,9 +146,8 @@ impl Call<'_, '_> {
         requires given { IsOneOf command_line.subs self.now.name.now (values_of self.now) }
         requires on_ring { IsRingName self.now.name.now }
         ensures ring { IfOk result (λ ring. HasRing (values_of self.now) ring.items) }
-        ensures good { IfOk result (λ _. ¬ IsRingBad (values_of self.now)) }
-        ensures refused { IfErr result (λ fault. (fault ≡ OutOfMemory)
-            ⊎ ((fault ≡ BadRing) × IsRingBad (values_of self.now))) }
+        ensures good { OnOk result (¬ IsRingBad (values_of self.now)) }
+        ensures refused { FailsBy result (IsRingBad (values_of self.now)) }
     {
         let Some(text) = self.options.get_str(RING.name) else {
             unreachable!()

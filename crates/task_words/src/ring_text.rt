@@ -4,7 +4,7 @@ ghost use Rattle.std.specs.Prelude.{◌≡◌, ◌⊎◌, ◌↔◌, map, All, I
 ghost use Rattle.std.specs.Option.{SomeIff};
 ghost use Rattle.task_words.specs.Decimal.{IsNumber, number_in};
 ghost use Rattle.task_words.specs.RingText.{parts_of, IsRingText, ring_in};
-ghost use Rattle.task_words.specs.WordsFault.{MemoryAside};
+ghost use Rattle.task_words.specs.WordsFault.{FailsBy, MemoryAside};
 
 use crate::words::WordsFault;
 use std::alloc::{AllocError, Global};
@@ -36,8 +36,7 @@ pub(crate) fn parts(alloc: Global, text: &str) -> Result<Vec<&str>, AllocError>
 fn numbers(alloc: Global, parts: &[&str]) -> Result<Vec<u32>, WordsFault>
     ensures numbers { IfOk result (λ numbers. All (λ part. IsNumber part.now) parts.now
         × (numbers.items ≡ map (λ part. number_in part.now) parts.now)) }
-    ensures refused { IfErr result (λ fault. (fault ≡ WordsFault.OutOfMemory)
-        ⊎ ((fault ≡ WordsFault.BadRing) × ¬ (All (λ part. IsNumber part.now) parts.now))) }
+    ensures refused { FailsBy result (¬ (All (λ part. IsNumber part.now) parts.now)) }
 {
     let mut numbers = Vec::with_capacity(alloc, parts.len())?;
     for part in parts {

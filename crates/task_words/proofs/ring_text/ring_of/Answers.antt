@@ -1,7 +1,7 @@
-use Rattle.std.proofs.Common.{◌≡◌, ◌⊎◌, map, ap, ◌∙◌, inl, inr, OnOk, IfErr, rules}
+use Rattle.std.proofs.Common.{◌≡◌, map, ap, ◌∙◌, inl, inr, OnOk, rules}
 use Rattle.std.proofs.lemmas.Result.{IfOk-weaker, IfErr-weaker}
 use Rattle.task_words.specs.RingText.{parts_of, IsRingText}
-use Rattle.task_words.specs.declared.words.WordsFault.TheVariants.{BadRing, OutOfMemory}
+use Rattle.task_words.specs.WordsFault.{FailsBy}
 use Rattle.task_words.proofs.Parts.{ring_text_of_parts, parts_of_ring_text, decided}
 use Rattle.task_words.proofs.ring_text.ring_of.Goals as goal
 
@@ -12,12 +12,12 @@ returns c =
     ap (map (λ part. part.now)) c.deref.ensures.value ∙ c.in_ok-parts.ensures in
     let ring = IfOk-weaker c.numbers.result _ _ (λ ring. ring_text_of_parts c.deref.result.now c.args.text.now ring.items same) c.numbers.ensures.numbers in
     let good : OnOk c.numbers.result (IsRingText c.args.text.now) = IfOk-weaker c.numbers.result _ _ (λ ring both. both.0) ring in
-    let bad : IfErr c.numbers.result (λ fault. (fault ≡ OutOfMemory) ⊎ ((fault ≡ BadRing) × ¬ IsRingText c.args.text.now)) =
+    let bad : FailsBy c.numbers.result (¬ IsRingText c.args.text.now) =
     IfErr-weaker c.numbers.result _ _ (λ fault refused. elim refused [
       | inl none ↦ inl none
       | inr bad ↦ inr (bad.0, λ ring. bad.1 (parts_of_ring_text c.deref.result.now c.args.text.now same ring))
     ]) c.numbers.ensures.refused in
-    let told = decided c.numbers.result (IsRingText c.args.text.now) good bad in
+    let told = decided c.numbers.result (IsRingText c.args.text.now) (¬ IsRingText c.args.text.now) (λ ring bad. bad ring) good bad in
     record {
       ring = ring;
       ok = told.0;

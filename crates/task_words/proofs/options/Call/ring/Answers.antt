@@ -5,7 +5,7 @@ use Rattle.clap.specs.Words.{Row, Text, found_of, first_of, rows_of}
 use Rattle.clap.proofs.WalkLemmas.{first_value-rows}
 use Rattle.task_words.specs.RingText.{IsRingText}
 use Rattle.task_words.specs.Words.{IsRingBad}
-use Rattle.task_words.specs.WordsFault.{MemoryAside}
+use Rattle.task_words.specs.WordsFault.{FailsBy, MemoryAside}
 use Rattle.task_words.specs.declared.words.WordsFault.{WordsFault}
 use Rattle.task_words.specs.declared.words.WordsFault.TheVariants.{BadRing, OutOfMemory}
 use Rattle.task_words.proofs.GivenOptions.{ring_given}
@@ -18,18 +18,12 @@ value_is text values is bad =
     let same : bad.0 ≡ text = grind arith in
     λ good. bad.2 (subst IsRingText (sym same) good)
 
-not_memory : {T : Type 0} (r : Result T WordsFault) → r ≡ Err BadRing → ¬ (r ≡ Err OutOfMemory)
-not_memory r bad memory =
-    let same = sym bad ∙ memory in
-    cc
-
 -- a fault other than OutOfMemory is BadRing, for a bad ring
 refused : {T : Type 0} (r : Result T WordsFault) (text : Text) (values : List Row) → first_of (codes "ring") values ≡ Some text
-    → MemoryAside r (IsErrOf r BadRing ↔ (¬ IsRingText text)) → IfErr r (λ fault. (fault ≡ BadRing) ⊎ (fault ≡ OutOfMemory))
-    → IfErr r (λ fault. (fault ≡ OutOfMemory) ⊎ ((fault ≡ BadRing) × IsRingBad values))
+    → MemoryAside r (IsErrOf r BadRing ↔ (¬ IsRingText text)) → IfErr r (λ fault. (fault ≡ BadRing) ⊎ (fault ≡ OutOfMemory)) → FailsBy r (IsRingBad values)
 refused (Ok v) text values is told faults = tt
 refused (Err fault) text values is told (inr memory) = inl memory
-refused (Err fault) text values is told (inl bad) = inr (bad, (text, is, (told (not_memory (Err fault) (ap Err bad))).0 (ap Err bad)))
+refused (Err fault) text values is told (inl bad) = inr (bad, (text, is, (told (λ memory. cc)).0 (ap Err bad)))
 
 pub unreachable-requires : goal.unreachable-requires
 unreachable-requires c =
