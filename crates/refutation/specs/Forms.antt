@@ -1,12 +1,12 @@
 -- What a line says, as the program keeps it. No public contract cites this file.
 use Rattle.std.specs.Prelude.{ℕ, List, Option, None, Some}
 use Rattle.table_formula.specs.declared.literal.Literal.{Literal}
-use Rattle.refutation.specs.declared.forms.Form.{Form}
-use Rattle.refutation.specs.declared.forms.Form.TheVariants as form
+use Rattle.refutation.specs.declared.forms.LineForm.{LineForm}
+use Rattle.refutation.specs.declared.forms.LineForm.TheVariants as form
 use Rattle.refutation.specs.Lines.{Line, Comment, Deletion, Addition}
 
 -- what a line of this form says with this clause and these numbers, which are its hints or the deleted numbers
-abbrev pub line_of : Form → List Literal → List ℕ → Option Line
+abbrev pub line_of : LineForm → List Literal → List ℕ → Option Line
 line_of form.Malformed clause numbers = None
 line_of form.Comment clause numbers = Some Comment
 line_of form.Deletion clause numbers = Some (Deletion numbers)

@@ -5,7 +5,7 @@ ghost use Rattle.table_formula.specs.Formula.{variable_count, longest_len, formu
 
 use crate::clauses::Clauses;
 use crate::fault::LineFault;
-use crate::forms::Form;
+use crate::forms::LineForm;
 use crate::hints::outcome_of_hints;
 use crate::marks::Marks;
 use crate::outcome::Outcome;
@@ -59,7 +59,7 @@ impl<'f> Checker<'f> {
     /// Returns what is wrong with a line of this form with this clause and these numbers.
     pub(crate) fn fault_of_line(
         &mut self,
-        form: Form,
+        form: LineForm,
         clause: &[Literal],
         numbers: &[u64],
     ) -> Option<LineFault>
@@ -68,9 +68,9 @@ impl<'f> Checker<'f> {
         ensures value { result ≡ line_fault (problem_of self.old) (derivation_of self.old) (line_of form clause.now numbers.now) }
     {
         match form {
-            Form::Malformed => Some(LineFault::Form),
-            Form::Comment | Form::Deletion => None,
-            Form::Addition(exchange, number) => {
+            LineForm::Malformed => Some(LineFault::Form),
+            LineForm::Comment | LineForm::Deletion => None,
+            LineForm::Addition(exchange, number) => {
                 self.fault_of_step(exchange, number, clause, numbers)
             }
         }
@@ -79,7 +79,7 @@ impl<'f> Checker<'f> {
     /// Makes the step of a line that is right. Fails if memory was refused.
     pub(crate) fn step(
         &mut self,
-        form: Form,
+        form: LineForm,
         clause: &[Literal],
         numbers: &[u64],
     ) -> Result<(), AllocError>
@@ -88,12 +88,12 @@ impl<'f> Checker<'f> {
         ensures after { OnOk result (derivation_of self.new ≡ after_line (derivation_of self.old) (line_of form clause.now numbers.now)) }
     {
         match form {
-            Form::Malformed | Form::Comment => Ok(()),
-            Form::Deletion => {
+            LineForm::Malformed | LineForm::Comment => Ok(()),
+            LineForm::Deletion => {
                 self.clauses.delete(numbers);
                 Ok(())
             }
-            Form::Addition(_, number) => self.insert(number, clause),
+            LineForm::Addition(_, number) => self.insert(number, clause),
         }
     }
 

@@ -7,14 +7,14 @@ ghost use Rattle.refutation.specs.Lines.{Deletion};
 ghost use Rattle.refutation.specs.Forms.{line_of};
 ghost use Rattle.table_formula.specs.declared.literal.Literal.{Literal as Lit};
 
+use crate::numbers_and_literals::{Spelled, is_end, number_in};
 use crate::parts::Parts;
-use crate::words::{Spelled, is_end, number_in};
 use std::alloc::AllocError;
 use table_formula::{Exchange, Literal};
 
 /// The form of a line. The clause, and the hints or the deleted numbers, stand beside it.
 #[derive(Clone, Copy, Debug, PartialEq, Eq)]
-pub(crate) enum Form {
+pub(crate) enum LineForm {
     Malformed,
     Comment,
     Deletion,
@@ -86,16 +86,16 @@ pub(crate) fn read_line(
     line: &[u8],
     clause: &mut Vec<Literal>,
     numbers: &mut Vec<u64>,
-) -> Result<Form, AllocError>
+) -> Result<LineForm, AllocError>
     ensures { IfOk result (λ form. said.line_in line.now ≡ line_of form clause.new.items numbers.new.items) }
 {
     if is_comment(line) {
-        return Ok(Form::Comment);
+        return Ok(LineForm::Comment);
     }
     let mut words = Parts::new(line, b' ');
     match words.next() {
         Some(word) => read_numbered(number_in(word), words, clause, numbers),
-        None => Ok(Form::Malformed),
+        None => Ok(LineForm::Malformed),
     }
 }
 
@@ -105,15 +105,15 @@ fn read_numbered(
     words: Parts,
     clause: &mut Vec<Literal>,
     numbers: &mut Vec<u64>,
-) -> Result<Form, AllocError>
+) -> Result<LineForm, AllocError>
     ensures { IfOk result (λ form. said.numbered_line number (remaining_parts words.entry) ≡ line_of form clause.new.items numbers.new.items) }
 {
     let Some(number) = number else {
-        return Ok(Form::Malformed);
+        return Ok(LineForm::Malformed);
     };
     let mut rest = words;
     let Some(word) = rest.next() else {
-        return Ok(Form::Malformed);
+        return Ok(LineForm::Malformed);
     };
     match letter_of(word) {
         Some(letter) => read_lettered(letter, number, rest, clause, numbers),
@@ -128,7 +128,7 @@ fn read_lettered(
     words: Parts,
     clause: &mut Vec<Literal>,
     numbers: &mut Vec<u64>,
-) -> Result<Form, AllocError>
+) -> Result<LineForm, AllocError>
     ensures { IfOk result (λ form. said.lettered_line letter number (remaining_parts words.entry) ≡ line_of form clause.new.items numbers.new.items) }
 {
     if letter == Letter::Deletion {
@@ -137,18 +137,18 @@ fn read_lettered(
     let mut rest = words;
     match exchange_in(letter, &mut rest) {
         Some(exchange) => read_addition(Some(exchange), number, rest, clause, numbers),
-        None => Ok(Form::Malformed),
+        None => Ok(LineForm::Malformed),
     }
 }
 
 // Reads the numbers of a deletion.
-fn read_deletion(words: Parts, numbers: &mut Vec<u64>) -> Result<Form, AllocError>
+fn read_deletion(words: Parts, numbers: &mut Vec<u64>) -> Result<LineForm, AllocError>
     ensures { IfOk result (λ form. (clause : List Lit) → option_map Deletion (said.numbers_in (remaining_parts words.entry)) ≡ line_of form clause numbers.new.items) }
 {
     if read_all_numbers(words, numbers)? {
-        Ok(Form::Deletion)
+        Ok(LineForm::Deletion)
     } else {
-        Ok(Form::Malformed)
+        Ok(LineForm::Malformed)
     }
 }
 
@@ -159,14 +159,14 @@ fn read_addition(
     words: Parts,
     clause: &mut Vec<Literal>,
     numbers: &mut Vec<u64>,
-) -> Result<Form, AllocError>
+) -> Result<LineForm, AllocError>
     ensures { IfOk result (λ form. said.addition_of exchange number (said.list_in spelled.literal_in (remaining_parts words.entry)) ≡ line_of form clause.new.items numbers.new.items) }
 {
     let mut rest = words;
     if read_list(&mut rest, clause)? && read_all_numbers(rest, numbers)? {
-        Ok(Form::Addition(exchange, number))
+        Ok(LineForm::Addition(exchange, number))
     } else {
-        Ok(Form::Malformed)
+        Ok(LineForm::Malformed)
     }
 }
 

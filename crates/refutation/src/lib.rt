@@ -11,10 +11,10 @@ mod hints;
 mod laws;
 mod limits;
 mod marks;
+mod numbers_and_literals;
 mod outcome;
 mod parts;
 mod refuting;
-mod words;
 
 pub use fault::{LineFault, RefuteError};
 pub use laws::{

@@ -8,7 +8,7 @@ ghost use Rattle.refutation.specs.Forms.{line_of};
 
 use crate::checker::Checker;
 use crate::fault::{LineFault, RefuteError};
-use crate::forms::{Form, read_line};
+use crate::forms::{LineForm, read_line};
 use crate::laws::refutations_are_sound;
 use crate::limits::LONGEST_REFUTATION;
 use crate::parts::Parts;
@@ -95,11 +95,11 @@ fn first_fault(
 }
 
 // Returns whether a line of this form with this clause adds the empty clause.
-fn adds_empty_clause(form: Form, clause: &[Literal]) -> bool
+fn adds_empty_clause(form: LineForm, clause: &[Literal]) -> bool
     ensures { (numbers : List ℕ) → result ≡ adds_empty (line_of form clause.now numbers) }
 {
     match form {
-        Form::Addition(..) => clause.is_empty(),
+        LineForm::Addition(..) => clause.is_empty(),
         _ => false,
     }
 }
