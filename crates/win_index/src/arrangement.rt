@@ -4,7 +4,7 @@ ghost use Rattle.std.specs.Bool.{OnTrue, OnFalse};
 ghost use Rattle.std.specs.List.{range_with_len};
 ghost use Rattle.win_index.specs.Windows.{is_used, unused, windows, number_of, IsWindow};
 ghost use Rattle.win_index.specs.Runs.{IsRunStart, IsReplacedByRun};
-ghost use Rattle.win_index.specs.Successor.{IsNext, IsLast, IsReplaced};
+ghost use Rattle.win_index.specs.Successor.{IsNext, IsReplaced};
 
 // The lists of one length, in order. There are fewer than 2^64 of them, and of each smaller length.
 #[derive(Clone, Copy)]
@@ -214,10 +214,8 @@ fn write_list(ids: u32, number: u64, list: &mut [u32], len: usize)
 fn write_next(ids: u32, list: &mut [u32], len: usize) -> bool
     requires room { len ≤ length list.old }
     requires window { IsWindow len ids (take len list.old) }
-    ensures next { OnTrue result (IsNext len ids (take len list.old) (take len list.new)) }
-    ensures last { OnFalse result (IsLast len ids (take len list.old)) }
+    ensures replaced { IsReplaced len ids result (take len list.old) (take len list.new) }
     ensures same { OnFalse result (list.new ≡ list.old) }
-    ensures window { IsWindow len ids (take len list.new) }
 {
     if len == 0 {
         return false;
@@ -239,9 +237,9 @@ fn write_next_last(ids: u32, list: &mut [u32], len: usize) -> bool
     requires room { (1 ≤ len) × (len ≤ length list.old) }
     requires window { IsWindow len ids (take len list.old) }
     ensures next { OnTrue result (IsNext len ids (take len list.old) (take len list.new)) }
-    ensures none { OnFalse result (find (λ x. not (is_used (take (len - 1) list.old) x))
-        (range_with_len (slice_index list.old (len - 1) + 1) (ids - (slice_index list.old (len - 1) + 1))) ≡ None) }
-    ensures same { OnFalse result (list.new ≡ list.old) }
+    ensures none { OnFalse result ((find (λ x. not (is_used (take (len - 1) list.old) x))
+        (range_with_len (slice_index list.old (len - 1) + 1) (ids - (slice_index list.old (len - 1) + 1))) ≡ None)
+        × (list.new ≡ list.old)) }
     ensures window { IsWindow len ids (take len list.new) }
 {
     let last = len - 1;

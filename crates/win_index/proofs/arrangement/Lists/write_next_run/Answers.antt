@@ -15,7 +15,7 @@ returns-then-not-write_next c =
       next = search rules;
       last = λ list ends.
           last_run len c.args.self.ids (len - 1) list (omega arith) ends.last_is ends.none_larger
-          (rw ends.same c.if-not-write_next.ensures.last);
+          (rw ends.same c.if-not-write_next.ensures.replaced.last);
       same = c.if-not-write_next.ensures.same;
       window = rw c.if-not-write_next.ensures.same c.requires.window;
     }
@@ -27,7 +27,7 @@ nth_unused-least-requires-clause-place c =
     let list = c.args.list.now in
     let within = window_within _ _ _ c.requires.window in
     later_lacks (len - 1) ids (take (len - 1) list) (take (len - 1) c.write_next.new.list) (omega arith)
-    (window_front (len - 1) len ids list (omega arith) c.requires.window) c.if-not-write_next.ensures.next
+    (window_front (len - 1) len ids list (omega arith) c.requires.window) c.if-not-write_next.ensures.replaced.next
 
 pub returns : goal.returns
 returns c =
@@ -41,9 +41,9 @@ returns c =
     record {
       next = λ list ends.
           next_run len ids (len - 1) list (omega arith) ends.last_is later y (omega arith) ends.none_larger
-          (rw ends.same c.if-not-write_next.ensures.next) c.nth_unused-least.ensures;
+          (rw ends.same c.if-not-write_next.ensures.replaced.next) c.nth_unused-least.ensures;
       last = search rules;
       same = search rules;
-      window = window_with (len - 1) len ids y later (omega arith) (omega arith) c.if-not-write_next.ensures.window
+      window = window_with (len - 1) len ids y later (omega arith) (omega arith) c.if-not-write_next.ensures.replaced.window
           kept.below (not-true (is_used front y) kept.passes);
     }
