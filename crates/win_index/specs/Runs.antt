@@ -62,3 +62,11 @@ pub record IsAtPlace (k m : ℕ) (places : RunPlaces) (window : List ℕ) (place
   pub window_is : IsWindow (k + 2) m window
   pub run_has : HasPlaces k m window places
   pub place_is : place_in_run k window (slice_index window (k + 1)) ≡ place
+
+-- `count` is the length of the longest series from the window at this position of a run, at least 1 and at most `most`
+pub record IsLongestSeries (places : RunPlaces) (place most count : ℕ) : Type 0 where
+  pub some : 1 ≤ count
+  pub few : count ≤ most
+  pub inside : place + count ≤ places.end
+  pub series : (k m : ℕ) (first : List ℕ) → 1 ≤ k → IsAtPlace k m places first place → IsSeries k m first count
+  pub whole : (k m : ℕ) (first : List ℕ) → 1 ≤ k → IsAtPlace k m places first place → count < most → IsSeries k m first (count + 1) → ⊥

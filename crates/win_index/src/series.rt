@@ -51,7 +51,7 @@ impl Shape {
 
 impl RunPlaces {
     ghost use Rattle.std.specs.Prelude.{◌≡◌, ◌≢◌, ◌⊎◌, ℕ, List, ◌+◌, ◌<◌, ◌≤◌, take, IfSome, IfNone};
-    ghost use Rattle.win_index.specs.Runs.{HasPlaces, IsAtPlace, IsFirstOfRun, IsSeries, IsLastOfRun};
+    ghost use Rattle.win_index.specs.Runs.{HasPlaces, IsAtPlace, IsFirstOfRun, IsLongestSeries, IsLastOfRun};
     ghost use Rattle.win_index.specs.Successor.{IsNext};
     ghost use Rattle.win_index.specs.Windows.{IsWindow};
 
@@ -60,11 +60,7 @@ impl RunPlaces {
     pub fn series(self, place: u32, most: u32) -> u32
         requires place { place < self.end }
         requires most { 1 ≤ most }
-        ensures some { 1 ≤ result }
-        ensures few { result ≤ most }
-        ensures inside { place + result ≤ self.end }
-        ensures series { (k m : ℕ) (first : List ℕ) → 1 ≤ k → IsAtPlace k m self first place → IsSeries k m first result }
-        ensures whole { (k m : ℕ) (first : List ℕ) → 1 ≤ k → IsAtPlace k m self first place → result < most → IsSeries k m first (result + 1) → ⊥ }
+        ensures { IsLongestSeries self place most result }
     {
         let clear = end_before(self.end, self.first_gap, place);
         (end_before(clear, self.second_gap, place) - place).min(most)
