@@ -3,7 +3,7 @@ ghost use Rattle.std.specs.Prelude.{◌≡◌, ◌+◌, ◌<◌, ◌≤◌, ◌+
 ghost use Rattle.ring_exec.specs.Faults.{blamed};
 ghost use Rattle.round_eval.specs.declared.fault.ThreadFault.TheVariants.{Work, NoThread};
 
-use crate::runner::Outcome;
+use crate::runner::SegmentOutcome;
 use border_exchange::Segment;
 use round_eval::ThreadFault;
 
@@ -28,7 +28,7 @@ impl<'a> Joined<'a> {
 
     // Adds the outcome of a segment. All that were added before come after it on the ring, so that
     // its fault takes precedence over theirs.
-    pub(crate) fn add(&mut self, outcome: Outcome<'a>)
+    pub(crate) fn add(&mut self, outcome: SegmentOutcome<'a>)
         requires { vec_len self.old.segments < vec_capacity self.old.segments }
         ensures added { MatchResult outcome.entry
             (λ segment. (self.new.fault ≡ self.old.fault) × (self.new.segments.items ≡ self.old.segments.items ++ segment ∷ []))

@@ -17,18 +17,18 @@ use std::thread::{Promise, PromisedHandle};
 
 // The outcome of a segment's thread: the segment, after the last round unless a border was closed
 // before.
-pub(crate) type Outcome<'a> = Result<Segment<'a>, WorkFault>;
+pub(crate) type SegmentOutcome<'a> = Result<Segment<'a>, WorkFault>;
 
 // The promise that a thread returns the segment with this index, unless it has a fault.
 #[derive(Clone, Copy)]
 pub(crate) struct SegmentAt(pub(crate) u32);
 
-impl<'a> Promise<Outcome<'a>> for SegmentAt {
+impl<'a> Promise<SegmentOutcome<'a>> for SegmentAt {
     ghost kept_by = { λ promise outcome. IfOk outcome (λ segment. segment.index ≡ promise.0) };
 }
 
 // A segment's thread.
-pub(crate) type SegmentThread<'a> = PromisedHandle<Outcome<'a>, SegmentAt>;
+pub(crate) type SegmentThread<'a> = PromisedHandle<SegmentOutcome<'a>, SegmentAt>;
 
 // What all segments of a run share.
 #[derive(Drop)]
@@ -60,7 +60,7 @@ impl<'s, 'a, R: Wait, G: Gate, A: BorderName, B: BorderName> Runner<
     B,
 > {
     // Runs the segment to its last round, or until it stops; then closes both borders.
-    pub(crate) fn run(self) -> Outcome<'a>
+    pub(crate) fn run(self) -> SegmentOutcome<'a>
         requires { AreSeatsOf self.segment self.left.seat self.right.seat }
         ensures { IfOk result (λ segment. segment.index ≡ self.entry.segment.index) }
     {
@@ -105,7 +105,7 @@ fn run_rounds<'a, R: Wait, G: Gate, A: BorderName, B: BorderName>(
 }
 
 // Returns the outcome of a segment that stops. A closed border is no fault of the segment.
-fn outcome_of<'a>(segment: Segment<'a>, stop: Stop) -> Outcome<'a>
+fn outcome_of<'a>(segment: Segment<'a>, stop: Stop) -> SegmentOutcome<'a>
     ensures closed { IfOk result (λ stopped. (stop ≡ BorderClosed) × (stopped ≡ segment.entry)) }
     ensures fault { IfErr result (λ fault. stop ≡ Fault fault) }
 {
