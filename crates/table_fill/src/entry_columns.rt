@@ -50,10 +50,10 @@ impl EntryColumns {
         requires space { vec_len entries.old + block_len code.now.ids (length code.now.program.steps) block.now.number
             ≤ vec_capacity entries.old }
         ensures room { IsChannelRoom code.now self.new }
-        ensures entries { (first : ℕ) → AreEntries code.now first (BLOCK_WINDOWS * block.now.number) entries.old.items
+        ensures entries { (vec_capacity entries.old ≤ vec_capacity entries.new)
+            × ((first : ℕ) → AreEntries code.now first (BLOCK_WINDOWS * block.now.number) entries.old.items
             → AreEntries code.now first (BLOCK_WINDOWS * block.now.number
-            + block_len code.now.ids (length code.now.program.steps) block.now.number) entries.new.items }
-        ensures capacity { vec_capacity entries.old ≤ vec_capacity entries.new }
+            + block_len code.now.ids (length code.now.program.steps) block.now.number) entries.new.items) }
     {
         put_block(block, &mut self.states);
         write_channels(

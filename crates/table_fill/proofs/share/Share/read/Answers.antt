@@ -20,5 +20,5 @@ loop-number-preserved c =
     record {
       room = search rules;
       capacity = search rules;
-      entries = rw next at (c.append_block.ensures.entries _ (rw here at inv.entries));
+      entries = rw next at (c.append_block.ensures.entries.1 _ (rw here at inv.entries));
     }
