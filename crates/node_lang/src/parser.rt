@@ -14,7 +14,7 @@ use std::alloc::{AllocFailed, Global};
 
 // The numbers of a program's header.
 #[derive(Clone, Copy)]
-struct Header {
+struct ProgramHeader {
     rounds: u32,
     channels: u32,
     registers: u32,
@@ -198,14 +198,14 @@ impl<'a> Parser<'a> {
 
     // Parses the header, up to and including `start`.
     #[tactic(auto, using(crate::proofs::Parsing::header_is))]
-    fn header(&mut self) -> Result<Header, Stop>
+    fn header(&mut self) -> Result<ProgramHeader, Stop>
         ensures { Gives (λ h. record { rounds = h.rounds; channels = h.channels; registers = h.registers }) self.old self.new result header }
     {
         let rounds = self.field(Token::Rounds, 0, MAX_ROUNDS)?;
         let channels = self.field(Token::Channels, 1, MAX_CHANNELS)?;
         let registers = self.field(Token::Registers, 1, MAX_REGISTERS)?;
         self.expect(Token::Start)?;
-        Ok(Header {
+        Ok(ProgramHeader {
             rounds,
             channels,
             registers,
