@@ -46,7 +46,7 @@ pub trait Jobs {
 // The outcome of a worker: its ticket, and its fault if it has one. Without a fault, the ticket was
 // told that all jobs are drawn.
 #[derive(Drop)]
-pub(crate) struct Outcome {
+pub(crate) struct WorkerOutcome {
     pub ticket: Ticket,
     pub answer: Result<(), WorkFault>,
     pub ghost all_drawn: { is_ok answer ≡ true → told ticket ≡ 1 },

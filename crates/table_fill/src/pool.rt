@@ -5,7 +5,7 @@ ghost use Rattle.shared_memo.specs.Tickets.{worker_of, numbers_of, IsFreshTicket
 ghost use Rattle.table_fill.specs.Workers.{HasRoom, IsWorkerCount};
 ghost use Rattle.table_fill.specs.Outcomes.{outcome_worker, AreOutcomes, IsLowestFault, CameTo, IsFaultOf};
 
-use crate::jobs::{Jobs, Outcome};
+use crate::jobs::{Jobs, WorkerOutcome};
 use round_eval::{Gate, ThreadFault, WorkFault};
 use shared_memo::{Desk, Ticket};
 use std::alloc::{AllocError, Global};
@@ -17,12 +17,12 @@ use std::thread::{Promise, PromisedHandle, Scope, Threads};
 #[derive(Clone, Copy)]
 struct OutcomeOf(u32);
 
-impl Promise<Outcome> for OutcomeOf {
+impl Promise<WorkerOutcome> for OutcomeOf {
     ghost kept_by = { λ promise outcome. outcome_worker outcome ≡ promise.0 };
 }
 
 // A worker's thread.
-type Handle = PromisedHandle<Outcome, OutcomeOf>;
+type Handle = PromisedHandle<WorkerOutcome, OutcomeOf>;
 
 /// Fills jobs with `workers` workers, 1 to `MAX_THREADS`, that draw them at one desk. A single
 /// worker runs on the calling thread, and what it knows then is returned; several run on a thread
@@ -66,7 +66,7 @@ pub fn fill_by_workers<R: Threads + Wait + Sync, J: Jobs + Sync, G: Gate + Sync>
 #[derive(Drop)]
 struct Room {
     handles: Vec<Handle>,
-    outcomes: Vec<Outcome>,
+    outcomes: Vec<WorkerOutcome>,
 }
 
 impl Room {
@@ -96,7 +96,7 @@ fn run_all<R: Threads + Wait + Sync, J: Jobs + Sync, G: Gate + Sync>(
     draws: Draws<'_>,
     room: Room,
     gate: &G,
-) -> Option<Vec<Outcome>>
+) -> Option<Vec<WorkerOutcome>>
     requires tickets { AreFreshTickets draws.desk.now draws.tickets.items }
     requires jobs { numbers_of draws.desk.now ≡ J.jobs jobs.now }
     requires room { HasRoom (vec_len draws.tickets) room.handles × HasRoom (vec_len draws.tickets) room.outcomes }
@@ -107,7 +107,7 @@ fn run_all<R: Threads + Wait + Sync, J: Jobs + Sync, G: Gate + Sync>(
     thread::scope(
         thread::scope_env(),
         rt,
-        |scope| -> Option<Vec<Outcome>>
+        |scope| -> Option<Vec<WorkerOutcome>>
             requires tickets { AreFreshTickets desk.now tickets.items }
             requires jobs { numbers_of desk.now ≡ J.jobs jobs.now }
             requires handles { HasRoom (vec_len tickets) handles }
@@ -142,12 +142,12 @@ fn start_all<'s, 'd: 's, E, J: Jobs + Sync + 's, G: Gate + Sync + 's>(
     let Draws { desk, tickets } = draws;
     for ticket in tickets {
         let promise = OutcomeOf(ticket.worker());
-        let worker = move || -> Outcome
+        let worker = move || -> WorkerOutcome
             requires { IsFreshTicketOf desk.now ticket × (numbers_of desk.now ≡ J.jobs jobs.now) }
         {
             let mut ticket = ticket;
             let answer = answer_of(jobs.fill(alloc, desk, &mut ticket, gate));
-            Outcome { ticket, answer }
+            WorkerOutcome { ticket, answer }
         };
         let Ok(handle) = scope.spawn_with(promise, worker) else {
             return (handles, false);
@@ -168,7 +168,11 @@ fn answer_of<K: Drop>(filled: Result<K, WorkFault>) -> Result<(), WorkFault>
 }
 
 // Joins the threads in order, and appends what their workers came to.
-fn join_all<R: Threads>(rt: &R, handles: Vec<Handle>, mut outcomes: Vec<Outcome>) -> Vec<Outcome>
+fn join_all<R: Threads>(
+    rt: &R,
+    handles: Vec<Handle>,
+    mut outcomes: Vec<WorkerOutcome>,
+) -> Vec<WorkerOutcome>
     requires workers { AreNumbered handles.items (λ handle. handle.promise.0) }
     requires outcomes { HasRoom (vec_len handles) outcomes }
     ensures { AreOutcomes (vec_len handles) result.items }
@@ -180,7 +184,7 @@ fn join_all<R: Threads>(rt: &R, handles: Vec<Handle>, mut outcomes: Vec<Outcome>
 }
 
 // Returns the fault of the lowest worker that has one.
-fn lowest_fault(outcomes: &[Outcome]) -> Result<(), WorkFault>
+fn lowest_fault(outcomes: &[WorkerOutcome]) -> Result<(), WorkFault>
     requires { AreNumbered outcomes.now outcome_worker }
     ensures { IsLowestFault outcomes.now result }
 {

@@ -1,7 +1,7 @@
 use Rattle.std.proofs.Common.{rules, ◌≡◌, ℕ, ◌<◌, Some, length, get_or, arith, sym, ◌∙◌, ap}
 use Rattle.std.specs.Prelude.{IsOk}
 use Rattle.std.proofs.lemmas.Option.{slice_get-get_or}
-use Rattle.table_fill.specs.declared.jobs.Outcome.{Outcome}
+use Rattle.table_fill.specs.declared.jobs.WorkerOutcome.{WorkerOutcome}
 use Rattle.table_fill.specs.Outcomes.{outcome_worker}
 use Rattle.table_fill.proofs.pool.lowest_fault.Goals as goal
 
@@ -14,7 +14,7 @@ returns-in-Err c =
     let below : at < length list = search rules in
     let number : outcome_worker this ≡ at =
     c.requires at this (slice_get-get_or list at this below ∙ ap Some (sym c.outcome-item.is)) in
-    let lower : (k : ℕ) (d : Outcome) → k < length list →
+    let lower : (k : ℕ) (d : WorkerOutcome) → k < length list →
     outcome_worker (get_or list k d) < outcome_worker this → IsOk (get_or list k d).answer =
     λ k d within less.
     let own : outcome_worker (get_or list k d) ≡ k =
