@@ -7,7 +7,7 @@ use Rattle.node_program.specs.Term.{Term}
 use Rattle.node_program.specs.Value.{value}
 use Rattle.node_program.specs.Node.{reading_messages, left_sent, right_sent, assigned_values, to_left, to_right, next, channel}
 use Rattle.node_program.specs.GlobalRounds.{left_of, right_of, state, channel_at}
-use Rattle.value_trees.specs.Laws.{StartsAreHeld, AssignedAreHeld, LeftIsSent, RightIsSent, FinishIsChannel}
+use Rattle.value_trees.specs.Laws.{StartsAreHeld, AssignedAreHeld, MessagesAreSent, FinishIsChannel}
 
 -- the item of a list of values
 mapped : (f : Term → ℕ) (es : List Term) (j : ℕ) (e : Term) → slice_get es j ≡ Some e → f e ≡ get_or (map f es) j 0
@@ -34,13 +34,9 @@ assigned p x i r j s e round is =
     ∙ ap (λ o. get_or (assigned_values o own left right) j 0) (sym round)
     ∙ ap (λ k. get_or (state p x k i) j 0) (sym (add-one r))
 
-pub left_is_sent : LeftIsSent
-unfolding to_left
-left_is_sent p x i r s round = ap (λ o. left_sent o (state p x r i)) (sym round)
-
-pub right_is_sent : RightIsSent
-unfolding to_right
-right_is_sent p x i r s round = ap (λ o. right_sent o (state p x r i)) (sym round)
+pub sent : MessagesAreSent
+unfolding to_left to_right
+sent p x i r s round = (ap (λ o. left_sent o (state p x r i)) (sym round), ap (λ o. right_sent o (state p x r i)) (sym round))
 
 pub finished : FinishIsChannel
 unfolding channel_at channel

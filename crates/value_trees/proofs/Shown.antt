@@ -11,7 +11,7 @@ use Rattle.value_trees.specs.Trees.{tree_lines}
 use Rattle.value_trees.specs.Explanation.{headed, register_heading, side_heading, finish_heading, assigned_lines, round_trees, rounds_trees, explanation, before_messages, with_messages}
 use Rattle.value_trees.specs.Laws.{Shows, ExplanationsShowTraces}
 use Rattle.value_trees.proofs.PartLines.{trees_show}
-use Rattle.value_trees.proofs.Roots.{starts, assigned, left_is_sent, right_is_sent, finished}
+use Rattle.value_trees.proofs.Roots.{starts, assigned, sent, finished}
 
 -- a text with a piece in it
 record Has (piece text : List ℕ) : Type 0 where
@@ -141,13 +141,13 @@ module _ (b : Base) (p : ProgramTree) (x : List ℕ) (i : ℕ) where
   left_shown : (r : ℕ) (s : Round) → slice_get p.steps r ≡ Some s
       → Shows b (side_heading (codes " left") (r + 1)) (before_messages p x i r) s.left (to_left p r (state p x r i)) (explanation b p x i)
   left_shown r s round =
-      in_round r s (before_messages p x i r) _ s.left _ round (left_is_sent p x i r s round)
+      in_round r s (before_messages p x i r) _ s.left _ round ((sent p x i r s round).0)
       (on_left (left_tree r s) (left_tree r s) (right_tree r s ++ next_trees r s) (itself (left_tree r s)))
 
   right_shown : (r : ℕ) (s : Round) → slice_get p.steps r ≡ Some s
       → Shows b (side_heading (codes " right") (r + 1)) (before_messages p x i r) s.right (to_right p r (state p x r i)) (explanation b p x i)
   right_shown r s round =
-      in_round r s (before_messages p x i r) _ s.right _ round (right_is_sent p x i r s round)
+      in_round r s (before_messages p x i r) _ s.right _ round ((sent p x i r s round).1)
       (on_right (right_tree r s) (left_tree r s) (right_tree r s ++ next_trees r s)
       (on_left (right_tree r s) (right_tree r s) (next_trees r s) (itself (right_tree r s))))
 

@@ -25,16 +25,12 @@ AssignedAreHeld =
     (p : ProgramTree) (x : List ℕ) (i r j : ℕ) (s : Round) (e : Term) → slice_get p.steps r ≡ Some s → slice_get s.next j ≡ Some e
     → value e (with_messages p x i r) ≡ slice_index (state p x (r + 1) i) j
 
--- the value of the expression of a round's message to a side is that message
-abbrev pub LeftIsSent : Type 0
-LeftIsSent =
+-- the values of the expressions of a round's messages are the messages
+abbrev pub MessagesAreSent : Type 0
+MessagesAreSent =
     (p : ProgramTree) (x : List ℕ) (i r : ℕ) (s : Round) → slice_get p.steps r ≡ Some s
-    → value s.left (before_messages p x i r) ≡ to_left p r (state p x r i)
-
-abbrev pub RightIsSent : Type 0
-RightIsSent =
-    (p : ProgramTree) (x : List ℕ) (i r : ℕ) (s : Round) → slice_get p.steps r ≡ Some s
-    → value s.right (before_messages p x i r) ≡ to_right p r (state p x r i)
+    → (value s.left (before_messages p x i r) ≡ to_left p r (state p x r i))
+    × (value s.right (before_messages p x i r) ≡ to_right p r (state p x r i))
 
 -- the value of the last expression is the channel
 abbrev pub FinishIsChannel : Type 0

@@ -5,13 +5,12 @@ ghost use Rattle.value_trees.specs.Laws as law;
 /// value, and one line for each branch of an `if` that is not taken. The value of the whole
 /// expression is the register which is traced, the message which is sent, or the channel which a
 /// run prints.
-#[tactic(auto, using(crate::proofs::Roots::starts, crate::proofs::Roots::assigned, crate::proofs::Roots::left_is_sent, crate::proofs::Roots::right_is_sent, crate::proofs::Roots::finished))]
+#[tactic(auto, using(crate::proofs::Roots::starts, crate::proofs::Roots::assigned, crate::proofs::Roots::finished))]
 pub fn roots_are_traced()
     ensures trees { law.TreesShowParts }
     ensures starts { law.StartsAreHeld }
     ensures assigned { law.AssignedAreHeld }
-    ensures left { law.LeftIsSent }
-    ensures right { law.RightIsSent }
+    ensures sent { law.MessagesAreSent }
     ensures finish { law.FinishIsChannel }
 {}
 
