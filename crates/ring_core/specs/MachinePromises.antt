@@ -40,3 +40,9 @@ pub record AreNear (m : Machine) : Type 0 where
       → (segment_at m s).round ≤ (segment_at m (segment_after (length m.segments) s)).round + 1
   pub not_behind : (s : ℕ) → s < length m.segments
       → (segment_at m (segment_after (length m.segments) s)).round ≤ (segment_at m s).round + 1
+
+-- what holds of a machine after every list of events
+pub record KeepsPromises (m : Machine) : Type 0 where
+  pub states : HasGlobalStates m
+  pub messages : HasGlobalMessages m
+  pub near : AreNear m

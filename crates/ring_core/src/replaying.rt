@@ -1,7 +1,8 @@
 //! Running the events of a list.
-ghost use Rattle.std.specs.Prelude.{◌≡◌, ◌≤◌, IfOk, OnOk, length};
+ghost use Rattle.std.specs.Prelude.{◌≤◌, IfOk, OnOk};
 ghost use Rattle.ring_core.specs.Machine.{IsMachineOf, opening, Runs, Steps};
-ghost use Rattle.ring_core.specs.MachinePromises.{HasGlobalStates, HasGlobalMessages, AreNear};
+ghost use Rattle.ring_core.specs.MachinePromises.{KeepsPromises};
+ghost use Rattle.ring_core.specs.Parts.{CanBeCut};
 
 use crate::event::RingEvent;
 use crate::world::World;
@@ -30,15 +31,11 @@ pub fn replay<'a>(
     segments: u32,
     events: &[RingEvent],
 ) -> Result<World<'a>, OutOfMemory>
-    requires ids { ring.now.ids ≡ plan.now.ids }
-    requires rounds { ring.now.rounds ≡ length plan.now.program.steps }
+    requires cut { CanBeCut plan.now ring.now segments }
     requires some { 1 ≤ segments }
-    requires few { segments ≤ length ring.now.places }
     ensures runs { IfOk result (λ world. Runs (opening plan.now ring.now segments) events.now world) }
     ensures machine { IfOk result (IsMachineOf plan.entry.now ring.entry.now segments) }
-    ensures states { IfOk result (λ world. HasGlobalStates world) }
-    ensures messages { IfOk result (λ world. HasGlobalMessages world) }
-    ensures near { IfOk result (λ world. AreNear world) }
+    ensures promises { IfOk result (λ world. KeepsPromises world) }
 {
     let mut world = World::opening(alloc, plan, ring, segments)?;
     for event in events {

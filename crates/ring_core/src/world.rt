@@ -4,7 +4,7 @@ ghost use Rattle.std.specs.List.{range_with_len};
 ghost use Rattle.round_eval.specs.Rows.{rows};
 ghost use Rattle.border_exchange.specs.Segments.{states_of};
 ghost use Rattle.ring_core.specs.Machine.{Steps, CanAdvance, segment_at, left_border, right_border, opening as opening_of};
-ghost use Rattle.ring_core.specs.MachinePromises.{HasGlobalStates, HasGlobalMessages, AreNear, segment_after_rounds, sent_at, heading_at};
+ghost use Rattle.ring_core.specs.MachinePromises.{KeepsPromises, segment_after_rounds, sent_at, heading_at};
 ghost use Rattle.ring_core.specs.Parts.{CanBeCut, opening_part, sending, came_to, needed_to, sender_of, sent_to};
 
 use crate::event::RingEvent;
@@ -157,9 +157,7 @@ impl<'a> World<'a> {
 
     // Proves the invariant of the machine.
     pub(crate) fn promises(&self)
-        ensures states { HasGlobalStates self.now }
-        ensures messages { HasGlobalMessages self.now }
-        ensures near { AreNear self.now }
+        ensures { KeepsPromises self.now }
     {
         // The proof takes the invariant of the parts from this loan.
         let _parts = &self.parts;
