@@ -21,6 +21,10 @@ pub record Machine : Type 0 where
   pub next : ℕ
   pub workers : List Worker
 
+-- a machine of this plan, with so many workers
+abbrev pub IsMachineOf : ProgramForIds → ℕ → Machine → Type 0
+IsMachineOf plan workers s = (s.plan ≡ plan) × (length s.workers ≡ workers)
+
 -- injective codes of workers and of machines, which their models ask for
 abbrev pub worker_code : Coded Worker
 worker_code =

@@ -30,8 +30,8 @@ impl<'a> Model for FillWorld<'a> {
     ghost invariant = { λ w. IsConsistent (machine_of w.world) };
 }
 
-ghost use Rattle.std.specs.Prelude.{◌≡◌, ◌≤◌, IfOk, length};
-ghost use Rattle.fill_core.specs.FillMachine.{Runs, opening};
+ghost use Rattle.std.specs.Prelude.{◌≤◌, IfOk};
+ghost use Rattle.fill_core.specs.FillMachine.{IsMachineOf, Runs, opening};
 ghost use Rattle.fill_core.specs.FillPromises.{IsConsistent, IsFilledWhenStopped};
 ghost use Rattle.node_program.specs.declared.limits.TheConstants.{MAX_THREADS};
 
@@ -55,11 +55,9 @@ pub fn replay<'a>(
     workers: u32,
     events: &[FillEvent],
 ) -> Result<FillWorld<'a>, OutOfMemory>
-    requires some { 1 ≤ workers }
-    requires few { workers ≤ MAX_THREADS }
+    requires { (1 ≤ workers) × (workers ≤ MAX_THREADS) }
     ensures runs { IfOk result (λ world. Runs (opening plan.now workers) events.now world) }
-    ensures plan { IfOk result (λ world. world.plan ≡ plan.entry.now) }
-    ensures workers { IfOk result (λ world. length world.workers ≡ workers) }
+    ensures machine { IfOk result (IsMachineOf plan.entry.now workers) }
     ensures consistent { IfOk result (λ world. IsConsistent world) }
     ensures filled { IfOk result (λ world. IsFilledWhenStopped world) }
 {
