@@ -9,7 +9,7 @@ use Rattle.clap.specs.declared.builder.value_parser.ValueParser.{ValueParser}
 use Rattle.clap.specs.declared.builder.value_parser.ValueParser.TheVariants.{Signed}
 use Rattle.clap.specs.declared.error.kind.ErrorKind.{ErrorKind}
 use Rattle.clap.specs.declared.error.kind.ErrorKind.TheVariants as kind
-use Rattle.task_words.specs.OptionLines.{is_always_given}
+use Rattle.task_words.specs.OptionLines.{IsOneOf, is_always_given}
 use Rattle.task_words.specs.CommandLine.{command_line}
 use Rattle.task_words.specs.Words.{AsksForHelp, IsRefused, IsRingBad, IsRingName}
 use Rattle.task_words.specs.declared.option_rows.OptionRow.{OptionRow}
@@ -22,6 +22,10 @@ use Rattle.task_words.specs.declared.words.WordsFault.TheVariants.{Usage, BadRin
 -- the values of the options of a call
 abbrev pub values_of : Call → List Row
 values_of call = rows_of (found_of call.options.now)
+
+-- a command of the program is called, and its options have their values
+pub record IsCall (call : Call) : Type 0 where
+  pub one : IsOneOf command_line.subs call.name.now (values_of call)
 
 -- the command takes a ring, but the value of `--ring` is not a ring text
 abbrev pub IsBadCall : Call → Type 0

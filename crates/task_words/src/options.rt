@@ -1,9 +1,7 @@
 //! The task of a command, from the values of its options.
 
-ghost use Rattle.std.specs.Prelude.{◌↔◌, IsTrue, IfOk, OnOk};
-ghost use Rattle.task_words.specs.OptionLines.{IsOneOf};
-ghost use Rattle.task_words.specs.CommandLine.{command_line};
-ghost use Rattle.task_words.specs.Options.{IsBadCall, IsBetween, IsTaken, values_of};
+ghost use Rattle.std.specs.Prelude.{◌≡◌, ◌⊎◌, ◌↔◌, IsTrue, IfOk, OnOk, codes};
+ghost use Rattle.task_words.specs.Options.{IsBadCall, IsCall, IsBetween, IsTaken, values_of};
 ghost use Rattle.task_words.specs.Task.{IsInRange};
 ghost use Rattle.task_words.specs.Words.{HasNumber, HasRing, IsRingBad, IsRingName, IsTaskFor};
 ghost use Rattle.task_words.specs.WordsFault.{FailsBy};
@@ -28,7 +26,7 @@ pub(crate) struct Call<'a, 'w> {
 impl Call<'_, '_> {
     // Returns the task of the call. Fails with `BadRing` if the value of `--ring` is not a ring text.
     pub(crate) fn task(&self, alloc: Global) -> Result<Task, WordsFault>
-        requires { IsOneOf command_line.subs self.now.name.now (values_of self.now) }
+        requires { IsCall self.now }
         ensures task { IfOk result (IsTaskFor self.now.name.now (values_of self.now)) }
         ensures range { IfOk result IsInRange }
         ensures good { OnOk result (¬ IsBadCall self.now) }
@@ -50,7 +48,7 @@ impl Call<'_, '_> {
 
     // Returns the task of a command without a ring.
     fn text_task(&self) -> Task
-        requires given { IsOneOf command_line.subs self.now.name.now (values_of self.now) }
+        requires given { IsCall self.now }
         requires no_ring { ¬ IsRingName self.now.name.now }
         ensures task { IsTaskFor self.now.name.now (values_of self.now) result }
         ensures range { IsInRange result }
@@ -60,76 +58,112 @@ impl Call<'_, '_> {
                 ids: self.number(&IDS),
             },
             "print" => Task::Print,
-            "table" => Task::Table {
-                ids: self.number(&IDS),
-                workers: self.number(&WORKERS),
-                near: self.number(&NEAR),
-                far: self.number(&FAR),
-            },
-            "judge" => Task::Judge {
-                ids: self.number(&IDS),
-                workers: self.number(&WORKERS),
-                near: self.number(&NEAR),
-                far: self.number(&FAR),
-            },
             "audit" => Task::Audit,
             "migrate" => Task::Migrate,
-            "formula" => Task::Formula {
-                ids: self.number(&IDS),
-                rounds: self.number(&ROUNDS),
-                channels: self.number(&CHANNELS),
-                near: self.number(&NEAR),
-                far: self.number(&FAR),
-            },
-            "refute" => Task::Refute {
-                ids: self.number(&IDS),
-                rounds: self.number(&ROUNDS),
-                channels: self.number(&CHANNELS),
-                near: self.number(&NEAR),
-                far: self.number(&FAR),
-            },
+            "table" | "judge" => self.table_task(),
+            "formula" | "refute" => self.formula_task(),
             _ => unreachable!(),
+        }
+    }
+
+    // Returns the task of `table` or `judge`.
+    fn table_task(&self) -> Task
+        requires given { IsCall self.now }
+        requires named { (self.now.name.now ≡ codes "table") ⊎ (self.now.name.now ≡ codes "judge") }
+        ensures task { IsTaskFor self.now.name.now (values_of self.now) result }
+        ensures range { IsInRange result }
+    {
+        let ids = self.number(&IDS);
+        let workers = self.number(&WORKERS);
+        let near = self.number(&NEAR);
+        let far = self.number(&FAR);
+        if self.name == "table" {
+            return Task::Table {
+                ids,
+                workers,
+                near,
+                far,
+            };
+        }
+        Task::Judge {
+            ids,
+            workers,
+            near,
+            far,
+        }
+    }
+
+    // Returns the task of `formula` or `refute`.
+    fn formula_task(&self) -> Task
+        requires given { IsCall self.now }
+        requires named { (self.now.name.now ≡ codes "formula") ⊎ (self.now.name.now ≡ codes "refute") }
+        ensures task { IsTaskFor self.now.name.now (values_of self.now) result }
+        ensures range { IsInRange result }
+    {
+        let ids = self.number(&IDS);
+        let rounds = self.number(&ROUNDS);
+        let channels = self.number(&CHANNELS);
+        let near = self.number(&NEAR);
+        let far = self.number(&FAR);
+        if self.name == "formula" {
+            return Task::Formula {
+                ids,
+                rounds,
+                channels,
+                near,
+                far,
+            };
+        }
+        Task::Refute {
+            ids,
+            rounds,
+            channels,
+            near,
+            far,
         }
     }
 
     // Returns the task of a command on this ring.
     fn ring_task(&self, ring: Vec<u32>) -> Task
-        requires given { IsOneOf command_line.subs self.now.name.now (values_of self.now) }
+        requires given { IsCall self.now }
         requires on_ring { IsRingName self.now.name.now }
         requires ring { HasRing (values_of self.now) ring.items }
         ensures task { IsTaskFor self.now.name.now (values_of self.now) result }
         ensures range { IsInRange result }
     {
+        if self.name == "apply" {
+            return Task::Apply { ring };
+        }
+        let ids = self.number(&IDS);
         match self.name {
             "run" => Task::Run {
-                ids: self.number(&IDS),
+                ids,
                 ring,
                 segments: self.number(&SEGMENTS),
             },
             "trace" => Task::Trace {
-                ids: self.number(&IDS),
+                ids,
                 ring,
                 base: Base::of(self.number(&BASE)),
             },
             "explain" => Task::Explain {
-                ids: self.number(&IDS),
+                ids,
                 ring,
                 place: self.number(&PLACE),
                 base: Base::of(self.number(&BASE)),
             },
             "plan" => Task::Plan {
-                ids: self.number(&IDS),
+                ids,
                 ring,
                 workers: self.number(&WORKERS),
             },
-            "apply" => Task::Apply { ring },
             _ => unreachable!(),
         }
     }
 
     // Returns the number that is the value of this option.
     fn number(&self, option: &OptionRow) -> u32
-        requires given { IsOneOf command_line.subs self.now.name.now (values_of self.now) }
+        requires given { IsCall self.now }
         requires taken { IsTaken option.now self.now.name.now }
         ensures number { HasNumber (values_of self.now) option.now.name.now result }
         ensures range { IsBetween option.now.values result }
@@ -143,7 +177,7 @@ impl Call<'_, '_> {
     // Returns the identifiers of the ring's places. Fails with `BadRing` if the text is not a ring
     // text.
     fn ring(&self, alloc: Global) -> Result<Vec<u32>, WordsFault>
-        requires given { IsOneOf command_line.subs self.now.name.now (values_of self.now) }
+        requires given { IsCall self.now }
         requires on_ring { IsRingName self.now.name.now }
         ensures ring { IfOk result (λ ring. HasRing (values_of self.now) ring.items) }
         ensures good { OnOk result (¬ IsRingBad (values_of self.now)) }

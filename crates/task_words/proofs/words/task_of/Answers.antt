@@ -7,9 +7,11 @@ use Rattle.task_words.proofs.words.task_of.Goals.{Joined-matches}
 use Rattle.task_words.proofs.words.task_of.Goals as goal
 
 pub task-requires : goal.task-requires
-task-requires c =
-    command_given (map string_bytes c.args.words.now) c.in-Some.name.now (rows_of (found_of c.in-Some.options.now)) c.in_ok-matches.ensures.taken
-    (call_is (map string_bytes c.args.words.now) c.in_ok-matches.matches c.subcommand.result c.subcommand.ensures.name c.subcommand.ensures.rows c.in_ok-matches.ensures.rows ∙ ap met_of c.in-Some.is)
+task-requires c = record {
+  one =
+      command_given (map string_bytes c.args.words.now) c.in-Some.name.now (rows_of (found_of c.in-Some.options.now)) c.in_ok-matches.ensures.taken
+      (call_is (map string_bytes c.args.words.now) c.in_ok-matches.matches c.subcommand.result c.subcommand.ensures.name c.subcommand.ensures.rows c.in_ok-matches.ensures.rows ∙ ap met_of c.in-Some.is);
+}
 
 pub unreachable-requires : goal.unreachable-requires
 unreachable-requires c =

@@ -27,7 +27,7 @@ refused (Err fault) text values is told (inl bad) = inr (bad, (text, is, (told (
 
 pub unreachable-requires : goal.unreachable-requires
 unreachable-requires c =
-    let given = ring_given c.args.self.now.name.now (rows_of (found_of c.args.self.now.options.now)) c.requires.given c.requires.on_ring in
+    let given = ring_given c.args.self.now.name.now (rows_of (found_of c.args.self.now.options.now)) c.requires.given.one c.requires.on_ring in
     let none : None ≡ Some given.0 = c.in_default.ensures ∙ (first_value-rows (found_of c.args.self.now.options.now) (codes "ring") ∙ given.1) in
     cc
 

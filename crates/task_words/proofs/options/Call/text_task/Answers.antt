@@ -1,8 +1,21 @@
-use Rattle.std.proofs.Common.{arith}
+use Rattle.std.proofs.Common.{inl, inr}
 use Rattle.task_words.proofs.options.Call.text_task.Goals as goal
 
-pub number-requires-in-formula-clause-taken : goal.number-requires-in-formula-clause-taken
-number-requires-in-formula-clause-taken c = grind arith
-
-pub number-requires-in-refute-clause-taken : goal.number-requires-in-refute-clause-taken
-number-requires-in-refute-clause-taken c = grind arith
+-- the command is another than those of the arms, and takes no ring
+pub unreachable-requires : goal.unreachable-requires
+unreachable-requires c = elim c.requires.given.one [
+  | inl one ↦ c.in_default.not-check one.0
+  | inr (inl one) ↦ c.in_default.not-print one.0
+  | inr (inr (inl one)) ↦ c.in_default.not-table one.0
+  | inr (inr (inr (inl one))) ↦ c.in_default.not-judge one.0
+  | inr (inr (inr (inr (inl one)))) ↦ c.requires.no_ring (inl one.0)
+  | inr (inr (inr (inr (inr (inl one))))) ↦ c.requires.no_ring (inr (inl one.0))
+  | inr (inr (inr (inr (inr (inr (inl one)))))) ↦ c.requires.no_ring (inr (inr (inl one.0)))
+  | inr (inr (inr (inr (inr (inr (inr (inl one))))))) ↦ c.requires.no_ring (inr (inr (inr (inl one.0))))
+  | inr (inr (inr (inr (inr (inr (inr (inr (inl one)))))))) ↦ c.in_default.not-audit one.0
+  | inr (inr (inr (inr (inr (inr (inr (inr (inr (inl one))))))))) ↦ c.requires.no_ring (inr (inr (inr (inr one.0))))
+  | inr (inr (inr (inr (inr (inr (inr (inr (inr (inr (inl one)))))))))) ↦ c.in_default.not-migrate one.0
+  | inr (inr (inr (inr (inr (inr (inr (inr (inr (inr (inr (inl one))))))))))) ↦ c.in_default.not-formula one.0
+  | inr (inr (inr (inr (inr (inr (inr (inr (inr (inr (inr (inr (inl one)))))))))))) ↦ c.in_default.not-refute one.0
+  | inr (inr (inr (inr (inr (inr (inr (inr (inr (inr (inr (inr (inr none)))))))))))) ↦ none
+]
