@@ -20,7 +20,7 @@ use win_index::{MAX_ROUNDS, MAX_WINDOW_LEN, Shape};
 
 // The first three numbers of the second line.
 #[derive(Clone, Copy)]
-struct Counts {
+struct HeaderCounts {
     rounds: u32,
     ids: u32,
     channels: u32,
@@ -64,7 +64,7 @@ pub(crate) fn after_end(text: &[u8]) -> Option<&[u8]>
 
 // Returns the first three numbers of the second line, the last of which is followed by the byte
 // `end`, and the text after that byte.
-fn three_counts(text: &[u8], end: u8) -> Option<(Counts, &[u8])>
+fn three_counts(text: &[u8], end: u8) -> Option<(HeaderCounts, &[u8])>
     requires { end < 48 }
     ensures counts { IfSome result (λ read. text.now ≡ counts_then read.0.rounds read.0.ids read.0.channels end read.1.now) }
     ensures fit { IfSome result (λ read. (read.0.rounds < 2 ^ 32) × (read.0.ids < 2 ^ 32) × (read.0.channels < 2 ^ 32)) }
@@ -74,7 +74,7 @@ fn three_counts(text: &[u8], end: u8) -> Option<(Counts, &[u8])>
     let (rounds, rest) = field(text, b"rounds ", b' ')?;
     let (ids, rest) = field(rest, b"ids ", b' ')?;
     let (channels, rest) = field(rest, b"channels ", end)?;
-    let counts = Counts {
+    let counts = HeaderCounts {
         rounds,
         ids,
         channels,
@@ -84,7 +84,7 @@ fn three_counts(text: &[u8], end: u8) -> Option<(Counts, &[u8])>
 
 // Returns the shape with these numbers of rounds and identifiers, or `None` if they and the number
 // of channels are not those of a table.
-fn shape_of(counts: Counts) -> Option<Shape>
+fn shape_of(counts: HeaderCounts) -> Option<Shape>
     ensures shape { IfSome result (λ shape. (shape.ids ≡ counts.ids) × (shape.rounds ≡ counts.rounds)) }
     ensures range { IfSome result (λ _. AreSizes counts.rounds counts.ids counts.channels) }
     ensures none { IfNone result (¬ AreSizes counts.rounds counts.ids counts.channels) }

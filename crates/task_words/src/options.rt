@@ -1,7 +1,7 @@
 //! The task of a command, from the values of its options.
 
 ghost use Rattle.std.specs.Prelude.{◌≡◌, ◌⊎◌, ◌↔◌, IsTrue, IfOk, OnOk, codes};
-ghost use Rattle.task_words.specs.Options.{IsBadCall, IsCall, IsBetween, IsTaken, values_of};
+ghost use Rattle.task_words.specs.Options.{IsBadCall, IsBetween, IsCall, IsTaken, values_of};
 ghost use Rattle.task_words.specs.Task.{IsInRange};
 ghost use Rattle.task_words.specs.Words.{HasNumber, HasRing, IsRingBad, IsRingName, IsTaskFor};
 ghost use Rattle.task_words.specs.WordsFault.{FailsBy};
