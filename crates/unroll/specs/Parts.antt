@@ -56,7 +56,7 @@ pub record IsFirstPart (plan : ProgramForIds) (entries : Entries) (low : ℕ) (f
   pub sent_is : first.sent ≡ to_right plan.program low (middle_state plan.program low (window_numbered plan.ids low first.number))
   pub known : IsSome (entries low (first.number / BLOCK_WINDOWS))
 
--- so for the window w, one level above
+-- the first part of the window w, one level above low, by its number
 pub record IsFirstPartOf (plan : ProgramForIds) (entries : Entries) (low : ℕ) (w : List ℕ) (first : FirstPart) : Type 0 where
   pub number_is : slice_get (windows (2 * low + 1) plan.ids) first.number ≡ Some (part w low 0)
   pub first_is : IsFirstPart plan entries low first

@@ -71,7 +71,8 @@ pub record AreGathered (entries : Entries) (block : UpperBlock) (count : ℕ) (s
   pub fronts : HoldFronts block count scratch
   pub taken : AreTaken entries block count scratch.from_right.items
 
--- so were those of the windows before the index `end`, and the first two parts of those from an index on are a run's
+-- the last parts of the windows before the index `end` were taken so, and those from an index on have the first two parts
+-- of a run
 pub record AreTakenInRun (entries : Entries) (block : UpperBlock) (run : Run) (from end : ℕ) (sent : List ℕ) : Type 0 where
   pub fronts : (i : ℕ) → from ≤ i → i < end → HasFronts block run i
   pub taken : AreTaken entries block end sent
