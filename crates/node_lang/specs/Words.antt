@@ -1,5 +1,6 @@
 -- The words of a program text, and the token that each of them is.
 use Rattle.std.specs.Prelude.{ℕ, ◌+◌, ◌-◌, ◌*◌, ◌^◌, ◌==◌, ◌&&◌, ◌||◌, Bool, nat_lt, nat_le, List, [], ◌∷◌, Option, Some, None, codes, find, if◌then◌else◌}
+use Rattle.std.specs.Borrow.{Bor}
 use Rattle.std.specs.List.{list_all}
 use Rattle.std.specs.Str.{bytes_eq}
 use Rattle.node_program.specs.declared.tree.UnOp.{UnOp}
@@ -74,6 +75,11 @@ operations = token.One Not ∷ token.Two op.And ∷ token.Two op.Or ∷ token.Tw
 -- the token among these that has this spelling
 abbrev pub named : List Token → List ℕ → Option Token
 named tokens word = find (λ t. bytes_eq word (word_of t)) tokens
+
+-- the token of the first row with this word
+abbrev pub token_in : List (Bor (List ℕ) × Token) → List ℕ → Option Token
+token_in [] word = None
+token_in (row ∷ rows) word = if bytes_eq word row.0.now then Some row.1 else token_in rows word
 
 -- the number of decimal digits that follow those of n
 abbrev pub read_on : ℕ → List ℕ → ℕ

@@ -4,7 +4,7 @@ ghost use Rattle.std.specs.List.{list_all};
 ghost use Rattle.std.specs.Option.{SomeIff};
 ghost use Rattle.node_program.specs.Term.{term_of};
 ghost use Rattle.node_lang.specs.Printed.{operation_name as name_of};
-ghost use Rattle.node_lang.specs.Words.{is_blank as blank, is_digit as digit, is_word_byte as word_byte, mark_token as mark, register_named, named, keywords, operations, read_on, word_token};
+ghost use Rattle.node_lang.specs.Words.{is_blank as blank, is_digit as digit, is_word_byte as word_byte, mark_token as mark, register_named, named, keywords, operations, read_on, token_in, word_token};
 
 use crate::token::Token;
 use node_program::{BinOp, Expr, UnOp};
@@ -33,39 +33,67 @@ fn is_number(word: &[u8]) -> bool
     word.iter().all(|byte| is_digit(*byte))
 }
 
-// The token of a word, one line per word.
-macro_rules! words {
-    ($word:expr; $($name:literal => $token:expr,)*) => {
-        match $word {
-            $(word if word == $name.as_slice() => Some($token),)*
-            _ => None,
+// The names of the operations, and their tokens.
+const OPERATIONS: [(&str, Token); 17] = [
+    ("not", Token::One(UnOp::Not)),
+    ("and", Token::Two(BinOp::And)),
+    ("or", Token::Two(BinOp::Or)),
+    ("xor", Token::Two(BinOp::Xor)),
+    ("shl", Token::Two(BinOp::Shl)),
+    ("shr", Token::Two(BinOp::Shr)),
+    ("add", Token::Two(BinOp::Add)),
+    ("sub", Token::Two(BinOp::Sub)),
+    ("min", Token::Two(BinOp::Min)),
+    ("max", Token::Two(BinOp::Max)),
+    ("ldb", Token::Two(BinOp::Ldb)),
+    ("bit", Token::Two(BinOp::Bit)),
+    ("eq", Token::Two(BinOp::Eq)),
+    ("ne", Token::Two(BinOp::Ne)),
+    ("lt", Token::Two(BinOp::Lt)),
+    ("le", Token::Two(BinOp::Le)),
+    ("if", Token::If),
+];
+
+// The other words, and their tokens.
+const KEYWORDS: [(&str, Token); 12] = [
+    ("rounds", Token::Rounds),
+    ("channels", Token::Channels),
+    ("registers", Token::Registers),
+    ("start", Token::Start),
+    ("round", Token::Round),
+    ("send", Token::Send),
+    ("left", Token::Left),
+    ("right", Token::Right),
+    ("finish", Token::Finish),
+    ("id", Token::Id),
+    ("L", Token::FromLeft),
+    ("R", Token::FromRight),
+];
+
+// Returns the token of a word by the row that has it.
+fn token_in(rows: &[(&str, Token)], word: &[u8]) -> Option<Token>
+    ensures { result ≡ token_in rows.now word.now }
+{
+    'rows: for row in rows {
+        if word == row.0.as_bytes() {
+            return Some(row.1);
         }
-    };
+    }
+    None
 }
 
-// Returns the operation with this name, one line per operation of the language.
+// Returns the token of the operation with this name.
 fn operation(word: &[u8]) -> Option<Token>
     ensures { result ≡ named operations word.now }
 {
-    words! { word;
-        b"not" => Token::One(UnOp::Not),
-        b"and" => Token::Two(BinOp::And),
-        b"or" => Token::Two(BinOp::Or),
-        b"xor" => Token::Two(BinOp::Xor),
-        b"shl" => Token::Two(BinOp::Shl),
-        b"shr" => Token::Two(BinOp::Shr),
-        b"add" => Token::Two(BinOp::Add),
-        b"sub" => Token::Two(BinOp::Sub),
-        b"min" => Token::Two(BinOp::Min),
-        b"max" => Token::Two(BinOp::Max),
-        b"ldb" => Token::Two(BinOp::Ldb),
-        b"bit" => Token::Two(BinOp::Bit),
-        b"eq" => Token::Two(BinOp::Eq),
-        b"ne" => Token::Two(BinOp::Ne),
-        b"lt" => Token::Two(BinOp::Lt),
-        b"le" => Token::Two(BinOp::Le),
-        b"if" => Token::If,
-    }
+    token_in(&OPERATIONS, word)
+}
+
+// Returns the token of any other fixed word.
+fn keyword(word: &[u8]) -> Option<Token>
+    ensures { result ≡ named keywords word.now }
+{
+    token_in(&KEYWORDS, word)
 }
 
 // The name of each operation, one line each.
@@ -115,25 +143,6 @@ pub(crate) fn operation_name(expression: &Expr) -> &'static str
             Le => "le",
         }
         choose => "if"
-    }
-}
-
-fn keyword(word: &[u8]) -> Option<Token>
-    ensures { result ≡ named keywords word.now }
-{
-    words! { word;
-        b"rounds" => Token::Rounds,
-        b"channels" => Token::Channels,
-        b"registers" => Token::Registers,
-        b"start" => Token::Start,
-        b"round" => Token::Round,
-        b"send" => Token::Send,
-        b"left" => Token::Left,
-        b"right" => Token::Right,
-        b"finish" => Token::Finish,
-        b"id" => Token::Id,
-        b"L" => Token::FromLeft,
-        b"R" => Token::FromRight,
     }
 }
 
