@@ -131,33 +131,53 @@ impl Call<'_, '_> {
         ensures task { IsTaskFor self.now.name.now (values_of self.now) result }
         ensures range { IsInRange result }
     {
-        if self.name == "apply" {
-            return Task::Apply { ring };
-        }
-        let ids = self.number(&IDS);
         match self.name {
-            "run" => Task::Run {
+            "run" | "plan" => self.run_task(ring),
+            "trace" | "explain" => self.shown_task(ring),
+            _ => Task::Apply { ring },
+        }
+    }
+
+    // Returns the task of `run` or `plan` on this ring.
+    fn run_task(&self, ring: Vec<u32>) -> Task
+        requires given { IsCall self.now }
+        requires named { (self.now.name.now ≡ codes "run") ⊎ (self.now.name.now ≡ codes "plan") }
+        requires ring { HasRing (values_of self.now) ring.items }
+        ensures task { IsTaskFor self.now.name.now (values_of self.now) result }
+        ensures range { IsInRange result }
+    {
+        let ids = self.number(&IDS);
+        if self.name == "run" {
+            let segments = self.number(&SEGMENTS);
+            return Task::Run {
                 ids,
                 ring,
-                segments: self.number(&SEGMENTS),
-            },
-            "trace" => Task::Trace {
-                ids,
-                ring,
-                base: Base::of(self.number(&BASE)),
-            },
-            "explain" => Task::Explain {
-                ids,
-                ring,
-                place: self.number(&PLACE),
-                base: Base::of(self.number(&BASE)),
-            },
-            "plan" => Task::Plan {
-                ids,
-                ring,
-                workers: self.number(&WORKERS),
-            },
-            _ => unreachable!(),
+                segments,
+            };
+        }
+        let workers = self.number(&WORKERS);
+        Task::Plan { ids, ring, workers }
+    }
+
+    // Returns the task of `trace` or `explain` on this ring.
+    fn shown_task(&self, ring: Vec<u32>) -> Task
+        requires given { IsCall self.now }
+        requires named { (self.now.name.now ≡ codes "trace") ⊎ (self.now.name.now ≡ codes "explain") }
+        requires ring { HasRing (values_of self.now) ring.items }
+        ensures task { IsTaskFor self.now.name.now (values_of self.now) result }
+        ensures range { IsInRange result }
+    {
+        let ids = self.number(&IDS);
+        let base = Base::of(self.number(&BASE));
+        if self.name == "trace" {
+            return Task::Trace { ids, ring, base };
+        }
+        let place = self.number(&PLACE);
+        Task::Explain {
+            ids,
+            ring,
+            place,
+            base,
         }
     }
 
