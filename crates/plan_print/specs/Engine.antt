@@ -16,7 +16,7 @@ use Rattle.devices.specs.declared.watched.Watched.{Watched}
 use Rattle.reports.specs.Report.{Report}
 use Rattle.reports.specs.Written.{MayHave}
 use Rattle.plan_print.specs.TaskReport.{IsReport}
-use Rattle.reports.specs.Notes.{IsNoteOn}
+use Rattle.report_notes.specs.Notes.{IsNoteOn}
 use Rattle.plan_print.specs.declared.engine.Reported.{Reported}
 
 -- the maximum number of bytes that are read of the input of a task: one more than the length of the longest text that the

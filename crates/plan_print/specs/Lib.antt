@@ -40,7 +40,7 @@ pub use Rattle.channel_tables.specs.Witnesses
 pub use Rattle.nbhd_check.specs.Verdicts
 pub use Rattle.border_exchange.specs.SegmentCounts
 pub use Rattle.reports.specs.Causes
-pub use Rattle.reports.specs.Notes
+pub use Rattle.report_notes.specs.Notes
 pub use Rattle.reports.specs.Written
 pub mod FirstTuples
 pub mod Engine

@@ -3,7 +3,7 @@
 ghost use Rattle.std.specs.Prelude.{◌≡◌, false, IfSome};
 ghost use Rattle.task_words.specs.Task.{IsRunnable};
 ghost use Rattle.devices.specs.Watched.{has_failed};
-ghost use Rattle.reports.specs.Notes.{IsNoteOn, IsFound};
+ghost use Rattle.report_notes.specs.Notes.{IsNoteOn, IsFound};
 ghost use Rattle.reports.specs.Causes.{reason_in};
 ghost use Rattle.plan_print.specs.Engine.{max_read, streams_of, DoesTask, WritesReport, TellsReport};
 
@@ -15,8 +15,8 @@ use devices::watched::Watched;
 use node_lang::LONGEST_TEXT;
 use node_program::OutOfMemory;
 use refutation::LONGEST_REFUTATION;
+use report_notes::note_on;
 use reports::cause::Cause;
-use reports::note::note_on;
 use reports::status::Status;
 use reports::writing::write_answer;
 use std::alloc::Global;

@@ -31,9 +31,9 @@ use Rattle.task_words.specs.declared.task.Task.TheVariants.{Print, Table, Judge,
 use Rattle.reports.specs.declared.status.Status.TheVariants.{Done, No}
 use Rattle.reports.specs.Lines.{line, numbers_text}
 use Rattle.refutation.specs.declared.fault.RefuteError.TheVariants as refute
-use Rattle.reports.specs.FormulaNotes.{MayHaveAdvice}
+use Rattle.report_notes.specs.FormulaNotes.{MayHaveAdvice}
 use Rattle.reports.specs.Causes.{Reason, of_ring, of_place, of_segments, of_refutation, of_no, of_no_tuples}
-use Rattle.reports.specs.Notes.{IsNote}
+use Rattle.report_notes.specs.Notes.{IsNote}
 use Rattle.reports.specs.Report.{Report, Says, lines_of_places, place_lines}
 use Rattle.plan_print.specs.TaskReport.{IsReport}
 

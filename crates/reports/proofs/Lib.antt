@@ -3,4 +3,3 @@ pub mod Aligned
 pub mod NotRing
 pub mod TableLines
 pub mod Refused
-pub mod Pieces

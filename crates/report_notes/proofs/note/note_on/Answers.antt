@@ -2,8 +2,8 @@ use Rattle.std.proofs.Common.{◌≡◌, IfOk, string_bytes, subst, sym}
 use Rattle.std.specs.Prelude.{Result, Ok, Err}
 use Rattle.reports.specs.declared.cause.Cause.{Cause}
 use Rattle.reports.specs.Causes.{reason_of}
-use Rattle.reports.specs.Notes.{IsNote, IsFound}
-use Rattle.reports.proofs.note.note_on.Goals as goal
+use Rattle.report_notes.specs.Notes.{IsNote, IsFound}
+use Rattle.report_notes.proofs.note.note_on.Goals as goal
 
 -- what holds of a result by a fact, and without it
 by_fact : {A E : Type 0} (r : Result A E) (F : Type 0) (P Q : A → Type 0) → (F → IfOk r P) → (¬ F → IfOk r Q)

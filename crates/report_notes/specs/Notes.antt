@@ -17,7 +17,7 @@ use Rattle.table_notes.specs.TableNotes.{long_note, IsFormNote, IsWindowNote, ch
 use Rattle.table_notes.specs.VerdictNotes.{no_tuples_note, verdict_note, HasPlaces}
 use Rattle.refutation.specs.declared.fault.RefuteError.TheVariants as refute
 use Rattle.reports.specs.Causes.{Reason, of_text, of_program, of_ring, of_place, of_segments, of_table_text, of_formula, of_refutation, of_no, of_no_tuples}
-use Rattle.reports.specs.FormulaNotes.{IsFormulaNote, IsRefutationNote}
+use Rattle.report_notes.specs.FormulaNotes.{IsFormulaNote, IsRefutationNote}
 
 -- the note on a fault of a table text; OutOfMemory is no fault of one
 abbrev pub IsTableNote : List ℕ → TableFault → List ℕ → Type 0

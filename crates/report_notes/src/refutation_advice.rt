@@ -1,7 +1,7 @@
 //! Advice on a line of a text that is no refutation. It promises nothing.
 
 ghost use Rattle.std.specs.Prelude.{◌≡◌, ◌≤◌, [], length};
-ghost use Rattle.reports.specs.FormulaNotes.{MayHaveAdvice};
+ghost use Rattle.report_notes.specs.FormulaNotes.{MayHaveAdvice};
 
 use refutation::LineFault;
 use source_places::{TextKind, after_line, first_line_len, kind_advice, line_kind};

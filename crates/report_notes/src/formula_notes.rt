@@ -3,13 +3,13 @@
 
 ghost use Rattle.std.specs.Prelude.{◌≡◌, ◌≤◌, ◌++◌, IfOk, OnOk, string_bytes};
 ghost use Rattle.win_index.specs.declared.limits.TheConstants.{MAX_ROUNDS};
-ghost use Rattle.reports.specs.FormulaNotes as notes;
+ghost use Rattle.report_notes.specs.FormulaNotes as notes;
 
-use crate::problem::ProblemFault;
 use crate::refutation_advice::line_advice;
 use fault_notes::ids_note;
 use node_program::OutOfMemory;
 use refutation::{LineFault, RefuteError};
+use reports::problem::ProblemFault;
 use source_places::{from_line, write_marked_line};
 use std::alloc::{AllocError, Global};
 use std::fmt::Write;

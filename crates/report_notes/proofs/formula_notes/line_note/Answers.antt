@@ -1,6 +1,6 @@
 use Rattle.source_places.specs.Shown.{marked_line}
-use Rattle.reports.proofs.Pieces.{line_pieces}
-use Rattle.reports.proofs.formula_notes.line_note.Goals as goal
+use Rattle.report_notes.proofs.Pieces.{line_pieces}
+use Rattle.report_notes.proofs.formula_notes.line_note.Goals as goal
 
 -- The pieces of the note, one after another.
 pub returns : goal.returns

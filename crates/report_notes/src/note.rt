@@ -2,13 +2,13 @@
 
 ghost use Rattle.std.specs.Prelude.{◌≢◌, IfOk, string_bytes};
 ghost use Rattle.reports.specs.Causes.{reason_of};
-ghost use Rattle.reports.specs.Notes.{IsNote, IsTableNote, IsFound};
+ghost use Rattle.report_notes.specs.Notes.{IsNote, IsTableNote, IsFound};
 ghost use Rattle.table_text.specs.Faults.{IsFault};
 
-use crate::cause::Cause;
 use crate::formula_notes::{formula_note, refutation_note};
 use fault_notes::{check_note, text_note};
 use node_program::OutOfMemory;
+use reports::cause::Cause;
 use std::alloc::Global;
 use table_notes::{
     channel_note, form_note, long_note, no_tuples_note, place_note, ring_note, segments_note,
