@@ -4,7 +4,7 @@ ghost use Rattle.border_exchange.specs.InRounds.{AreInRounds};
 ghost use Rattle.border_exchange.specs.SeatState.{IsNext, IsPutFault};
 ghost use Rattle.border_exchange.specs.declared.Side.TheVariants.{Rightward, Leftward};
 
-use crate::lists::Lists;
+use crate::lists::BorderLists;
 use crate::seat::Seat;
 use crate::{Dated, PutFault, Side, Totals};
 use node_program::OutOfMemory;
@@ -17,7 +17,7 @@ use std::sync::{Condvar, Mutex, Wait};
 /// with one share.
 #[derive(Drop)]
 pub struct Border<M: Dated, R: Ledger, L: Ledger> {
-    lists: Mutex<Lists<M, R, L>>,
+    lists: Mutex<BorderLists<M, R, L>>,
     moved: Condvar,
 }
 
@@ -36,7 +36,7 @@ impl<M: Dated + Copy, R: Ledger, L: Ledger> Border<M, R, L> {
     {
         let (right_book, right_share) = right.open::<R>();
         let (left_book, left_share) = left.open::<L>();
-        let lists = Lists::new(alloc, right_book, left_book)?;
+        let lists = BorderLists::new(alloc, right_book, left_book)?;
         let border = Border {
             lists: Mutex::new(lists),
             moved: Condvar::new(),

@@ -16,13 +16,13 @@ use std::sync::ledger::{Book, Ledger};
 
 /// The lists of both sides, and whether the border was closed.
 #[derive(Drop)]
-pub(crate) struct Lists<M: Dated, R: Ledger, L: Ledger> {
+pub(crate) struct BorderLists<M: Dated, R: Ledger, L: Ledger> {
     pub(crate) rightward: SideList<M, R>,
     pub(crate) leftward: SideList<M, L>,
     closed: bool,
 }
 
-impl<M: Dated, R: Ledger, L: Ledger> Model for Lists<M, R, L> {
+impl<M: Dated, R: Ledger, L: Ledger> Model for BorderLists<M, R, L> {
     ghost use Rattle.std.specs.Prelude.{◌≡◌};
     ghost use Rattle.border_exchange.specs.BorderContents.{BorderContents};
     ghost use Rattle.border_exchange.specs.declared.Side.TheVariants.{Rightward, Leftward};
@@ -34,17 +34,17 @@ impl<M: Dated, R: Ledger, L: Ledger> Model for Lists<M, R, L> {
     ghost invariant = { λ b. (b.rightward.side ≡ Rightward) × (b.leftward.side ≡ Leftward) };
 }
 
-impl<M: Dated + Copy, R: Ledger, L: Ledger> Lists<M, R, L> {
+impl<M: Dated + Copy, R: Ledger, L: Ledger> BorderLists<M, R, L> {
     pub(crate) fn new(
         alloc: Global,
         right: Book<R>,
         left: Book<L>,
-    ) -> Result<Lists<M, R, L>, OutOfMemory>
+    ) -> Result<BorderLists<M, R, L>, OutOfMemory>
         requires empty { (right.total ≡ 0) × (left.total ≡ 0) }
         requires whole { (R.parts ≡ 1) × (L.parts ≡ 1) }
         ensures { IfOk result (λ lists. lists ≡ record { rightward = []; leftward = []; closed = false }) }
     {
-        Ok(Lists {
+        Ok(BorderLists {
             rightward: SideList::new(alloc, Side::Rightward, right)?,
             leftward: SideList::new(alloc, Side::Leftward, left)?,
             closed: false,
@@ -115,7 +115,7 @@ impl<M: Dated + Copy, R: Ledger, L: Ledger> Lists<M, R, L> {
         ensures rightward { AreInRounds M.side_of M.round_of Rightward result.rightward.items }
         ensures leftward { AreInRounds M.side_of M.round_of Leftward result.leftward.items }
     {
-        let Lists {
+        let BorderLists {
             rightward,
             leftward,
             closed: _,

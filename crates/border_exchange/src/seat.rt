@@ -1,7 +1,7 @@
 //! The right to put on one side of a border.
 ghost use Rattle.std.specs.Prelude.{◌≡◌, ◌+◌, ◌^◌, ◌<◌, ◌∷◌, ◌++◌, [], OnOk, OnErr, IfErr, length};
 
-use crate::lists::Lists;
+use crate::lists::BorderLists;
 use crate::{Dated, Side};
 use std::marker::Model;
 use std::sync::ledger::{Ledger, Share};
@@ -76,7 +76,7 @@ impl<R: Ledger, L: Ledger> Seat<R, L> {
     }
 
     /// Proves that the seat has put as many messages as there are on its side.
-    pub(crate) fn audit<M: Dated + Copy>(&mut self, lists: &mut Lists<M, R, L>)
+    pub(crate) fn audit<M: Dated + Copy>(&mut self, lists: &mut BorderLists<M, R, L>)
         ensures unchanged { (self.new ≡ self.old) × (lists.new ≡ lists.old) }
         ensures counted { self.old.puts ≡ length (messages_of lists.old self.old.side) }
     {
@@ -90,7 +90,7 @@ impl<R: Ledger, L: Ledger> Seat<R, L> {
     /// the message is returned and nothing else changes.
     pub(crate) fn append<M: Dated + Copy>(
         &mut self,
-        lists: &mut Lists<M, R, L>,
+        lists: &mut BorderLists<M, R, L>,
         message: M,
     ) -> Result<(), M>
         requires next { IsNext M.side_of M.round_of self.old message × (self.old.puts < 2 ^ 24) }

@@ -2,9 +2,9 @@
 ghost use Rattle.fill_core.specs.FillMachine.{Steps};
 ghost use Rattle.fill_core.specs.FillStates.{machine_of};
 
-use crate::state::{FillEvent, World};
+use crate::state::{FillEvent, FillState};
 
-impl<'a> World<'a> {
+impl<'a> FillState<'a> {
     // Lets a worker draw the next job, or stop.
     pub(crate) fn draw(&mut self, worker: u32)
         ensures { Steps (machine_of self.old) (FillEvent.Draw worker) (machine_of self.new) }

@@ -5,8 +5,8 @@ ghost use Rattle.fill_core.specs.FillMachine.{Steps, MarksBelow, block_by};
 ghost use Rattle.fill_core.specs.FillPromises.{IsConsistent, MarkedAreFull};
 ghost use Rattle.fill_core.specs.FillStates.{machine_of};
 
-use crate::known::Known;
-use crate::state::{FillEvent, World};
+use crate::known::KnownCells;
+use crate::state::{FillEvent, FillState};
 use lang_check::Plan;
 use node_program::OutOfMemory;
 use std::alloc::Global;
@@ -18,7 +18,7 @@ use window_states::Block;
 fn make_known<'a, 's>(
     alloc: Global,
     plan: &'a Plan,
-    known: &mut Known<'s>,
+    known: &mut KnownCells<'s>,
     level: u32,
     number: u32,
     maker: u32,
@@ -36,7 +36,7 @@ fn make_known<'a, 's>(
     }
 }
 
-impl<'a> World<'a> {
+impl<'a> FillState<'a> {
     // Lets a worker install the block of a level and a number.
     pub(crate) fn install(
         &mut self,
@@ -58,7 +58,7 @@ impl<'a> World<'a> {
         if self.cells[job as usize].is_some() {
             return Ok(());
         }
-        let mut known = Known {
+        let mut known = KnownCells {
             plan: self.plan,
             cells: &self.cells,
             knows: &hand.knows,

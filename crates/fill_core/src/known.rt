@@ -11,7 +11,7 @@ use window_states::{Block, Source};
 
 // The cells that a worker knows.
 #[derive(Drop)]
-pub struct Known<'s> {
+pub struct KnownCells<'s> {
     pub plan: &'s Plan,
     pub cells: &'s [Option<Block<'s>>],
     pub knows: &'s [bool],
@@ -19,7 +19,7 @@ pub struct Known<'s> {
     pub ghost marks: { length knows.now ≡ job_count plan.now },
 }
 
-impl<'s> Source<'s> for Known<'s> {
+impl<'s> Source<'s> for KnownCells<'s> {
     ghost plan = { λ s. s.plan.now };
 
     ghost entries = { λ s. known_entries s.plan.now s.cells.now s.knows.now };

@@ -4,7 +4,7 @@ ghost use Rattle.fill_core.specs.FillMachine.{Steps, learned};
 ghost use Rattle.fill_core.specs.FillPromises.{IsConsistent};
 ghost use Rattle.fill_core.specs.FillStates.{machine_of, worker_of};
 
-use crate::state::{FillEvent, Hand, World};
+use crate::state::{FillEvent, FillState, Hand};
 
 impl Hand {
     // Marks the job as known, and takes it out of the worker's hand if it is there.
@@ -19,7 +19,7 @@ impl Hand {
     }
 }
 
-impl<'a> World<'a> {
+impl<'a> FillState<'a> {
     // Lets a worker look at the cell of a level and a number.
     pub(crate) fn look(&mut self, worker: u32, level: u32, number: u32)
         requires { IsConsistent (machine_of self.old) }

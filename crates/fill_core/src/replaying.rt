@@ -4,7 +4,7 @@ ghost use Rattle.fill_core.specs.FillMachine.{Steps, Runs, idle, opening as open
 ghost use Rattle.fill_core.specs.FillPromises.{IsConsistent, Follows};
 ghost use Rattle.fill_core.specs.FillStates.{machine_of, worker_of};
 
-use crate::state::{FillEvent, Hand, World};
+use crate::state::{FillEvent, FillState, Hand};
 use lang_check::Plan;
 use node_program::OutOfMemory;
 use std::alloc::Global;
@@ -17,7 +17,7 @@ pub(crate) fn run<'a>(
     plan: &'a Plan,
     workers: u32,
     events: &[FillEvent],
-) -> Result<World<'a>, OutOfMemory>
+) -> Result<FillState<'a>, OutOfMemory>
     requires { 1 ≤ workers }
     ensures runs { IfOk result (λ world. Runs (opening_of plan.now workers) events.now (machine_of world)) }
     ensures follows { IfOk result (λ world. Follows (opening_of plan.now workers) (machine_of world)) }
@@ -30,7 +30,7 @@ pub(crate) fn run<'a>(
     Ok(world)
 }
 
-impl<'a> World<'a> {
+impl<'a> FillState<'a> {
     // Applies an event.
     fn step(&mut self, alloc: Global, event: FillEvent) -> Result<(), OutOfMemory>
         requires { IsConsistent (machine_of self.old) }
@@ -48,11 +48,11 @@ impl<'a> World<'a> {
 }
 
 // Returns the opening state: empty cells, no job drawn, and workers that know nothing.
-fn opening<'a>(alloc: Global, plan: &'a Plan, workers: u32) -> Result<World<'a>, OutOfMemory>
+fn opening<'a>(alloc: Global, plan: &'a Plan, workers: u32) -> Result<FillState<'a>, OutOfMemory>
     ensures { IfOk result (λ world. machine_of world ≡ opening_of plan.now workers) }
 {
     let jobs = plan.shape().jobs() as usize;
-    Ok(World {
+    Ok(FillState {
         plan,
         cells: empty_cells(alloc, jobs)?,
         next: 0,

@@ -1,6 +1,6 @@
 //! The state after a list of events.
 use crate::replaying::run;
-use crate::state::{FillEvent, World};
+use crate::state::{FillEvent, FillState};
 use lang_check::Plan;
 use node_program::OutOfMemory;
 use std::alloc::Global;
@@ -13,7 +13,7 @@ use window_states::Block;
 /// has reads as a stopped worker that has no job in hand and knows no block.
 #[derive(Drop)]
 pub struct FillWorld<'a> {
-    world: World<'a>,
+    world: FillState<'a>,
 }
 
 impl<'a> Model for FillWorld<'a> {

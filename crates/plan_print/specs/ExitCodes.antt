@@ -8,7 +8,7 @@ use Rattle.reports.specs.declared.status.Status.TheVariants.{Done}
 use Rattle.devices.specs.FaultCodes.{engine_fault_code}
 use Rattle.devices.specs.declared.fault.EngineFault.{EngineFault}
 use Rattle.devices.specs.declared.fault.EngineFault.TheVariants.{Write}
-use Rattle.task_words.specs.Answers.{IsParsed}
+use Rattle.task_words.specs.ParsedWords.{IsParsed}
 use Rattle.task_words.specs.Task.{IsRunnable}
 use Rattle.task_words.specs.WordsFault.{words_fault_code}
 use Rattle.task_words.specs.declared.task.Task.{Task}

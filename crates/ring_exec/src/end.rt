@@ -17,7 +17,7 @@ use std::sync::{Arc, Wait};
 
 // Why a segment stops before its last round.
 #[derive(Drop)]
-pub(crate) enum Stop {
+pub(crate) enum RunStop {
     // One of its borders is closed.
     BorderClosed,
     // The segment's own fault.
@@ -25,23 +25,23 @@ pub(crate) enum Stop {
 }
 
 // Returns why a segment stops whose message was not put.
-fn stop_of(fault: PutFault) -> Stop
+fn stop_of(fault: PutFault) -> RunStop
     ensures { result ≡ stop_of fault }
 {
     match fault {
-        PutFault::Closed => Stop::BorderClosed,
-        PutFault::Misplaced => Stop::Fault(WorkFault::Stranger),
-        PutFault::OutOfMemory => Stop::Fault(WorkFault::OutOfMemory),
+        PutFault::Closed => RunStop::BorderClosed,
+        PutFault::Misplaced => RunStop::Fault(WorkFault::Stranger),
+        PutFault::OutOfMemory => RunStop::Fault(WorkFault::OutOfMemory),
     }
 }
 
-impl From<Strange> for Stop {
-    ghost use Rattle.ring_exec.specs.declared.end.Stop.TheVariants.{Fault};
+impl From<Strange> for RunStop {
+    ghost use Rattle.ring_exec.specs.declared.end.RunStop.TheVariants.{Fault};
 
     ghost from_gives = { λ _ stop. stop ≡ Fault Stranger };
 
-    fn from(_strange: Strange) -> Stop {
-        Stop::Fault(WorkFault::Stranger)
+    fn from(_strange: Strange) -> RunStop {
+        RunStop::Fault(WorkFault::Stranger)
     }
 }
 
@@ -53,10 +53,10 @@ pub(crate) struct End<M: Dated, N: BorderName> {
 }
 
 impl<M: Dated + Copy, N: BorderName> End<M, N> {
-    ghost use Rattle.ring_exec.specs.declared.end.Stop.TheVariants.{BorderClosed, Fault};
+    ghost use Rattle.ring_exec.specs.declared.end.RunStop.TheVariants.{BorderClosed, Fault};
 
     // Puts the next message of its seat.
-    pub(crate) fn put<R: Wait>(&mut self, rt: &R, message: M) -> Result<(), Stop>
+    pub(crate) fn put<R: Wait>(&mut self, rt: &R, message: M) -> Result<(), RunStop>
         requires next { IsNext M.side_of M.round_of self.old.seat message }
         requires few { self.old.seat.puts < MAX_ROUNDS }
         ensures put { OnOk result (self.new.seat ≡ record self.old.seat { puts = self.old.seat.puts + 1 }) }
@@ -69,13 +69,13 @@ impl<M: Dated + Copy, N: BorderName> End<M, N> {
     }
 
     // Takes the neighbour's message of this round, and waits for it.
-    pub(crate) fn take<R: Wait>(&self, rt: &R, round: u32) -> Result<M, Stop>
+    pub(crate) fn take<R: Wait>(&self, rt: &R, round: u32) -> Result<M, RunStop>
         ensures message { IfOk result (λ m. (M.side_of m ≡ opposite self.now.seat.side) × (M.round_of m ≡ round)) }
         ensures closed { IfErr result (λ stop. stop ≡ BorderClosed) }
     {
         self.border
             .take(rt, opposite(self.seat.side()), round)
-            .ok_or(Stop::BorderClosed)
+            .ok_or(RunStop::BorderClosed)
     }
 
     // Closes the border for both neighbours.

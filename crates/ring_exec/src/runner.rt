@@ -4,11 +4,11 @@ ghost use Rattle.border_exchange.specs.declared.Side.TheVariants.{Rightward, Lef
 ghost use Rattle.border_exchange.specs.Headings.{heading_of};
 ghost use Rattle.border_exchange.specs.Needs as needs;
 ghost use Rattle.ring_exec.specs.Seats.{AreOfRound, AreSeatsOf, HasRoundToDo};
-ghost use Rattle.ring_exec.specs.declared.end.Stop.TheVariants.{BorderClosed, Fault};
+ghost use Rattle.ring_exec.specs.declared.end.RunStop.TheVariants.{BorderClosed, Fault};
 ghost use Rattle.round_eval.specs.declared.fault.WorkFault.TheVariants.{Stranger};
 
 use crate::border_name::BorderName;
-use crate::end::{End, Stop};
+use crate::end::{End, RunStop};
 use border_exchange::{Dated, Msg, Segment};
 use round_eval::{Gate, WorkFault};
 use std::alloc::Global;
@@ -88,7 +88,7 @@ fn run_rounds<'a, R: Wait, G: Gate, A: BorderName, B: BorderName>(
     segment: &mut Segment<'a>,
     left: &mut End<Msg<'a>, A>,
     right: &mut End<Msg<'a>, B>,
-) -> Result<(), Stop>
+) -> Result<(), RunStop>
     requires { AreSeatsOf segment.old left.old.seat right.old.seat }
     ensures same { segment.new ≡ record segment.old { round = segment.new.round } }
     ensures done { OnOk result (segment.new.round ≡ length segment.new.plan.program.steps) }
@@ -105,13 +105,13 @@ fn run_rounds<'a, R: Wait, G: Gate, A: BorderName, B: BorderName>(
 }
 
 // Returns the outcome of a segment that stops. A closed border is no fault of the segment.
-fn outcome_of<'a>(segment: Segment<'a>, stop: Stop) -> SegmentOutcome<'a>
+fn outcome_of<'a>(segment: Segment<'a>, stop: RunStop) -> SegmentOutcome<'a>
     ensures closed { IfOk result (λ stopped. (stop ≡ BorderClosed) × (stopped ≡ segment.entry)) }
     ensures fault { IfErr result (λ fault. stop ≡ Fault fault) }
 {
     match stop {
-        Stop::BorderClosed => Ok(segment),
-        Stop::Fault(fault) => Err(fault),
+        RunStop::BorderClosed => Ok(segment),
+        RunStop::Fault(fault) => Err(fault),
     }
 }
 
@@ -121,7 +121,7 @@ fn next_round<'a, R: Wait, A: BorderName, B: BorderName>(
     segment: &mut Segment<'a>,
     left: &mut End<Msg<'a>, A>,
     right: &mut End<Msg<'a>, B>,
-) -> Result<(), Stop>
+) -> Result<(), RunStop>
     requires { HasRoundToDo segment.old left.old.seat right.old.seat }
     ensures advanced { MatchResult result (λ _. segment.new ≡ record segment.old { round = segment.old.round + 1 })
         (λ _. segment.new ≡ segment.old) }
@@ -138,7 +138,7 @@ fn send<'a, R: Wait, A: BorderName, B: BorderName>(
     segment: &Segment<'a>,
     left: &mut End<Msg<'a>, A>,
     right: &mut End<Msg<'a>, B>,
-) -> Result<(), Stop>
+) -> Result<(), RunStop>
     requires { HasRoundToDo segment.now left.old.seat right.old.seat }
     ensures seats { OnOk result (AreSeatsOf (record segment.now { round = segment.now.round + 1 }) left.new.seat right.new.seat) }
     ensures expected { IfErr result (λ stop. stop ≢ Fault Stranger) }
@@ -154,7 +154,7 @@ fn receive<'a, R: Wait, A: BorderName, B: BorderName>(
     round: u32,
     left: &End<Msg<'a>, A>,
     right: &End<Msg<'a>, B>,
-) -> Result<(Msg<'a>, Msg<'a>), Stop>
+) -> Result<(Msg<'a>, Msg<'a>), RunStop>
     requires sides { (left.now.seat.side ≡ Leftward) × (right.now.seat.side ≡ Rightward) }
     ensures messages { IfOk result (λ m. AreOfRound round (heading_of m.0) (heading_of m.1)) }
     ensures closed { IfErr result (λ stop. stop ≡ BorderClosed) }
@@ -169,7 +169,7 @@ fn advance<'a>(
     segment: &mut Segment<'a>,
     from_left: Msg<'a>,
     from_right: Msg<'a>,
-) -> Result<(), Stop>
+) -> Result<(), RunStop>
     requires more { segment.old.round < length segment.old.plan.program.steps }
     requires messages { AreOfRound segment.old.round (heading_of from_left) (heading_of from_right) }
     ensures exactly { IsOk result ↔ ((heading_of from_left.entry ≡ needs.from_left segment.old) × (heading_of from_right.entry ≡ needs.from_right segment.old)) }

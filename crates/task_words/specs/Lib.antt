@@ -13,4 +13,4 @@ pub mod WordsFault
 pub mod Rows
 pub mod RingTips
 pub mod Tips
-pub mod Answers
+pub mod ParsedWords

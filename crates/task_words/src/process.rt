@@ -1,6 +1,6 @@
 //! The words of the process.
 ghost use Rattle.std.specs.Prelude.{◌≡◌, map, drop, IfOk, IfErr, string_bytes};
-ghost use Rattle.task_words.specs.Answers.{IsAnswer, IsParsed, IsTipFor, IsUnread};
+ghost use Rattle.task_words.specs.ParsedWords.{IsParsedFrom, IsParsed, IsTipFor, IsUnread};
 ghost use Rattle.task_words.specs.Task.{IsRunnable};
 ghost use Rattle.task_words.specs.WordsFault.{words_fault_code};
 
@@ -36,7 +36,7 @@ fn words<T: AllocGlobal + Env>(rt: &T) -> Result<Vec<String>, WordsFault>
 
 // Returns the task that the words after the first one request.
 fn task_after_name(alloc: Global, words: &[String]) -> Result<Task, WordsFault>
-    ensures { IsAnswer (drop 1 (map string_bytes words.now)) result }
+    ensures { IsParsedFrom (drop 1 (map string_bytes words.now)) result }
 {
     task_of(alloc, after_name(words))
 }

@@ -1,7 +1,7 @@
 //! The words of the command line.
 
 ghost use Rattle.std.specs.Prelude.{◌≡◌, ◌≢◌, map, IfOk, string_bytes};
-ghost use Rattle.task_words.specs.Answers.{IsAnswer, IsUnread};
+ghost use Rattle.task_words.specs.ParsedWords.{IsParsedFrom, IsUnread};
 ghost use Rattle.task_words.specs.WordsFault.{IsNotUtf8};
 ghost use Rattle.task_words.specs.declared.words.WordsFault.TheVariants.{OutOfMemory};
 ghost use Rattle.std.specs.IoError.{error_kind};
@@ -92,7 +92,7 @@ pub fn words_fault(alloc: Global, error: io::Error) -> Result<WordsFault, AllocE
 /// of `--ring` is not a ring text, with `Help` if they ask for help, and with `OutOfMemory` if
 /// memory was refused.
 pub fn task_of(alloc: Global, words: &[String]) -> Result<Task, WordsFault>
-    ensures { IsAnswer (map string_bytes words.now) result }
+    ensures { IsParsedFrom (map string_bytes words.now) result }
 {
     let matches = parsed(alloc, words)?;
     match matches.subcommand() {

@@ -7,7 +7,7 @@ use Rattle.node_program.specs.Value.{Env, value}
 use Rattle.numerals.specs.Numerals.{form_of}
 use Rattle.numerals.specs.declared.base.Base.{Base}
 use Rattle.value_trees.specs.Parts.{Part, told_part}
-use Rattle.value_trees.specs.declared.tree.Line.{Line}
+use Rattle.value_trees.specs.declared.tree.TreeLine.{TreeLine}
 
 -- an expression at a depth that counts, and a branch that is not taken
 abbrev pub counted : ℕ → Term → Part
@@ -29,7 +29,7 @@ parts_at env d (Choose c x y) =
 parts_at env d e = counted d e ∷ []
 
 -- the part of a line, as the code holds it
-abbrev pub part_of : Line → Part
+abbrev pub part_of : TreeLine → Part
 part_of line = record { depth = line.depth; term = term_of line.expression.now; counts = line.counts }
 
 -- the values of parts

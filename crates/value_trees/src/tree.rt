@@ -15,7 +15,7 @@ use std::alloc::{AllocError, Global};
 
 // A line of a tree: an expression at a depth, and whether it counts.
 #[derive(Clone, Copy)]
-struct Line<'e> {
+struct TreeLine<'e> {
     depth: u32,
     expression: &'e Expr,
     counts: bool,
@@ -25,7 +25,7 @@ struct Line<'e> {
 #[derive(Drop)]
 struct Tree<'e> {
     env: Env<'e>,
-    lines: Vec<Line<'e>>,
+    lines: Vec<TreeLine<'e>>,
 }
 
 impl<'e> Tree<'e> {
@@ -73,7 +73,7 @@ impl<'e> Tree<'e> {
         ensures line { OnOk result (map part_of self.new.lines.items ≡ map part_of self.old.lines.items
             ++ (record { depth = depth; term = term_of expression.now; counts = counts }) ∷ []) }
     {
-        self.lines.push(Line {
+        self.lines.push(TreeLine {
             depth,
             expression,
             counts,
@@ -140,7 +140,7 @@ pub(crate) fn write_tree<'e>(
 
 // Appends what stands before the value of a line: a blank and one more for each step of its depth,
 // the word of the expression, and a blank.
-fn write_beginning(text: &mut String, line: Line<'_>) -> Result<(), AllocError>
+fn write_beginning(text: &mut String, line: TreeLine<'_>) -> Result<(), AllocError>
     ensures { OnOk result (string_bytes text.new ≡ string_bytes text.old ++ beginning (part_of line.entry)) }
 {
     text.push_str(" ")?;

@@ -1,4 +1,4 @@
-//! Lists of distinct numbers below `ids`, of any length, in lexicographic order.
+//! Lists of distinct numbers below `ids`, of any length, in lexicographic order: arrangements.
 ghost use Rattle.std.specs.Prelude.{◌≡◌, ◌≢◌, ℕ, ◌+◌, ◌-◌, ◌^◌, ◌<◌, ◌≤◌, ◌↔◌, IsTrue, IfSome, None, Some, List, not, find, length, take, slice_get, slice_index, nat_lt, count_by, AllPairs};
 ghost use Rattle.std.specs.Bool.{OnTrue, OnFalse};
 ghost use Rattle.std.specs.List.{range_with_len};
@@ -8,21 +8,21 @@ ghost use Rattle.win_index.specs.Successor.{IsNext, IsReplaced};
 
 // The lists of one length, in order. There are fewer than 2^64 of them, and of each smaller length.
 #[derive(Clone, Copy)]
-pub(crate) struct Lists {
+pub(crate) struct Arrangements {
     pub(crate) ids: u32,
     pub(crate) len: usize,
     pub(crate) ghost short: { len ≤ ids },
     pub(crate) ghost few: { (k : ℕ) → k ≤ len → length (windows k ids) < 2 ^ 64 },
 }
 
-impl Lists {
+impl Arrangements {
     // Returns the number of lists.
     #[tactic(auto, using(crate::proofs::Sizes::counts))]
     pub(crate) fn count(self) -> u64
         ensures value { result ≡ length (windows self.len self.ids) }
         ensures some { 0 < result }
     {
-        let Lists { ids, len } = self;
+        let Arrangements { ids, len } = self;
         let mut count = 1;
         for place in 0..len {
             count *= u64::from(ids) - place as u64;
@@ -36,7 +36,7 @@ impl Lists {
         ensures item { slice_get (windows self.len self.ids) result ≡ Some list.now }
         ensures below { result < length (windows self.len self.ids) }
     {
-        let Lists { ids, len: _ } = self;
+        let Arrangements { ids, len: _ } = self;
         let mut number = 0;
         for (place, x) in list.iter().enumerate() {
             let free = u64::from(ids) - place as u64;
@@ -51,7 +51,7 @@ impl Lists {
         ensures number { result ≡ number_of self.len self.ids list.now }
         ensures below { IfSome result (λ n. n < length (windows self.len self.ids)) }
     {
-        let Lists { ids, len } = self;
+        let Arrangements { ids, len } = self;
         if list.len() == len && is_window(ids, list) {
             Some(self.number(list))
         } else {
@@ -75,7 +75,7 @@ impl Lists {
         requires { IsWindow self.len self.ids list.old }
         ensures { IsReplaced self.len self.ids result list.old list.new }
     {
-        let Lists { ids, len } = self;
+        let Arrangements { ids, len } = self;
         if len > 0 && write_next_last(ids, list, len) {
             return true;
         }
@@ -89,7 +89,7 @@ impl Lists {
         requires window { IsWindow self.len self.ids list.old }
         ensures { IsReplacedByRun self.len self.ids result list.old list.new }
     {
-        let Lists { ids, len } = self;
+        let Arrangements { ids, len } = self;
         let last = len - 1;
         if !write_next(ids, list, last) {
             return false;
@@ -107,7 +107,7 @@ impl Lists {
         requires few { length (windows (self.len + 1) self.ids) < 2 ^ 64 }
         ensures { IsRunStart self.len self.ids front.now result }
     {
-        let Lists { ids, len } = self;
+        let Arrangements { ids, len } = self;
         self.number(front) * (u64::from(ids) - len as u64)
     }
 }

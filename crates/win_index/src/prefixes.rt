@@ -6,7 +6,7 @@ ghost use Rattle.win_index.specs.RunPrefixes.{HasNumbers, IsLonger, IsPrefix, Is
 ghost use Rattle.win_index.specs.Runs.{HasPlaces};
 ghost use Rattle.win_index.specs.Windows.{windows, IsWindow};
 
-use crate::arrangement::Lists;
+use crate::arrangement::Arrangements;
 use crate::run_prefix::RunPrefix;
 use crate::series::RunPlaces;
 use crate::shape::Shape;
@@ -107,7 +107,7 @@ impl Prefixes {
         ensures last { IfNone result (IsLastPrefix 2 self.ids prefix) }
     {
         let mut pair = [prefix.first_gap, prefix.second_gap];
-        let pairs = Lists {
+        let pairs = Arrangements {
             ids: self.ids,
             len: 2,
         };

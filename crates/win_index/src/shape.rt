@@ -4,7 +4,7 @@ ghost use Rattle.win_index.specs.declared.limits.TheConstants.{MAX_ROUNDS, MAX_E
 ghost use Rattle.win_index.specs.ShapeRange.{HasIds, HasFewWindows};
 ghost use Rattle.win_index.specs.Windows.{unused};
 
-use crate::arrangement::{Lists, are_few, unused_below};
+use crate::arrangement::{Arrangements, are_few, unused_below};
 use crate::limits::{MAX_IDS, MAX_ROUNDS, MAX_WINDOWS};
 
 /// Why a number of identifiers and a number of rounds are no shape.
@@ -195,14 +195,14 @@ impl Shape {
 
     // Returns the lists of this length, which are windows, their prefixes or tuples.
     #[tactic(auto, using(crate::proofs::Levels::few_of_shape, crate::proofs::Levels::few_tuples))]
-    pub(crate) fn lists(&self, len: u32) -> Lists
+    pub(crate) fn lists(&self, len: u32) -> Arrangements
         requires short { len ≤ self.now.ids }
         requires few { len ≤ 2 * self.now.rounds + 1 + MAX_EXTRA }
         ensures ids { result.ids ≡ self.now.ids }
         ensures len { result.len ≡ len }
         ensures few { len ≤ 2 * self.now.rounds + 1 → length (windows len self.now.ids) ≤ MAX_WINDOWS }
     {
-        Lists {
+        Arrangements {
             ids: self.ids,
             len: len as usize,
         }

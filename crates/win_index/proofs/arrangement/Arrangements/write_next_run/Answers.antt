@@ -6,7 +6,7 @@ use Rattle.win_index.proofs.Kept.{kept_is}
 use Rattle.win_index.proofs.Sizes.{window_within}
 use Rattle.win_index.proofs.Successors.{next_run, last_run, later_lacks}
 use Rattle.win_index.proofs.Unused.{lacks}
-use Rattle.win_index.proofs.arrangement.Lists.write_next_run.Goals as goal
+use Rattle.win_index.proofs.arrangement.Arrangements.write_next_run.Goals as goal
 
 pub returns-then-not-write_next : goal.returns-then-not-write_next
 returns-then-not-write_next c =

@@ -6,7 +6,7 @@ use Rattle.fill_core.specs.FillMachine.{Worker, cell_of, learned, block_by, Mark
 use Rattle.fill_core.specs.FillPromises.{HoldsJobs, MarkedAreFull}
 use Rattle.fill_core.specs.FillStates.{worker_of}
 use Rattle.fill_core.proofs.FillViews.{Seen, seen, seen_set, is_none_from}
-use Rattle.fill_core.proofs.state.World.install.Goals as goal
+use Rattle.fill_core.proofs.state.FillState.install.Goals as goal
 
 pub invariant_of-known : goal.invariant_of-known
 invariant_of-known c =

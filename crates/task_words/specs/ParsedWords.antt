@@ -1,4 +1,4 @@
--- The answers to the words of the process, and the tips on them.
+-- The tasks or faults that the words of the process are parsed to, and the tips on them.
 use Rattle.std.specs.Prelude.{◌≡◌, ◌↔◌, ◌⊎◌, Option, None, List, Result, Err, String, IfOk, IfSome, IfNone, IsOk, IsErrOf, MatchOption, string_bytes}
 use Rattle.std.specs.Option.{option_map}
 use Rattle.std.specs.declared.alloc.Global.{Global}
@@ -15,7 +15,7 @@ use Rattle.task_words.specs.declared.words.WordsFault.TheVariants.{Usage, BadRin
 
 -- What `task_of` returns for these words: memory aside, a task exactly if they are a command whose ring text, if it has
 -- one, is one.
-pub record IsAnswer (words : List Text) (result : Result Task WordsFault) : Type 0 where
+pub record IsParsedFrom (words : List Text) (result : Result Task WordsFault) : Type 0 where
   pub task : IfOk result (λ task. IsCommand words × IsTaskOf words task)
   pub range : IfOk result IsInRange
   pub ok : MemoryAside result (IsOk result ↔ (IsCommand words × ¬ HasBadRing words))
@@ -29,7 +29,7 @@ IsUnread fault = IsNotUtf8 fault ⊎ (fault ≡ OutOfMemory)
 
 -- the result is that of `task_of` for some words, or the words of the process were not read
 abbrev pub IsParsed : Result Task WordsFault → Type 0
-IsParsed result = ((words : List Text) × IsAnswer words result) ⊎ ((fault : WordsFault) × (result ≡ Err fault) × IsUnread fault)
+IsParsed result = ((words : List Text) × IsParsedFrom words result) ⊎ ((fault : WordsFault) × (result ≡ Err fault) × IsUnread fault)
 
 -- The tip on words with this fault: on a bad ring text that of the text; on words that `clap` refuses the line of the tip
 -- that `usage_tip` has, if it has one; on others none.

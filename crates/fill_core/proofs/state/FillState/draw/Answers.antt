@@ -3,8 +3,8 @@ use Rattle.shared_memo.specs.PlanJobs.{job_count}
 use Rattle.fill_core.specs.FillMachine.{Worker, CanDraw}
 use Rattle.fill_core.specs.FillStates.{machine_of}
 use Rattle.fill_core.proofs.FillViews.{Seen, seen, seen_set}
-use Rattle.fill_core.proofs.state.World.draw.Goals.{After-jobs}
-use Rattle.fill_core.proofs.state.World.draw.Goals as goal
+use Rattle.fill_core.proofs.state.FillState.draw.Goals.{After-jobs}
+use Rattle.fill_core.proofs.state.FillState.draw.Goals as goal
 
 -- the worker may draw
 module _ (c : After-jobs) where

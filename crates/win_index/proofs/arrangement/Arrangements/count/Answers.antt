@@ -1,6 +1,6 @@
 use Rattle.std.proofs.Common.{◌+◌, arith}
 use Rattle.win_index.proofs.Numbers.{windows_more}
-use Rattle.win_index.proofs.arrangement.Lists.count.Goals as goal
+use Rattle.win_index.proofs.arrangement.Arrangements.count.Goals as goal
 
 pub overflow_mul-count : goal.overflow_mul-count
 overflow_mul-count c =

@@ -1,5 +1,5 @@
 use Rattle.std.proofs.Common.{◌∙◌, rules}
-use Rattle.border_exchange.proofs.lists.Lists.settle.Goals as goal
+use Rattle.border_exchange.proofs.lists.BorderLists.settle.Goals as goal
 
 pub returns-clause-counted : goal.returns-clause-counted
 returns-clause-counted g c =

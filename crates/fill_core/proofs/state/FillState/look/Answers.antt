@@ -3,7 +3,7 @@ use Rattle.std.proofs.lemmas.List.{get_or_read}
 use Rattle.window_states.specs.BlockStates.{MadeBlock}
 use Rattle.fill_core.specs.FillMachine.{Worker, cell_of, learned}
 use Rattle.fill_core.proofs.FillViews.{Seen, seen, seen_set}
-use Rattle.fill_core.proofs.state.World.look.Goals as goal
+use Rattle.fill_core.proofs.state.FillState.look.Goals as goal
 
 pub learn-requires : goal.learn-requires
 learn-requires c =

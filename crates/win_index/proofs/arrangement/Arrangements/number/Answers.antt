@@ -4,7 +4,7 @@ use Rattle.std.proofs.lemmas.Option.{slice_get_within}
 use Rattle.win_index.specs.Windows.{windows}
 use Rattle.win_index.proofs.Numbers.{windows-zero}
 use Rattle.win_index.proofs.Positions.{front_step}
-use Rattle.win_index.proofs.arrangement.Lists.number.Goals as goal
+use Rattle.win_index.proofs.arrangement.Arrangements.number.Goals as goal
 
 pub loop-place-init : goal.loop-place-init
 loop-place-init c = rw (windows-zero c.args.self.ids)

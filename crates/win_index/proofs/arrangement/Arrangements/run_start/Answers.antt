@@ -1,7 +1,7 @@
 use Rattle.std.proofs.Common.{◌-◌, ◌*◌, ap, arith}
 use Rattle.win_index.specs.Runs.{IsRunStart}
 use Rattle.win_index.proofs.RunStarts.{run_start_is}
-use Rattle.win_index.proofs.arrangement.Lists.run_start.Goals as goal
+use Rattle.win_index.proofs.arrangement.Arrangements.run_start.Goals as goal
 
 pub overflow_mul-result : goal.overflow_mul-result
 overflow_mul-result c =
