@@ -1,12 +1,12 @@
 -- Numbers after their names, and the first two lines of a table text.
-use Rattle.std.proofs.Common.{◌≡◌, ℕ, ◌^◌, ◌<◌, List, [], ◌∷◌, ◌++◌, get_or, refl, sym, ap, ◌∙◌, arith}
+use Rattle.std.proofs.Common.{◌≡◌, ℕ, ◌^◌, ◌<◌, List, [], ◌∷◌, ◌++◌, get_or, refl, sym, ap, subst, ◌∙◌, arith}
 use Rattle.std.specs.Prelude.{codes}
 use Rattle.std.proofs.lemmas.List.{append_cancel_left}
 use Rattle.channel_tables.specs.declared.separation.Separation.{Separation}
 use Rattle.table_text.specs.declared.version.Version.{Version}
 use Rattle.table_text.specs.declared.version.Version.TheVariants.{One, Two}
 use Rattle.table_text.specs.TableText.{title_then, counts_then, counts_end, distances_then, sizes_then}
-use Rattle.table_text.specs.LineForms.{AreSizes, IsSeparationOf, HasSizes}
+use Rattle.table_text.specs.LineForms.{AreSizes, IsSeparationOf, HasSizes, IsHead, HasShape}
 use Rattle.numerals.proofs.NumberTexts.{field_once}
 
 -- numbers below 2^32
@@ -71,7 +71,7 @@ sizes_are version text r i k end rest fit same ends has =
     (rw (one.0, one.1, one.2) has.5, has.3, has.4, has.6, one.3)
 
 -- the contents of the second line are unique
-pub sizes_once : (version : Version) (r i k r' i' k' : ℕ) (s s' : Separation) (x y : List ℕ) → Fit r i k →
+sizes_once : (version : Version) (r i k r' i' k' : ℕ) (s s' : Separation) (x y : List ℕ) → Fit r i k →
     Fit r' i' k' → IsSeparationOf version s → IsSeparationOf version s'
     → sizes_then version r i k s x ≡ sizes_then version r' i' k' s' y →
     (r ≡ r') × (i ≡ i') × (k ≡ k') × (s ≡ s') × (x ≡ y)
@@ -92,3 +92,20 @@ title_once One One x y same = (refl, append_cancel_left (codes "nbhd-table 1" ++
 title_once One Two x y same = absurd (digits_differ x y same)
 title_once Two One x y same = absurd (digits_differ y x (sym same))
 title_once Two Two x y same = (refl, append_cancel_left (codes "nbhd-table 2" ++ 10 ∷ []) x y same)
+
+-- the contents of the first two lines are unique
+pub head_once : {v w : Version} {text : List ℕ} {r i k r' i' k' : ℕ} {s s' : Separation} {x y : List ℕ}
+    → IsHead v text r i k s x → IsHead w text r' i' k' s' y
+    → (v ≡ w) × (r ≡ r') × (i ≡ i') × (k ≡ k') × (s ≡ s') × (x ≡ y)
+head_once {v = v} {r = r} {i = i} {k = k} {r' = r'} {i' = i'} {k' = k'} {s = s} {s' = s'} {x = x} {y = y} p q =
+    let title = title_once _ _ _ _ (sym p.lines ∙ q.lines) in
+    let moved = title.1 ∙ ap (λ version. sizes_then version r' i' k' s' y) (sym title.0) in
+    let told = subst (λ version. IsSeparationOf version s') (sym title.0) q.told in
+    let one = sizes_once v r i k r' i' k' s s' x y (sizes_fit r i k p.sizes) (sizes_fit r' i' k' q.sizes) p.told told moved in
+    (title.0, one.0, one.1, one.2, one.3, one.4)
+
+-- the first two lines give one shape
+pub shape_once : (text : List ℕ) (r i r' i' : ℕ) → HasShape text r i → HasShape text r' i' → (r ≡ r') × (i ≡ i')
+shape_once text r i r' i' p q =
+    let one = head_once p.4 q.4 in
+    (one.1, one.2)

@@ -7,14 +7,12 @@ use Rattle.std.proofs.lemmas.List.Elements.{All-head, All-tail}
 use Rattle.win_index.specs.Windows.{windows, IsWindow}
 use Rattle.win_index.specs.Laws.{NumberOfWindow, WindowsHaveNumbers}
 use Rattle.channel_tables.specs.Tables.{ChannelTable, IsBegun, windows_of}
-use Rattle.channel_tables.specs.declared.separation.Separation.{Separation}
-use Rattle.table_text.specs.declared.version.Version.{Version}
-use Rattle.table_text.specs.TableText.{Written, ids_then, entry_then, entries_then, sizes_then, lines_then}
-use Rattle.table_text.specs.LineForms.{AreSizes, IsSeparationOf, IsEntry}
+use Rattle.table_text.specs.TableText.{Written, ids_then, entry_then, entries_then, lines_then}
+use Rattle.table_text.specs.LineForms.{AreSizes, IsEntry, IsHead}
 use Rattle.table_text.specs.Texts.{IsBegunText, IsWritten}
 use Rattle.table_text.proofs.IdTexts.{Fits32, ids_once}
 use Rattle.numerals.proofs.NumberTexts.{field_once}
-use Rattle.table_text.proofs.Headers.{sizes_fit, sizes_once, title_once}
+use Rattle.table_text.proofs.Headers.{head_once}
 
 ids_same : (ids x y : List ℕ) → ids_then ids x ≡ ids_then ids y → x ≡ y
 ids_same [] x y same = same
@@ -120,25 +118,18 @@ pub record HaveOneHead (v w : Written) (x y : List ℕ) : Type 0 where
   pub entries : entries_then (windows_of v.table) v.table.entries x
       ≡ entries_then (windows_of w.table) w.table.entries y
 
-sizes_same : (version : Version) (t u : ChannelTable) (r s : Separation) (x y : List ℕ) → IsBegun t →
-    IsBegun u → IsSeparationOf version r → IsSeparationOf version s
-    → sizes_then version t.rounds t.ids t.channels r x ≡ sizes_then version u.rounds u.ids u.channels s y
-    → (t.rounds ≡ u.rounds) × (t.ids ≡ u.ids) × (t.channels ≡ u.channels) × (r ≡ s) × (x ≡ y)
-sizes_same version t u r s x y p q told told' same =
-    sizes_once version t.rounds t.ids t.channels u.rounds u.ids u.channels r s x y
-    (sizes_fit t.rounds t.ids t.channels (sizes_of t p))
-    (sizes_fit u.rounds u.ids u.channels (sizes_of u q)) told told' same
+-- the lines of a begun table begin with two lines that have its numbers
+head_of : (w : Written) (text rest : List ℕ) → IsBegunText w → text ≡ lines_then w rest
+    → IsHead w.version text w.table.rounds w.table.ids w.table.channels w.separation
+    (entries_then (windows_of w.table) w.table.entries rest)
+unfolding lines_then
+head_of w text rest begun is = record { sizes = sizes_of w.table begun.begun; told = begun.told; lines = is }
 
 pub header_once : (v w : Written) (x y : List ℕ) → IsBegunText v → IsBegunText w →
     lines_then v x ≡ lines_then w y → HaveOneHead v w x y
-unfolding lines_then
 header_once v w x y p q same =
-    let title = title_once v.version w.version _ _ same in
-    let moved = title.1 ∙ ap (λ version. sizes_then version w.table.rounds w.table.ids w.table.channels w.separation
-    (entries_then (windows_of w.table) w.table.entries y)) (sym title.0) in
-    let told = subst (λ version. IsSeparationOf version w.separation) (sym title.0) q.told in
-    let one = sizes_same v.version v.table w.table v.separation w.separation _ _ p.begun q.begun p.told told moved in
-    record { version = title.0; rounds = one.0; ids = one.1; channels = one.2; separation = one.3; entries = one.4 }
+    let one = head_once (head_of v (lines_then v x) x p refl) (head_of w (lines_then v x) y q same) in
+    record { version = one.0; rounds = one.1; ids = one.2; channels = one.3; separation = one.4; entries = one.5 }
 
 -- two begun tables whose lines begin one text have the same windows
 pub same_windows : (v w : Written) (x y : List ℕ) → HaveOneHead v w x y → windows_of v.table ≡ windows_of w.table

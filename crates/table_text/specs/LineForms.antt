@@ -36,6 +36,18 @@ HasSizes version text =
     (rounds : ℕ) × (ids : ℕ) × (channels : ℕ) × (s : Separation) × (rest : List ℕ) × AreSizes rounds ids channels
     × IsSeparationOf version s × (text ≡ sizes_then version rounds ids channels s rest)
 
+-- the text is the first two lines of this version with these numbers and this separation, followed by the rest
+pub record IsHead (version : Version) (text : List ℕ) (rounds ids channels : ℕ) (s : Separation) (rest : List ℕ) : Type 0 where
+  pub sizes : AreSizes rounds ids channels
+  pub told : IsSeparationOf version s
+  pub lines : text ≡ title_then version (sizes_then version rounds ids channels s rest)
+
+-- the text begins with the first two lines of a version, and they give these numbers of rounds and of identifiers
+abbrev pub HasShape : List ℕ → ℕ → ℕ → Type 0
+HasShape text rounds ids =
+    (version : Version) × (channels : ℕ) × (s : Separation) × (rest : List ℕ)
+    × IsHead version text rounds ids channels s rest
+
 -- the text is the line of `width` identifiers and of a channel, each a number below 2^32, followed by the rest
 pub record IsEntry (width : ℕ) (text ids : List ℕ) (channel : ℕ) (rest : List ℕ) : Type 0 where
   pub size : length ids ≡ width

@@ -22,5 +22,5 @@ pub use laws::{
 };
 pub use limits::LONGEST_TABLE_TEXT;
 pub use parallel::write_table_with_workers;
-pub use reading::read_table;
+pub use reading::{read_table, shape_in};
 pub use writing::write_table;

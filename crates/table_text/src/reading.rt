@@ -1,10 +1,10 @@
 //! Reading a table text, line by line.
 
-ghost use Rattle.std.specs.Prelude.{◌≡◌, ◌<◌, ◌≤◌, true, false, length, MatchResult, IfOk, OnOk, IfErr};
+ghost use Rattle.std.specs.Prelude.{◌≡◌, ◌<◌, ◌≤◌, ℕ, true, false, length, MatchResult, IfOk, OnOk, IfErr, IfSome, IfNone};
 ghost use Rattle.channel_tables.specs.declared.separation.Separation.{Separation};
 ghost use Rattle.channel_tables.specs.Tables.{ChannelTable, IsTable};
-ghost use Rattle.table_text.specs.TableText.{written, title_then, sizes_then, lines_then, text_of};
-ghost use Rattle.table_text.specs.LineForms.{AreSizes, IsSeparation, IsSeparationOf};
+ghost use Rattle.table_text.specs.TableText.{written, lines_then, text_of};
+ghost use Rattle.table_text.specs.LineForms.{IsSeparation, IsHead, HasShape};
 ghost use Rattle.table_text.specs.Texts.{IsTextOf, IsWritten};
 ghost use Rattle.table_text.specs.Faults.{IsMalformed, IsFault};
 
@@ -18,6 +18,7 @@ use crate::pieces::pieces_of;
 use crate::version::Version;
 use channel_tables::{Separation, Table, TableMaker};
 use std::alloc::Global;
+use win_index::Shape;
 
 /// Returns the table and the separation whose text this is.
 ///
@@ -43,6 +44,18 @@ pub fn read_table(alloc: Global, text: &[u8]) -> Result<(Table, Separation), Tab
     table_texts_are_apart();
     table_texts_are_read();
     table_of(alloc, text)
+}
+
+/// Returns the shape that the first two lines of a table text give, or `None` if they do not have
+/// their form.
+pub fn shape_in(text: &[u8]) -> Option<Shape>
+    ensures shape { IfSome result (λ shape. HasShape text.now shape.rounds shape.ids) }
+    ensures one { IfSome result (λ shape. (rounds ids : ℕ) → HasShape text.now rounds ids → (rounds ≡ shape.rounds) × (ids ≡ shape.ids)) }
+    ensures none { IfNone result ((rounds ids : ℕ) → ¬ HasShape text.now rounds ids) }
+{
+    let (version, second) = after_title(text)?;
+    let (header, _) = sizes(version, second)?;
+    Some(header.shape)
 }
 
 // Returns the table and the separation of a text, or a fault of the text.
@@ -72,10 +85,8 @@ fn syntax(text: &[u8], rest: &[u8]) -> TableFault
 // Returns the version and the contents of the first two lines, and the text after them.
 fn header_of(text: &[u8]) -> Result<(Version, Header, &[u8]), TableFault>
     requires { length text.now ≤ LONGEST_TABLE_TEXT }
-    ensures sizes { IfOk result (λ read. AreSizes read.1.shape.rounds read.1.shape.ids read.1.channels) }
-    ensures told { IfOk result (λ read. IsSeparationOf read.0 read.1.separation) }
-    ensures header { IfOk result (λ read. text.now ≡ title_then read.0 (sizes_then read.0 read.1.shape.rounds read.1.shape.ids
-        read.1.channels read.1.separation read.2.now)) }
+    ensures head { IfOk result (λ read. IsHead read.0 text.now read.1.shape.rounds read.1.shape.ids read.1.channels
+        read.1.separation read.2.now) }
     ensures fault { IfErr result (IsFault text.now) }
 {
     let Some((version, second)) = after_title(text) else {
@@ -96,10 +107,7 @@ fn entries<'a>(
     start: &'a [u8],
 ) -> Result<(Table, &'a [u8]), TableFault>
     requires short { length text.now ≤ LONGEST_TABLE_TEXT }
-    requires sizes { AreSizes header.shape.rounds header.shape.ids header.channels }
-    requires told { IsSeparationOf version header.separation }
-    requires header { text.now ≡ title_then version (sizes_then version header.shape.rounds header.shape.ids header.channels
-        header.separation start.now) }
+    requires head { IsHead version text.now header.shape.rounds header.shape.ids header.channels header.separation start.now }
     ensures table { IfOk result (λ read. IsTable read.0) }
     ensures lines { IfOk result (λ read. text.entry.now ≡ lines_then (written version read.0 header.separation) read.1.now) }
     ensures fault { IfErr result (IsFault text.entry.now) }

@@ -20,7 +20,7 @@ pub lines-init : goal.lines-init
 unfolding lines_then
 lines-init c =
     let made = c.in-Ok.ensures in
-    let sizes = c.requires.sizes in
+    let sizes = c.requires.head.sizes in
     record {
       ids = ap (λ t. t.ids) made;
       rounds = ap (λ t. t.rounds) made;
@@ -40,7 +40,7 @@ lines-init c =
       ids_is = c.at-odometer.ensures.of.1;
       next = λ _. c.at-odometer.ensures.window;
       read =
-          c.requires.header ∙ ap (λ t. lines_then (written c.args.version t c.args.header.separation) c.args.start.now)
+          c.requires.head.lines ∙ ap (λ t. lines_then (written c.args.version t c.args.header.separation) c.args.start.now)
           (sym made);
     }
 
@@ -51,7 +51,7 @@ syntax-requires-clause-malformed c =
     let w = written c.args.version c.lines.maker c.args.header.separation in
     let within : IsWithin c.args.text.now w c.lines.rest.now =
     record {
-      begun = record { begun = inv.begun; told = c.requires.told };
+      begun = record { begun = inv.begun; told = c.requires.head.told };
       before = inv.read;
       more =
           rw (inv.rounds, inv.ids) (room_for _ _ _ _ inv.count c.lines-test.true (rw c.rounds-level.ensures at count));
@@ -100,7 +100,7 @@ returns-then-is_too_large-clause-fault c =
     let w = written c.args.version c.lines.maker c.args.header.separation in
     let within : IsWithin c.args.text.now w c.lines.rest.now =
     record {
-      begun = record { begun = inv.begun; told = c.requires.told };
+      begun = record { begun = inv.begun; told = c.requires.head.told };
       before = inv.read;
       more = rw (inv.rounds, inv.ids) (room_for _ _ _ _ inv.count c.lines-test.true count);
     } in
