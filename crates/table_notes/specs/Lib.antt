@@ -1,5 +1,4 @@
 -- The definitions that the contracts cite.
 pub mod RingNotes
 pub mod VerdictNotes
-pub mod TableSizes
 pub mod TableNotes

@@ -1,12 +1,13 @@
--- The notes on a text that is not the text of a table.
-use Rattle.std.specs.Prelude.{◌≡◌, ℕ, ◌-◌, ◌++◌, List, ◌∷◌, codes, bytes_eq, if◌then◌else◌}
+-- The notes on a text that is not the text of a table, and the window that a line of it is to have.
+use Rattle.std.specs.Prelude.{◌≡◌, ℕ, ◌+◌, ◌-◌, ◌*◌, ◌++◌, List, ◌∷◌, Some, slice_get, codes, bytes_eq, if◌then◌else◌}
 use Rattle.std.specs.Fmt.{decimal}
 use Rattle.source_places.specs.Heads.{place_head}
 use Rattle.source_places.specs.Kinds.{first_line}
 use Rattle.source_places.specs.Lists.{joined}
 use Rattle.source_places.specs.Places.{after_lines}
 use Rattle.source_places.specs.Shown.{marked_line}
-use Rattle.table_notes.specs.TableSizes.{IsDue}
+use Rattle.table_text.specs.LineForms.{HasShape}
+use Rattle.win_index.specs.Windows.{windows}
 
 -- a text that is too long
 abbrev pub long_note : List ℕ
@@ -33,6 +34,15 @@ abbrev pub line_note : ℕ → List ℕ → List ℕ → List ℕ
 line_note line window end = codes "nbhd: line "
     ++ (decimal line ++ (codes " is not the line of window " ++ (joined (codes " ") window
     ++ (codes ", which comes there by line 2; windows stand in lexicographic order" ++ (end ++ codes "\n")))))
+
+-- this line of the text is to have this window: the text gives a shape, and the lines of its windows begin at line 3
+pub record IsDue (text : List ℕ) (line : ℕ) (window : List ℕ) : Type 0 where
+  pub rounds : ℕ
+  pub ids : ℕ
+  pub shape : HasShape text rounds ids
+  pub number : ℕ
+  pub place : line ≡ number + 3
+  pub numbered : slice_get (windows (2 * rounds + 1) ids) number ≡ Some window
 
 -- a line with another window than it is to have; a line that is to have none has a note of its own
 pub data IsWindowNote (text : List ℕ) (line : ℕ) (note : List ℕ) : Type 0 where

@@ -3,7 +3,6 @@
 
 mod headers;
 mod rings;
-mod sizes;
 mod tables;
 mod verdicts;
 

@@ -3,11 +3,9 @@
 ghost use Rattle.std.specs.Prelude.{◌≡◌, ◌+◌, ◌*◌, ◌<◌, ◌≤◌, ℕ, List, Some, length, slice_get, IfOk, IfSome, IfNone, string_bytes};
 ghost use Rattle.win_index.specs.Windows.{windows};
 ghost use Rattle.table_notes.specs.TableNotes as notes;
-ghost use Rattle.table_notes.specs.TableSizes.{IsDue};
-ghost use Rattle.table_notes.specs.TableNotes.{long_note, IsFormNote, IsWindowNote, line_note, doubled_text, channel_note};
+ghost use Rattle.table_notes.specs.TableNotes.{long_note, IsFormNote, IsDue, IsWindowNote, line_note, doubled_text, channel_note};
 
 use crate::headers::header_advice;
-use crate::sizes::shape_of;
 use node_program::OutOfMemory;
 use numerals::field;
 use source_places::{
@@ -16,6 +14,7 @@ use source_places::{
 };
 use std::alloc::{AllocError, Global};
 use std::fmt::Write;
+use table_text::shape_in;
 use win_index::Shape;
 
 const WINDOW: &str = "; a line is the identifiers of a window, ` : ` and a channel";
@@ -75,7 +74,7 @@ fn form_advice(text: &[u8], offset: usize) -> &'static str
     if before.ends_with(b"\nend\n") && !rest.starts_with(b"\n") {
         return "; nothing follows the line `end`";
     }
-    line_advice(shape_of(text), rest)
+    line_advice(shape_in(text), rest)
 }
 
 // Returns advice on a text with carriage returns.
@@ -438,7 +437,7 @@ fn due_window(alloc: Global, text: &[u8], line: u32) -> Result<Option<Vec<u32>>,
     ensures window { IfOk result (λ due. IfSome due (λ window. IsDue text.now line window.items)) }
     ensures none { IfOk result (λ due. IfNone due ((window : List ℕ) → ¬ IsDue text.now line window)) }
 {
-    let Some(shape) = shape_of(text) else {
+    let Some(shape) = shape_in(text) else {
         return Ok(None);
     };
     if line < 3 {
