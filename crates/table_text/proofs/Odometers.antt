@@ -1,5 +1,5 @@
 -- The window that an odometer shows.
-use Rattle.std.proofs.Common.{◌≡◌, ℕ, ◌+◌, ◌-◌, ◌*◌, ◌<◌, ◌≤◌, List, [], ◌∷◌, ◌++◌, length, length-take, length-take-le, take, take_all, drop, get_or, All, ap, sym, subst, ◌∙◌, arith}
+use Rattle.std.proofs.Common.{◌≡◌, ℕ, ◌+◌, ◌-◌, ◌*◌, ◌<◌, ◌≤◌, List, [], length, length-take, length-take-le, take, take_all, drop, get_or, All, refl, ap, sym, subst, ◌∙◌, arith}
 use Rattle.std.proofs.lemmas.List.{take-take, get_or-take, get_or-drop, length_push}
 use Rattle.std.proofs.lemmas.List.Elements.{All-push, All-from_get_or}
 use Rattle.win_index.proofs.Kept.{kept_is}
@@ -7,7 +7,7 @@ use Rattle.win_index.specs.Windows.{unused, IsWindow}
 use Rattle.win_index.specs.declared.limits.TheConstants.{MAX_IDS, MAX_WINDOW_LEN}
 use Rattle.win_index.proofs.Unused.{lacks}
 use Rattle.table_text.specs.Orders.{IsOrder, IsLater, ArePlaces}
-use Rattle.table_text.specs.Odometers.{IsOdometer, front_of, last_of, window_of}
+use Rattle.table_text.specs.Odometers.{IsOdometer, ShowsWindow, ShowsNumber, IsAdvanced, front_of, last_of, window_of}
 use Rattle.table_text.specs.declared.odometer.Odometer.{Odometer}
 use Rattle.table_text.specs.declared.line_prefix.LinePrefix.{LinePrefix}
 use Rattle.table_text.specs.Pieces.{prefix_text}
@@ -80,6 +80,18 @@ later_at count k m old new front_is ids_is later =
     subst (λ n. IsLater count (k + 1) n (window_of old) (window_of new)) ids_is
     (subst (λ n. IsLater count (n + 1) old.ids (window_of old) (window_of new)) front_is later)
 
+-- an odometer that was advanced
+pub shows_later : (count t m n : ℕ) (old new : Odometer) → ShowsNumber t m n old → IsAdvanced count old new
+    → ShowsNumber t m (n + count) new
+shows_later count t m n old new shows is =
+    record {
+      odometer = is.odometer;
+      front = is.front ∙ shows.front;
+      ids = is.ids ∙ shows.ids;
+      window = λ within.
+          later_at count (2 * t) m old new shows.front shows.ids is.later n (shows.window (omega arith)) within;
+    }
+
 -- an odometer with the order of a window's prefix shows the window
 pub shows_window : (k m last : ℕ) (window order places : List ℕ) (prefix : LinePrefix) → m ≤ MAX_IDS
     → k < MAX_WINDOW_LEN → IsWindow (k + 1) m window → IsOrder k m (take m order) →
@@ -87,14 +99,15 @@ pub shows_window : (k m last : ℕ) (window order places : List ℕ) (prefix : L
     → ArePlaces k (take k window) places →
     last ≡ k + length (unused (get_or window k 0) (take k window))
     → HasTexts prefix.bytes prefix.ends (take k window) → prefix_text prefix ≡ ids_then (take k window) []
-    → IsOdometer (record { order = order; ids = m; places = places; front = k; last = last; prefix = prefix })
-    × (take k order ++ get_or order last 0 ∷ [] ≡ window)
+    → ShowsWindow m window
+    (record { order = order; ids = m; places = places; front = k; last = last; prefix = prefix })
 shows_window k m last window order places prefix few short is ordered same are place texts text =
     let at' = last_place k m last window (take m order) is ordered same place in
     let front : take k order ≡ take k window =
     sym (take-take k m order (omega (arith, at'.0, place))) ∙ same in
-    let item : get_or (take m order) last 0 ≡ get_or order last 0 = get_or-take m order last 0 at'.0 in (
-      record {
+    let item : get_or (take m order) last 0 ≡ get_or order last 0 = get_or-take m order last 0 at'.0 in
+    record {
+      odometer = record {
         few = few;
         short = short;
         order = ordered;
@@ -103,6 +116,8 @@ shows_window k m last window order places prefix few short is ordered same are p
         within = at'.0;
         texts = rw front texts;
         text = rw front text;
-      },
-      rw front (rw (same, item) at at'.1),
-    )
+      };
+      front = sym is.size;
+      ids = refl;
+      shown = rw front (rw (same, item) at at'.1);
+    }

@@ -5,7 +5,7 @@ use Rattle.std.proofs.lemmas.Option.{none-some, same_Some, slice_get-get_or}
 use Rattle.channel_tables.specs.Tables.{ChannelTable, windows_of}
 use Rattle.table_text.specs.Odometers.{front_of}
 use Rattle.table_text.specs.Pieces.{prefix_text, id_text, channel_text}
-use Rattle.table_text.specs.Sections.{lines_from, run_lines, Shows}
+use Rattle.table_text.specs.Sections.{lines_from, run_lines, Shows, ShowsRun}
 use Rattle.table_text.specs.TableText.{ids_then, entry_then, entries_then}
 use Rattle.table_text.specs.declared.odometer.Odometer.{Odometer}
 use Rattle.table_text.proofs.Odometers.{later_at}
@@ -61,11 +61,10 @@ later_window t first j o shows lt within =
     (later_of_run j o.front o.ids o.last o.order is.order is.from lt) first (shows.window (omega arith)) within
 
 -- the lines of windows of a run, from that which the odometer shows on
-pub lines_of_run : (t : ChannelTable) (first count : ℕ) (o : Odometer) → Shows t first o → o.last + count ≤ o.ids →
-    first + count ≤ length (windows_of t)
+pub lines_of_run : (t : ChannelTable) (first count : ℕ) (o : Odometer) → ShowsRun t first count o
     → run_lines (prefix_text o.prefix) (take count (drop o.last o.order)) (take count (drop first t.entries))
     ≡ lines_from t first count
-lines_of_run t first count o shows run within =
+lines_of_run t first count o run =
     let ids = take count (drop o.last o.order) in
     let channels = take count (drop first t.entries) in
     let few : length channels ≤ count = omega (arith, length-take count (drop first t.entries)) in
@@ -75,11 +74,12 @@ lines_of_run t first count o shows run within =
       length-take count (drop o.last o.order),
       length-drop o.last o.order,
       length-take o.ids o.order,
-      shows.odometer.order.size,
+      run.shows.odometer.order.size,
+      run.run,
     ) in
-    ap (λ text. run_lines text ids channels) shows.odometer.text
+    ap (λ text. run_lines text ids channels) run.shows.odometer.text
     ∙ run_is (front_of o) ids channels (drop first (windows_of t)) (omega arith) (λ j lt.
     dropped_at first j (first + j) (windows_of t) _ refl
-    (later_window t first j o shows (omega arith) (omega arith))
+    (later_window t first j o run.shows (omega (arith, run.run)) (omega (arith, run.within)))
     ∙ ap (λ id. Some (front_of o ++ id ∷ []))
     (sym (get_or-take count (drop o.last o.order) j 0 (omega arith) ∙ get_or-drop o.last o.order j 0)))

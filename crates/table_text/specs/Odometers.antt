@@ -1,8 +1,9 @@
 -- The window that an odometer shows. No public contract cites this file.
-use Rattle.std.specs.Prelude.{◌≡◌, ℕ, ◌<◌, ◌≤◌, List, [], ◌∷◌, ◌++◌, length, take, slice_index}
+use Rattle.std.specs.Prelude.{◌≡◌, ℕ, ◌+◌, ◌*◌, ◌<◌, ◌≤◌, List, [], ◌∷◌, ◌++◌, Some, length, take, slice_get, slice_index}
 use Rattle.node_program.specs.declared.limits.TheConstants.{MAX_CHANNELS}
 use Rattle.win_index.specs.declared.limits.TheConstants.{MAX_IDS, MAX_WINDOW_LEN}
-use Rattle.table_text.specs.Orders.{IsOrder, ArePlaces}
+use Rattle.win_index.specs.Windows.{windows}
+use Rattle.table_text.specs.Orders.{IsOrder, IsLater, ArePlaces}
 use Rattle.table_text.specs.Pieces.{prefix_text, id_text, channel_text, AreTexts}
 use Rattle.table_text.specs.Prefixes.{HasTexts}
 use Rattle.table_text.specs.TableText.{ids_then}
@@ -32,6 +33,27 @@ pub record IsOdometer (o : Odometer) : Type 0 where
   pub within : o.last < o.ids
   pub texts : HasTexts o.prefix.bytes o.prefix.ends (front_of o)
   pub text : prefix_text o.prefix ≡ ids_then (front_of o) []
+
+-- the odometer shows this window of numbers below m
+pub record ShowsWindow (m : ℕ) (window : List ℕ) (o : Odometer) : Type 0 where
+  pub odometer : IsOdometer o
+  pub front : o.front + 1 ≡ length window
+  pub ids : o.ids ≡ m
+  pub shown : window_of o ≡ window
+
+-- the odometer shows the window of t rounds and m identifiers that has the number n, if there is one
+pub record ShowsNumber (t m n : ℕ) (o : Odometer) : Type 0 where
+  pub odometer : IsOdometer o
+  pub front : o.front ≡ 2 * t
+  pub ids : o.ids ≡ m
+  pub window : n < length (windows (2 * t + 1) m) → slice_get (windows (2 * t + 1) m) n ≡ Some (window_of o)
+
+-- the new odometer has the old one's sizes, and shows the window that is so many later, if there is one
+pub record IsAdvanced (count : ℕ) (old new : Odometer) : Type 0 where
+  pub odometer : IsOdometer new
+  pub front : new.front ≡ old.front
+  pub ids : new.ids ≡ old.ids
+  pub later : IsLater count (old.front + 1) old.ids (window_of old) (window_of new)
 
 -- these are the pieces of the odometer's identifiers, and of as many channels as a table can have at the most
 pub record HasPieces (o : Odometer) (pieces : Pieces) : Type 0 where

@@ -1,7 +1,8 @@
 -- Orders of the numbers below a bound: a window, and then the numbers that it lacks. No public contract cites this
 -- file.
-use Rattle.std.specs.Prelude.{◌≡◌, ℕ, ◌+◌, ◌<◌, List, length, take, drop, slice_index, slice_get, Some}
+use Rattle.std.specs.Prelude.{◌≡◌, ℕ, ◌+◌, ◌<◌, ◌≤◌, List, length, take, drop, slice_index, slice_get, Some}
 use Rattle.win_index.specs.Windows.{unused, windows, IsWindow}
+use Rattle.win_index.specs.declared.limits.TheConstants.{MAX_IDS}
 
 -- the numbers below m in an order: a window of length k, and then the numbers that it lacks, in rising order
 pub record IsOrder (k m : ℕ) (order : List ℕ) : Type 0 where
@@ -32,3 +33,11 @@ place_of k order = k + 1 + length (unused (slice_index order k) (take k order))
 -- the places for each of the first k numbers of an order
 abbrev pub ArePlaces : ℕ → List ℕ → List ℕ → Type 0
 ArePlaces k order places = (j : ℕ) → j < k → slice_index places j ≡ place_of j order
+
+-- an order of at most MAX_IDS numbers that begins with a window of length k, and the places for the window's numbers
+pub record IsPlaced (k : ℕ) (order places : List ℕ) : Type 0 where
+  pub within : k ≤ length order
+  pub room : k ≤ length places
+  pub few : length order ≤ MAX_IDS
+  pub ordered : IsOrder k (length order) order
+  pub placed : ArePlaces k order places

@@ -1,17 +1,20 @@
 -- Sections of the lines of a table. No public contract cites this file.
-use Rattle.std.specs.Prelude.{◌≡◌, ℕ, ◌+◌, ◌*◌, ◌<◌, List, [], ◌∷◌, ◌++◌, length, take, drop, Some, slice_get, slice_index_or}
+use Rattle.std.specs.Prelude.{◌≡◌, ℕ, ◌+◌, ◌*◌, ◌<◌, ◌≤◌, List, [], ◌∷◌, ◌++◌, length, take, drop, slice_index_or}
 use Rattle.channel_tables.specs.Tables.{ChannelTable, windows_of}
 use Rattle.table_text.specs.TableText.{entries_then}
-use Rattle.table_text.specs.Odometers.{IsOdometer, window_of}
+use Rattle.table_text.specs.Odometers.{ShowsNumber}
 use Rattle.table_text.specs.Pieces.{id_text, channel_text}
 use Rattle.table_text.specs.declared.odometer.Odometer.{Odometer}
 
--- the odometer shows the window of this number, if there is one
-pub record Shows (t : ChannelTable) (n : ℕ) (o : Odometer) : Type 0 where
-  pub odometer : IsOdometer o
-  pub front : o.front ≡ 2 * t.rounds
-  pub ids : o.ids ≡ t.ids
-  pub window : n < length (windows_of t) → slice_get (windows_of t) n ≡ Some (window_of o)
+-- the odometer shows the table's window of this number, if there is one
+abbrev pub Shows : ChannelTable → ℕ → Odometer → Type 0
+Shows t = ShowsNumber t.rounds t.ids
+
+-- the odometer shows the table's window of this number, and so many windows from that one on are of one run
+pub record ShowsRun (t : ChannelTable) (first count : ℕ) (o : Odometer) : Type 0 where
+  pub shows : Shows t first o
+  pub run : o.last + count ≤ o.ids
+  pub within : first + count ≤ length (windows_of t)
 
 -- the lines of this many windows from a number on, as far as there are so many
 abbrev pub lines_from : ChannelTable → ℕ → ℕ → List ℕ

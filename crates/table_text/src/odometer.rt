@@ -4,7 +4,7 @@
 ghost use Rattle.std.specs.Prelude.{◌≡◌, ℕ, ◌+◌, ◌≤◌, length, take};
 ghost use Rattle.win_index.specs.Windows.{IsWindow};
 ghost use Rattle.win_index.specs.declared.limits.TheConstants.{MAX_IDS};
-ghost use Rattle.table_text.specs.Orders.{IsOrder, IsStep, ArePlaces, place_of};
+ghost use Rattle.table_text.specs.Orders.{IsOrder, IsStep, ArePlaces, IsPlaced, place_of};
 
 use crate::line_prefix::LinePrefix;
 use crate::piece::Piece;
@@ -24,10 +24,7 @@ fn carry(order: &mut [u32], last: usize)
 // Replaces the first `len` identifiers of an order by the window after them, or the last window by
 // the first, and their places. Returns the number of identifiers at its start that are the same.
 fn next_front(order: &mut [u32], places: &mut [u16], len: usize) -> usize
-    requires within { (len ≤ length order.old) × (len ≤ length places.old) }
-    requires ids { length order.old ≤ MAX_IDS }
-    requires order { IsOrder len (length order.old) order.old }
-    requires places { ArePlaces len order.old places.old }
+    requires { IsPlaced len order.old places.old }
     ensures step { IsStep len (length order.old) order.old order.new }
     ensures places { ArePlaces len order.new places.new }
     ensures few { result ≤ len }
@@ -107,20 +104,17 @@ pub(crate) struct Odometer {
 }
 
 impl Odometer {
-    ghost use Rattle.std.specs.Prelude.{◌≡◌, ◌+◌, ◌*◌, ◌<◌, ◌≤◌, Some, length, take, drop, All, slice_get};
+    ghost use Rattle.std.specs.Prelude.{◌≡◌, ◌+◌, ◌*◌, ◌<◌, ◌≤◌, length, take, drop, All};
     ghost use Rattle.win_index.specs.declared.limits.TheConstants.{MAX_IDS, MAX_WINDOW_LEN};
     ghost use Rattle.win_index.specs.Windows.{windows, IsWindow};
     ghost use Rattle.table_text.specs.Pieces.{id_text, AreTexts};
-    ghost use Rattle.table_text.specs.Orders.{IsLater, IsFollowedBy};
-    ghost use Rattle.table_text.specs.Odometers.{IsOdometer, window_of, last_of};
+    ghost use Rattle.table_text.specs.Odometers.{IsOdometer, ShowsWindow, ShowsNumber, IsAdvanced, window_of, last_of};
 
     // Shows the window of the last level with this number.
     pub(crate) fn at(shape: Shape, number: u32, pieces: &[Piece]) -> Odometer
         requires number { number < length (windows (2 * shape.rounds + 1) shape.ids) }
         requires pieces { AreTexts id_text pieces.now × (length pieces.now ≡ shape.ids) }
-        ensures is { IsOdometer result }
-        ensures of { (result.front ≡ 2 * shape.rounds) × (result.ids ≡ shape.ids) }
-        ensures window { slice_get (windows (2 * shape.rounds + 1) shape.ids) number ≡ Some (window_of result) }
+        ensures { ShowsNumber shape.rounds shape.ids number result }
     {
         let level = shape.rounds();
         let mut cells = [0; MAX_WINDOW_LEN];
@@ -134,9 +128,7 @@ impl Odometer {
         requires len { (0 < length window.now) × (length window.now ≤ MAX_WINDOW_LEN) }
         requires window { IsWindow (length window.now) (length pieces.now) window.now }
         requires pieces { AreTexts id_text pieces.now × (length pieces.now ≤ MAX_IDS) }
-        ensures is { IsOdometer result }
-        ensures of { (result.front + 1 ≡ length window.now) × (result.ids ≡ length pieces.now) }
-        ensures window { window_of result ≡ window.now }
+        ensures { ShowsWindow (length pieces.now) window.now result }
     {
         let front = window.len() - 1;
         let shared = &window[..front];
@@ -181,9 +173,7 @@ impl Odometer {
         requires is { IsOdometer self.old }
         requires within { (0 < count) × (self.old.last + count ≤ self.old.ids) }
         requires pieces { AreTexts id_text pieces.now × (length pieces.now ≡ self.old.ids) }
-        ensures is { IsOdometer self.new }
-        ensures same { (self.new.front ≡ self.old.front) × (self.new.ids ≡ self.old.ids) }
-        ensures later { IsLater count (self.old.front + 1) self.old.ids (window_of self.old) (window_of self.new) }
+        ensures { IsAdvanced count self.old self.new }
     {
         self.last += count as usize - 1;
         self.advance(pieces);
@@ -194,9 +184,7 @@ impl Odometer {
     pub(crate) fn advance(&mut self, pieces: &[Piece])
         requires is { IsOdometer self.old }
         requires pieces { AreTexts id_text pieces.now × (length pieces.now ≡ self.old.ids) }
-        ensures is { IsOdometer self.new }
-        ensures same { (self.new.front ≡ self.old.front) × (self.new.ids ≡ self.old.ids) }
-        ensures next { IsFollowedBy (self.old.front + 1) self.old.ids (window_of self.old) (window_of self.new) }
+        ensures { IsAdvanced 1 self.old self.new }
     {
         if self.last + 1 < self.ids {
             self.last += 1;
@@ -210,9 +198,7 @@ impl Odometer {
     fn next_run(&mut self, pieces: &[Piece])
         requires is { IsOdometer self.old × (self.old.ids ≤ self.old.last + 1) }
         requires pieces { AreTexts id_text pieces.now × (length pieces.now ≡ self.old.ids) }
-        ensures is { IsOdometer self.new }
-        ensures same { (self.new.front ≡ self.old.front) × (self.new.ids ≡ self.old.ids) }
-        ensures next { IsFollowedBy (self.old.front + 1) self.old.ids (window_of self.old) (window_of self.new) }
+        ensures { IsAdvanced 1 self.old self.new }
     {
         let ids = self.ids;
         let front = self.front;

@@ -7,7 +7,7 @@ ghost use Rattle.win_index.specs.declared.limits.TheConstants.{MAX_ROUNDS, MAX_W
 ghost use Rattle.channel_tables.specs.Tables.{windows_of};
 ghost use Rattle.table_text.specs.declared.sections.TheConstants.{LINES_LEN, LINE_LEN};
 ghost use Rattle.table_text.specs.declared.line_prefix.TheConstants.{PREFIX_LEN};
-ghost use Rattle.table_text.specs.Sections.{lines_from, run_lines, AreEmpty, AreFilled, Shows};
+ghost use Rattle.table_text.specs.Sections.{lines_from, run_lines, AreEmpty, AreFilled, Shows, ShowsRun};
 ghost use Rattle.table_text.specs.Pieces.{id_text, channel_text, AreTexts, ArePieces};
 
 use crate::line_prefix::{PREFIX_LEN, SHORT_LEN};
@@ -148,9 +148,7 @@ impl Lines<'_> {
     #[inline(never)]
     fn store_run(self, odometer: &Odometer, chunk: &mut Chunk, first: u32, count: u32)
         requires room { length chunk.old + count * (16 * self.table.now.rounds + 16) + LINE_LEN ≤ CHUNK_LEN }
-        requires within { first + count ≤ length (windows_of self.table.now) }
-        requires shows { Shows self.table.now first odometer.now }
-        requires run { odometer.now.last + count ≤ odometer.now.ids }
+        requires run { ShowsRun self.table.now first count odometer.now }
         ensures lines { chunk.new ≡ chunk.old ++ lines_from self.entry.table.now first count }
         ensures filled { length chunk.new ≤ length chunk.old + count * (16 * self.entry.table.now.rounds + 16) }
     {

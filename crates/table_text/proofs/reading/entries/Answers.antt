@@ -6,7 +6,7 @@ use Rattle.table_text.specs.TableText.{written, lines_then}
 use Rattle.table_text.specs.Odometers.{window_of}
 use Rattle.table_text.specs.LineForms.{HasEntry}
 use Rattle.table_text.specs.Faults.{IsWithin, no_entry}
-use Rattle.table_text.proofs.Odometers.{window_size, later_at}
+use Rattle.table_text.proofs.Odometers.{window_size, shows_later}
 use Rattle.table_text.proofs.TableLines.{begun_more, lines_more}
 use Rattle.table_text.proofs.reading.entries.Goals as goal
 
@@ -35,10 +35,7 @@ lines-init c =
             below = All-nil (λ (x : ℕ). x < c.args.header.channels);
           });
       count = ap (λ t. length t.entries) made;
-      shows = c.at-odometer.ensures.is;
-      front_is = c.at-odometer.ensures.of.0;
-      ids_is = c.at-odometer.ensures.of.1;
-      next = λ _. c.at-odometer.ensures.window;
+      shows = c.at-odometer.ensures;
       read =
           c.requires.head.lines ∙ ap (λ t. lines_then (written c.args.version t c.args.header.separation) c.args.start.now)
           (sym made);
@@ -57,7 +54,7 @@ syntax-requires-clause-malformed c =
           rw (inv.rounds, inv.ids) (room_for _ _ _ _ inv.count c.lines-test.true (rw c.rounds-level.ensures at count));
     } in
     let width : length (window_of c.lines.odometer) ≡ 2 * c.lines.maker.rounds + 1 =
-    rw inv.rounds (window_size c.lines.odometer inv.shows ∙ ap (λ n. n + 1) inv.front_is) in
+    rw inv.rounds (window_size c.lines.odometer inv.shows.odometer ∙ ap (λ n. n + 1) inv.shows.front) in
     no_entry w within (subst (λ k. HasEntry k c.lines.rest.now → ⊥) width c.in-Malformed.ensures)
 
 pub lines-preserved : goal.lines-preserved
@@ -72,8 +69,7 @@ lines-preserved c =
     rw (inv.rounds, inv.ids) (room_for _ _ _ _ inv.count c.lines-test.true count) in
     let within = rw count at c.lines-test.true in
     let next : slice_get (windows_of t) (length t.entries) ≡ Some (window_of c.lines.odometer) =
-    rw (inv.rounds, inv.ids, inv.count) (inv.next within) in
-    let advanced = c.advance.ensures in
+    rw (inv.rounds, inv.ids, inv.count) (inv.shows.window within) in
     record {
       ids = ap (λ m. m.ids) pushed ∙ inv.ids;
       rounds = ap (λ m. m.rounds) pushed ∙ inv.rounds;
@@ -82,12 +78,8 @@ lines-preserved c =
           subst IsBegun (sym pushed)
           (begun_more t channel inv.begun room (rw inv.channels (c.is_too_large.ensures.no c.if-is_too_large.false)));
       count = ap (λ m. length m.entries) pushed ∙ length_push t.entries channel ∙ ap (λ n. n + 1) inv.count;
-      shows = advanced.is;
-      front_is = advanced.same.0 ∙ inv.front_is;
-      ids_is = advanced.same.1 ∙ inv.ids_is;
-      next = later_at 1 (2 * c.args.header.shape.rounds) c.args.header.shape.ids c.lines.odometer c.advance.new.self
-          inv.front_is inv.ids_is advanced.next
-          c.lines.number (inv.next within);
+      shows = shows_later 1 c.args.header.shape.rounds c.args.header.shape.ids c.lines.number c.lines.odometer
+          c.advance.new.self inv.shows c.advance.ensures;
       read = lines_more c.args.version t c.args.header.separation c.args.text.now c.lines.rest.now
           (window_of c.lines.odometer) channel c.in-Entry.after.now inv.read next c.in-Entry.ensures.spelled
           ∙ ap (λ m. lines_then (written c.args.version m c.args.header.separation) c.in-Entry.after.now) (sym pushed);
@@ -105,11 +97,11 @@ returns-then-is_too_large-clause-fault c =
       more = rw (inv.rounds, inv.ids) (room_for _ _ _ _ inv.count c.lines-test.true count);
     } in
     let width : length (window_of c.lines.odometer) ≡ 2 * c.lines.maker.rounds + 1 =
-    rw inv.rounds (window_size c.lines.odometer inv.shows ∙ ap (λ n. n + 1) inv.front_is) in
+    rw inv.rounds (window_size c.lines.odometer inv.shows.odometer ∙ ap (λ n. n + 1) inv.shows.front) in
     let own = rw width at c.in-Entry.ensures in
     let below = rw count at c.lines-test.true in
     let next : slice_get (windows_of c.lines.maker) (length c.lines.maker.entries)
-    ≡ Some (window_of c.lines.odometer) = rw (inv.rounds, inv.ids, inv.count) (inv.next below) in (
+    ≡ Some (window_of c.lines.odometer) = rw (inv.rounds, inv.ids, inv.count) (inv.shows.window below) in (
       c.requires.short,
       w,
       window_of c.lines.odometer,

@@ -1,7 +1,7 @@
-use Rattle.std.proofs.Common.{◌≡◌, ◌+◌, ◌≤◌, length, length-take, length-take-le, take, sym, subst, ◌∙◌, arith}
+use Rattle.std.proofs.Common.{◌≡◌, ◌+◌, ◌≤◌, length, length-take, length-take-le, take, take_all, refl, sym, subst, ◌∙◌, arith, rules}
 use Rattle.std.proofs.lemmas.List.{take-append-le, get_or_append_left}
 use Rattle.table_text.specs.Prefixes.{HasTexts}
-use Rattle.table_text.proofs.Orders.{next_run, kept_front}
+use Rattle.table_text.proofs.Orders.{next_run, kept_front, places_kept}
 use Rattle.table_text.proofs.PrefixTexts.{texts_front}
 use Rattle.table_text.proofs.odometer.Odometer.next_run.Goals as goal
 
@@ -24,16 +24,34 @@ show-requires-clause-kept c =
           (omega (arith, made.few, old))),
     )
 
-pub returns-clause-next : goal.returns-clause-next
-returns-clause-next c =
+pub returns : goal.returns
+returns c =
     let o = c.args.self.now in
     let is = c.requires.is.0 in
     let new = c.next_front-kept.new.order in
     let last : o.last + 1 ≡ o.ids = omega (arith, is.within, c.requires.is.1) in
-    let size : length new ≡ o.ids = c.next_front-kept.ensures.step.order.size ∙ is.order.size in
+    let made = c.next_front-kept.ensures in
+    let size : length new ≡ o.ids = made.step.order.size ∙ is.order.size in
     let step = next_run o.front o.ids o.last o.order new is.order is.from last
-    (rw is.order.size at c.next_front-kept.ensures.step) in
-    rw (
-      take-append-le o.front new _ (omega (arith, size, is.from, is.within)),
-      get_or_append_left new _ 0 o.front (omega (arith, size, is.from, is.within)),
-    ) step
+    (rw is.order.size at made.step) in
+    record {
+      odometer = record {
+        few = is.few;
+        short = is.short;
+        order = rw (take-append-le o.ids new _ (omega (arith, size)), take_all o.ids new (omega (arith, size)))
+            (rw is.order.size at made.step.order);
+        places = places_kept o.front new _ c.next_front-kept.new.places made.places
+            (take-append-le o.front new _ (omega (arith, size, is.from, is.within)));
+        from = omega arith;
+        within = omega (arith, is.from, is.within);
+        texts = search rules;
+        text = search rules;
+      };
+      front = refl;
+      ids = refl;
+      later =
+          rw (
+            take-append-le o.front new _ (omega (arith, size, is.from, is.within)),
+            get_or_append_left new _ 0 o.front (omega (arith, size, is.from, is.within)),
+          ) step;
+    }

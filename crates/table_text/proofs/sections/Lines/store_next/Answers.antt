@@ -1,8 +1,8 @@
-use Rattle.std.proofs.Common.{◌≡◌, ℕ, ◌+◌, ◌-◌, ◌*◌, ◌<◌, ◌≤◌, ◌++◌, length, ap, sym, ◌∙◌, arith, rules, append_assoc}
+use Rattle.std.proofs.Common.{◌≡◌, ℕ, ◌+◌, ◌-◌, ◌*◌, ◌≤◌, ◌++◌, length, ap, sym, ◌∙◌, arith, append_assoc}
 use Rattle.std.proofs.Math.Nat.{mul-le-mul_right}
 use Rattle.channel_tables.specs.Tables.{windows_of}
 use Rattle.table_text.specs.Sections.{lines_from}
-use Rattle.table_text.proofs.Odometers.{later_at}
+use Rattle.table_text.proofs.Odometers.{shows_later}
 use Rattle.table_text.proofs.WrittenLines.{lines_join}
 use Rattle.table_text.proofs.sections.Lines.store_next.Goals as goal
 
@@ -33,22 +33,14 @@ loop-next-preserved c =
     let width : ℕ = 16 * t.rounds + 16 in
     let wide : (next + count - first) * width ≡ done * width + count * width =
     ap (λ n. n * width) more ∙ longer done count width in
-    let within : next < length (windows_of t) = search rules in
     let enough : length t.entries ≤ length (windows_of t) = omega arith in
     let joined : lines_from t first done ++ lines_from t next count ≡ lines_from t first (next + count - first) =
     ap (λ n. lines_from t first done ++ lines_from t n count) (sym here) ∙ lines_join t first done count enough
     ∙ ap (lines_from t first) (sym more) in
-    let advanced = c.advance_by.ensures in
     record {
       from = omega arith;
       within = omega (arith, c.min-count.ensures);
-      shows = record {
-        odometer = advanced.is;
-        front = advanced.same.0 ∙ inv.shows.front;
-        ids = advanced.same.1 ∙ inv.shows.ids;
-        window = later_at count (2 * t.rounds) t.ids c.loop-next.odometer c.advance_by.new.self inv.shows.front
-            inv.shows.ids advanced.later next (inv.shows.window within);
-      };
+      shows = shows_later count t.rounds t.ids next c.loop-next.odometer c.advance_by.new.self inv.shows c.advance_by.ensures;
       stored = c.store_run.ensures.lines
           ∙ ap (λ l. l ++ lines_from t next count) inv.stored
           ∙ append_assoc c.args.chunk.now (lines_from t first done) (lines_from t next count)

@@ -1,8 +1,8 @@
 use Rattle.std.proofs.Common.{◌≡◌, ℕ, ◌+◌, ◌-◌, ◌*◌, ◌≤◌, List, ◌++◌, length, length-take, take, drop, ap, ◌∙◌, arith}
 use Rattle.std.proofs.Math.Nat.{mul-le-mul_left, mul-le-mul_right}
-use Rattle.channel_tables.specs.Tables.{ChannelTable, windows_of}
+use Rattle.channel_tables.specs.Tables.{ChannelTable}
 use Rattle.table_text.specs.Pieces.{prefix_text}
-use Rattle.table_text.specs.Sections.{lines_from, run_lines, Shows}
+use Rattle.table_text.specs.Sections.{lines_from, run_lines, Shows, ShowsRun}
 use Rattle.table_text.specs.declared.odometer.Odometer.{Odometer}
 use Rattle.table_text.proofs.Odometers.{prefix_short}
 use Rattle.table_text.proofs.RunLines.{lines_of_run}
@@ -20,37 +20,35 @@ fit t o first count text entries shows text_is =
     omega (arith, mul-le-mul_right (length text + 16) few, mul-le-mul_left count short)
 
 -- the lines of these windows, from what they are made of
-stored : (t : ChannelTable) (o : Odometer) (first count n : ℕ) (text ids entries : List ℕ) → Shows t first o →
-    o.last + count ≤ o.ids → first + count ≤ length (windows_of t) → text ≡ prefix_text o.prefix →
+stored : (t : ChannelTable) (o : Odometer) (first count n : ℕ) (text ids entries : List ℕ) → ShowsRun t first count o →
+    text ≡ prefix_text o.prefix →
     ids ≡ take count (drop o.last o.order) → entries ≡ t.entries → n ≡ count
     → run_lines text ids (take n (drop first entries)) ≡ lines_from t first count
-stored t o first count n text ids entries shows run within text_is ids_are entries_are all =
+stored t o first count n text ids entries run text_is ids_are entries_are all =
     (λ i. run_lines (text_is i) (ids_are i) (take (all i) (drop first (entries_are i))))
-    ∙ lines_of_run t first count o shows run within
+    ∙ lines_of_run t first count o run
 
 pub push_stored-requires-else-prefix-le-SHORT_LEN : goal.push_stored-requires-else-prefix-le-SHORT_LEN
 push_stored-requires-else-prefix-le-SHORT_LEN c =
     omega (
       arith,
       c.requires.room,
-      fit c.args.self.table.now c.args.odometer.now c.args.first c.args.count _ c.entries.result.now c.requires.shows
+      fit c.args.self.table.now c.args.odometer.now c.args.first c.args.count _ c.entries.result.now c.requires.run.shows
           c.part-prefix.ensures.text,
     )
 
 pub returns-then-prefix-le-SHORT_LEN-clause-lines : goal.returns-then-prefix-le-SHORT_LEN-clause-lines
 returns-then-prefix-le-SHORT_LEN-clause-lines c =
-    let r = c.requires in
     c.push_stored.ensures.text
     ∙ ap (λ l. c.args.chunk.now ++ l)
-    (stored c.args.self.table.now c.args.odometer.now c.args.first c.args.count _ _ _ _ r.shows r.run r.within
+    (stored c.args.self.table.now c.args.odometer.now c.args.first c.args.count _ _ _ _ c.requires.run
     c.start-start.ensures c.last_ids-last_ids.ensures.ids c.entries.ensures.value (omega arith))
 
 pub returns-else-prefix-le-SHORT_LEN-clause-lines : goal.returns-else-prefix-le-SHORT_LEN-clause-lines
 returns-else-prefix-le-SHORT_LEN-clause-lines c =
-    let r = c.requires in
     c.push_stored-else-prefix-le-SHORT_LEN.ensures.text
     ∙ ap (λ l. c.args.chunk.now ++ l)
-    (stored c.args.self.table.now c.args.odometer.now c.args.first c.args.count _ _ _ _ r.shows r.run r.within
+    (stored c.args.self.table.now c.args.odometer.now c.args.first c.args.count _ _ _ _ c.requires.run
     c.part-prefix.ensures.text c.last_ids-last_ids.ensures.ids c.entries.ensures.value (omega arith))
 
 pub returns-else-prefix-le-SHORT_LEN-clause-filled : goal.returns-else-prefix-le-SHORT_LEN-clause-filled
@@ -58,6 +56,6 @@ returns-else-prefix-le-SHORT_LEN-clause-filled c =
     omega (
       arith,
       c.push_stored-else-prefix-le-SHORT_LEN.ensures.few,
-      fit c.args.self.table.now c.args.odometer.now c.args.first c.args.count _ c.entries.result.now c.requires.shows
+      fit c.args.self.table.now c.args.odometer.now c.args.first c.args.count _ c.entries.result.now c.requires.run.shows
           c.part-prefix.ensures.text,
     )
