@@ -2,6 +2,7 @@
 //! before.
 ghost use Rattle.std.specs.Prelude.{◌≡◌, ℕ, ◌+◌, ◌*◌, ◌<◌, ◌≤◌, map, length, slice_index_or, All, [], ◌∷◌, ◌++◌};
 ghost use Rattle.node_program.specs.Node as rounds;
+ghost use Rattle.round_eval.specs.NodeCounts.{IsNodeCount};
 ghost use Rattle.round_eval.specs.Rows.{row_after, rows};
 
 use crate::node::{sent_to_left, sent_to_right, start_state, step};
@@ -59,8 +60,7 @@ pub fn round_of_row(
     out: &mut [u32],
 )
     requires round { round < length plan.now.program.steps }
-    requires some { 1 ≤ nodes }
-    requires few { nodes ≤ MAX_IDS }
+    requires nodes { IsNodeCount nodes }
     requires size { nodes * length plan.now.program.start ≤ length states.now }
     requires out_size { nodes * length plan.now.program.start ≤ length out.old }
     ensures { rows (length plan.now.program.start) nodes out.new
