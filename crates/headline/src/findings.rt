@@ -1,5 +1,6 @@
 //! Compiling, running and judging in one call.
 ghost use Rattle.std.specs.Prelude.{◌≡◌, ◌↔◌, IfOk, IfErr, OnOk, length};
+ghost use Rattle.table_fill.specs.ProgramTables.{table_of};
 ghost use Rattle.table_fill.specs.Workers.{IsWorkerCount};
 ghost use Rattle.border_exchange.specs.SegmentCounts.{IsSegmentCount};
 ghost use Rattle.headline.specs.Headline.{IsHeadline, TableAgrees};
@@ -104,7 +105,6 @@ fn in_range(ring: &Ring, workers: u32, segments: u32) -> Result<(), FindingsFaul
 }
 
 // Returns the table of a plan's program, from a memo of its own.
-#[tactic(auto, unfolding(table_fill::specs::ProgramTables::table_of))]
 fn compiled<R: Threads + Wait + Sync, G: Gate + Sync>(
     rt: &R,
     alloc: Global,
@@ -112,9 +112,8 @@ fn compiled<R: Threads + Wait + Sync, G: Gate + Sync>(
     workers: u32,
     gate: &G,
 ) -> Result<Table, FindingsFault>
+    ensures table { IfOk result (λ table. table ≡ table_of plan.now.program plan.now.ids) }
     ensures agrees { IfOk result (TableAgrees plan.now.program plan.now.ids) }
-    ensures ids { IfOk result (λ table. table.ids ≡ plan.now.ids) }
-    ensures rounds { IfOk result (λ table. table.rounds ≡ length plan.now.program.steps) }
     ensures in_range { OnOk result (IsWorkerCount workers) }
     ensures workers { IfErr result (λ fault. fault ≡ FindingsFault.Table FillFault.WorkersOutOfRange → ¬ IsWorkerCount workers) }
     ensures no_run { IfErr result (λ fault. (why : RunFault) → ¬ fault ≡ FindingsFault.Run why) }
