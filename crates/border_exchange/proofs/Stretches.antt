@@ -52,8 +52,7 @@ advance_keeps law s first end spare used left right cells after kept more used_i
     let to_last = from_right ∙ ap (λ i. to_left p s.round (state p x s.round (right_of x i))) last in
     let next = law p x s.round first (end - first) (omega arith) in
     record {
-      ids = kept.ids;
-      rounds = kept.rounds;
+      shape = kept.shape;
       few_segments = kept.few_segments;
       index = kept.index;
       round = omega arith;

@@ -2,6 +2,7 @@
 use Rattle.std.specs.Prelude.{◌≡◌, ℕ, ◌+◌, ◌-◌, ◌*◌, ◌<◌, ◌≤◌, List, length}
 use Rattle.lang_check.specs.Plans.{ProgramForIds}
 use Rattle.win_index.specs.Ring.{OrientedRing}
+use Rattle.round_eval.specs.Shapes.{IsOfShape}
 use Rattle.round_eval.specs.Rows.{rows, stretch}
 use Rattle.border_exchange.specs.SegmentPlaces.{first_place}
 
@@ -28,8 +29,7 @@ states_of s = stretch s.plan.program s.ring.places s.round (first_of s) (places_
 -- the invariant of segments: the first place, the place after the last, the number of spare cells, and the cells of the
 -- places
 pub record KeepsSegment (s : RingSegment) (first end spare : ℕ) (cells : List ℕ) : Type 0 where
-  pub ids : s.ring.ids ≡ s.plan.ids
-  pub rounds : s.ring.rounds ≡ length s.plan.program.steps
+  pub shape : IsOfShape s.ring s.plan
   pub few_segments : s.segments ≤ length s.ring.places
   pub index : s.index < s.segments
   pub round : s.round ≤ length s.plan.program.steps

@@ -2,6 +2,7 @@
 ghost use Rattle.std.specs.Prelude.{◌≡◌, ◌+◌, ◌-◌, ◌*◌, ◌<◌, ◌≤◌, ◌↔◌, IfOk, IsOk, IsTrue, OnOk, OnErr, length};
 ghost use Rattle.node_program.specs.declared.limits.TheConstants.{MAX_ROUNDS};
 ghost use Rattle.round_eval.specs.Rows.{rows};
+ghost use Rattle.round_eval.specs.Shapes.{IsOfShape};
 ghost use Rattle.border_exchange.specs.Segments.{RingSegment, places_of, states_of};
 
 use crate::Side;
@@ -64,8 +65,7 @@ impl<'a> Segment<'a> {
         segments: u32,
         index: u32,
     ) -> Result<Segment<'a>, OutOfMemory>
-        requires ids { ring.now.ids ≡ plan.now.ids }
-        requires rounds { ring.now.rounds ≡ length plan.now.program.steps }
+        requires shape { IsOfShape ring.now plan.now }
         requires segments { segments ≤ length ring.now.places }
         requires index { index < segments }
         ensures { IfOk result (λ s. s ≡ record { plan = plan.now; ring = ring.now; segments = segments; index = index; round = 0 }) }

@@ -1,6 +1,7 @@
 //! What a segment holds and sends, and the segment machine.
 
 ghost use Rattle.std.specs.Prelude.{◌≡◌, ◌<◌, ◌≤◌, IfSome, length};
+ghost use Rattle.round_eval.specs.Shapes.{IsOfShape};
 
 mod machine;
 
@@ -13,7 +14,7 @@ use win_index::Ring;
 
 // Returns the ring of these identifiers for a plan.
 fn ring_of(alloc: Global, plan: &Plan, ids: &[u32]) -> Option<Ring>
-    ensures { IfSome result (λ ring. (ring.ids ≡ plan.now.ids) × (ring.rounds ≡ length plan.now.program.steps) × (ring.places ≡ ids.now)) }
+    ensures { IfSome result (λ ring. IsOfShape ring plan.now × (ring.places ≡ ids.now)) }
 {
     Ring::new(plan.shape(), ids.to_vec(alloc).ok()?).ok()
 }
@@ -41,8 +42,7 @@ fn a_segment_sends_what_its_ends_send(rt: HostRuntime) -> Result<(), Fail> {
 // Returns whether one of three segments begins at the place and holds the identifiers of `part`.
 // RED starts on its identifier.
 fn holds(alloc: Global, plan: &Plan, ring: &Ring, index: u32, part: (u32, &[u32])) -> Option<bool>
-    requires ids { ring.now.ids ≡ plan.now.ids }
-    requires rounds { ring.now.rounds ≡ length plan.now.program.steps }
+    requires shape { IsOfShape ring.now plan.now }
     requires places { 3 ≤ length ring.now.places }
     requires index { index < 3 }
 {

@@ -1,5 +1,6 @@
 //! Compiling, running and judging in one call.
 ghost use Rattle.std.specs.Prelude.{◌≡◌, ◌↔◌, IfOk, IfErr, OnOk, length};
+ghost use Rattle.round_eval.specs.Shapes.{IsOfShape};
 ghost use Rattle.table_fill.specs.ProgramTables.{table_of};
 ghost use Rattle.table_fill.specs.Workers.{IsWorkerCount};
 ghost use Rattle.border_exchange.specs.SegmentCounts.{IsSegmentCount};
@@ -63,8 +64,7 @@ pub fn compile_run_and_judge<'a, R: Threads + Wait + Sync, G: Gate + Sync>(
     segments: u32,
     gate: &'a G,
 ) -> Result<Findings, FindingsFault>
-    requires ids { ring.now.ids ≡ plan.now.ids }
-    requires rounds { ring.now.rounds ≡ length plan.now.program.steps }
+    requires shape { IsOfShape ring.now plan.now }
     ensures headline { IfOk result (λ found. IsHeadline plan.now.program plan.now.ids separation ring.now.places found.channels.items found.table found.verdict) }
     ensures in_range { OnOk result (IsWorkerCount workers × IsSegmentCount segments (length ring.now.places)) }
     ensures workers { IfErr result (λ fault. (fault ≡ FindingsFault.Table FillFault.WorkersOutOfRange) ↔ (¬ IsWorkerCount workers)) }

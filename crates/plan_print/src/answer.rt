@@ -1,6 +1,7 @@
 //! The reports of the tasks on a program that need its table or a run.
 
 ghost use Rattle.std.specs.Prelude.{◌≡◌, length, IfOk, IfErr};
+ghost use Rattle.round_eval.specs.Shapes.{IsOfShape};
 ghost use Rattle.table_fill.specs.ProgramTables.{table_of};
 ghost use Rattle.task_words.specs.Counts.{IsCount};
 ghost use Rattle.plan_print.specs.Engine.{IsTaskFault};
@@ -55,8 +56,7 @@ fn channels_answer<T: Threads + Wait + Sync>(
     ring: &Ring,
     segments: u32,
 ) -> Result<Answer, EngineFault>
-    requires ids { ring.now.ids ≡ plan.now.ids }
-    requires rounds { ring.now.rounds ≡ length plan.now.program.steps }
+    requires shape { IsOfShape ring.now plan.now }
     ensures answer { IfOk result (λ r. IsRunAnswer plan.now.program ring.now.places segments (report_in r)) }
     ensures fault { IfErr result (IsTaskFault segments) }
 {

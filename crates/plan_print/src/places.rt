@@ -1,6 +1,7 @@
 //! The channels of a ring's places, looked up in the table of a program.
 
-ghost use Rattle.std.specs.Prelude.{◌≡◌, length, IfOk, string_bytes};
+ghost use Rattle.std.specs.Prelude.{◌≡◌, IfOk, string_bytes};
+ghost use Rattle.round_eval.specs.Shapes.{IsOfShape};
 ghost use Rattle.table_fill.specs.ProgramTables.{table_of};
 ghost use Rattle.reports.specs.Report.{place_lines};
 
@@ -20,8 +21,7 @@ pub(crate) fn places_text(
     ring: &Ring,
 ) -> Result<String, OutOfMemory>
     requires table { table.now ≡ table_of plan.now.program plan.now.ids }
-    requires ids { ring.now.ids ≡ plan.now.ids }
-    requires rounds { ring.now.rounds ≡ length plan.now.program.steps }
+    requires shape { IsOfShape ring.now plan.now }
     ensures { IfOk result (λ text. string_bytes text ≡ place_lines plan.now.program ring.now.places) }
 {
     table_has_the_channels_of_rounds();

@@ -1,5 +1,5 @@
 //! Rows of the headline.
-ghost use Rattle.refusals.specs.Shapes.{IsOfShape};
+ghost use Rattle.round_eval.specs.Shapes.{IsOfShape};
 
 use crate::miss::Miss;
 use crate::plans::{plan_of, ring_for};

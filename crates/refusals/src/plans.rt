@@ -1,5 +1,6 @@
 //! The plans, rings and blocks of rows.
-ghost use Rattle.std.specs.Prelude.{◌≡◌, true, IfOk, length};
+ghost use Rattle.std.specs.Prelude.{◌≡◌, true, IfOk};
+ghost use Rattle.round_eval.specs.Shapes.{IsOfShape};
 ghost use Rattle.shared_memo.specs.PlanJobs.{IsKey};
 
 use crate::miss::Miss;
@@ -17,7 +18,7 @@ pub(crate) fn plan_of(alloc: Global, text: &[u8]) -> Result<Plan, Miss> {
 
 /// Returns the ring of these identifiers for a plan.
 pub(crate) fn ring_for(alloc: Global, plan: &Plan, ids: &[u32]) -> Result<Ring, Miss>
-    ensures { IfOk result (λ ring. (ring.ids ≡ plan.now.ids) × (ring.rounds ≡ length plan.now.program.steps) × (ring.places ≡ ids.now)) }
+    ensures { IfOk result (λ ring. IsOfShape ring plan.now × (ring.places ≡ ids.now)) }
 {
     let ids = value_or(ids.to_vec(alloc), Miss::OtherCall)?;
     value_or(Ring::new(plan.shape(), ids), Miss::OtherCall)

@@ -1,6 +1,6 @@
 //! Rows of the segment machine.
 ghost use Rattle.std.specs.Prelude.{◌≡◌, ◌≤◌, IfOk, length};
-ghost use Rattle.refusals.specs.Shapes.{IsOfShape};
+ghost use Rattle.round_eval.specs.Shapes.{IsOfShape};
 
 use crate::miss::Miss;
 use crate::plans::{plan_of, ring_for};

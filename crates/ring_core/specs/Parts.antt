@@ -5,6 +5,7 @@ use Rattle.std.specs.List.{range_with_len}
 use Rattle.node_program.specs.Term.{Identifier}
 use Rattle.lang_check.specs.Plans.{ProgramForIds}
 use Rattle.win_index.specs.Ring.{OrientedRing}
+use Rattle.round_eval.specs.Shapes.{IsOfShape}
 use Rattle.border_exchange.specs.declared.Side.{Side}
 use Rattle.border_exchange.specs.declared.Side.TheVariants.{Rightward, Leftward}
 use Rattle.border_exchange.specs.declared.message.Msg.{Msg}
@@ -124,8 +125,7 @@ opening_part plan ring g s =
 
 -- the ring has the plan's shape, and at least as many places as segments
 pub record CanBeCut (plan : ProgramForIds) (ring : OrientedRing) (segments : ℕ) : Type 0 where
-  pub ids : ring.ids ≡ plan.ids
-  pub rounds : ring.rounds ≡ length plan.program.steps
+  pub shape : IsOfShape ring plan
   pub few : segments ≤ length ring.places
 
 -- part s is segment s, and has done no round in which its neighbours had not sent

@@ -6,6 +6,7 @@ ghost use Rattle.ring_exec.specs.Courses.{AreWaiting};
 ghost use Rattle.ring_exec.specs.Outcomes.{AreFalling};
 ghost use Rattle.ring_exec.specs.Runs.{CanRun};
 ghost use Rattle.border_exchange.specs.SegmentCounts.{IsSegmentCount};
+ghost use Rattle.round_eval.specs.Shapes.{IsOfShape};
 
 use crate::border_name::{Blanks, BorderName};
 use crate::course::{Course, ended};
@@ -43,8 +44,7 @@ pub fn run<'a, R: Threads + Wait + Sync, G: Gate + Sync>(
     segments: u32,
     gate: &'a G,
 ) -> Result<Vec<u32>, RunFault>
-    requires ids { ring.now.ids ≡ plan.now.ids }
-    requires rounds { ring.now.rounds ≡ length plan.now.program.steps }
+    requires shape { IsOfShape ring.now plan.now }
     ensures channels { IfOk result (λ channels. channels.items ≡ channels_of plan.now.program ring.now.places) }
     ensures in_range { OnOk result (IsSegmentCount segments (length ring.now.places)) }
     ensures out_of_range { IfErr result (λ fault. (fault ≡ RunFault.SegmentsOutOfRange) ↔ (¬ IsSegmentCount segments (length ring.now.places))) }

@@ -1,6 +1,7 @@
 //! All rounds of a ring on one thread.
 ghost use Rattle.std.specs.Prelude.{◌≡◌, length, IfOk};
 ghost use Rattle.node_program.specs.GlobalRounds.{channels_of};
+ghost use Rattle.round_eval.specs.Shapes.{IsOfShape};
 
 use crate::configuration::{Configuration, Reading};
 use lang_check::Plan;
@@ -11,8 +12,7 @@ use win_index::Ring;
 /// Runs all rounds of a plan on a ring of its shape, and returns the channels in the order of the
 /// places. In each round all nodes send, and then all of them step.
 pub fn plain_run(alloc: Global, plan: &Plan, ring: &Ring) -> Result<Vec<u32>, OutOfMemory>
-    requires ids { ring.now.ids ≡ plan.now.ids }
-    requires rounds { ring.now.rounds ≡ length plan.now.program.steps }
+    requires shape { IsOfShape ring.now plan.now }
     ensures { IfOk result (λ channels. channels.items ≡ channels_of plan.now.program ring.now.places) }
 {
     let mut places = Configuration::new(alloc, plan, ring)?;

@@ -1,6 +1,7 @@
 //! The segment machine on a ring whose registers are known.
 
 ghost use Rattle.std.specs.Prelude.{◌≡◌, ◌≤◌, IfSome, length};
+ghost use Rattle.round_eval.specs.Shapes.{IsOfShape};
 
 use super::ring_of;
 use lang_check::Plan;
@@ -17,8 +18,7 @@ fn after<'a>(
     ring: &'a Ring,
     events: &[RingEvent],
 ) -> Option<World<'a>>
-    requires ids { ring.now.ids ≡ plan.now.ids }
-    requires rounds { ring.now.rounds ≡ length plan.now.program.steps }
+    requires shape { IsOfShape ring.now plan.now }
     requires places { 2 ≤ length ring.now.places }
     ensures { IfSome result (λ world. length world.segments ≡ 2) }
 {
@@ -43,8 +43,7 @@ fn segments_are(
     events: &[RingEvent],
     segments: [(u32, &[u32]); 2],
 ) -> Option<bool>
-    requires ids { ring.now.ids ≡ plan.now.ids }
-    requires rounds { ring.now.rounds ≡ length plan.now.program.steps }
+    requires shape { IsOfShape ring.now plan.now }
     requires places { 2 ≤ length ring.now.places }
 {
     let world = after(alloc, plan, ring, events)?;

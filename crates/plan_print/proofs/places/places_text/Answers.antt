@@ -26,11 +26,11 @@ channels_of_rounds has p m ring is = λ place within. has p m ring place is with
 
 pub table_lines-requires-clause-ids : goal.table_lines-requires-clause-ids
 table_lines-requires-clause-ids c =
-    c.requires.ids ∙ sym (ids_of c.args.plan.now.program c.args.plan.now.ids c.args.table.now c.requires.table)
+    c.requires.shape.ids ∙ sym (ids_of c.args.plan.now.program c.args.plan.now.ids c.args.table.now c.requires.table)
 
 pub table_lines-requires-clause-rounds : goal.table_lines-requires-clause-rounds
 table_lines-requires-clause-rounds c =
-    c.requires.rounds ∙ sym (rounds_of c.args.plan.now.program c.args.plan.now.ids c.args.table.now c.requires.table)
+    c.requires.shape.rounds ∙ sym (rounds_of c.args.plan.now.program c.args.plan.now.ids c.args.table.now c.requires.table)
 
 pub returns : goal.returns
 returns c =
@@ -38,7 +38,7 @@ returns c =
     let m = c.args.plan.now.ids in
     let ring = c.args.ring.now.places in
     let valid : IsRing m (length p.steps) ring =
-    rw (c.requires.ids, c.requires.rounds) at c.table_lines.ensures.valid in
+    rw (c.requires.shape.ids, c.requires.shape.rounds) at c.table_lines.ensures.valid in
     let channels =
     subst (λ t. HasChannels t ring (channel_at p ring)) (sym c.requires.table)
     (channels_of_rounds c.table_has_the_channels_of_rounds.ensures p m ring valid) in

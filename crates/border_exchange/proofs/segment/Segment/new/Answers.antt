@@ -33,8 +33,7 @@ invariant_of-result c =
     ≡ map (start p) (slice_range x first end) =
     rw (c.ids-ids.ensures.value, long) at c.start_of_row.ensures in
     record {
-      ids = c.requires.ids;
-      rounds = c.requires.rounds;
+      shape = c.requires.shape;
       few_segments = enough;
       index = c.requires.index;
       round = omega arith;
