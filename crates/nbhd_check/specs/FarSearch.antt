@@ -1,5 +1,6 @@
 -- The search for windows that begin a tuple with a close third window, family by family.
 use Rattle.std.specs.Prelude.{◌≡◌, ℕ, ◌+◌, ◌-◌, ◌*◌, ◌<◌, ◌≤◌, List, [], ◌∷◌, ◌++◌, length, take, drop, slice_get, Some}
+use Rattle.win_index.specs.Windows.{IsWindow}
 use Rattle.win_index.specs.Runs.{IsAtPlace, IsRunStart}
 use Rattle.win_index.specs.declared.series.RunPlaces.{RunPlaces}
 use Rattle.channel_tables.specs.Tables.{ChannelTable, windows_of}
@@ -31,6 +32,12 @@ pub record IsAtFamily (t : ChannelTable) (number : ℕ) (window : List ℕ) (fir
   pub item : slice_get (windows_of t) number ≡ Some window
   pub at_place : IsAtPlace (2 * (t.rounds - 1) + 1) t.ids places window place
   pub starts : IsRunStart (2 * (t.rounds - 1)) t.ids (drop 2 (take (2 * t.rounds) window)) first
+
+-- There are second identifiers from low on and below end, and each of them, after this first one and before the list z,
+-- makes a window.
+pub record AreSeconds (t : ChannelTable) (z : List ℕ) (first low end : ℕ) : Type 0 where
+  pub some : low < end
+  pub windows : (second : ℕ) → low ≤ second → second < end → IsWindow (2 * t.rounds + 1) t.ids (first ∷ second ∷ z)
 
 -- three windows have these numbers: the two identifiers a and b followed by the list z, z followed by a and b, and z
 -- followed by b and a

@@ -9,7 +9,7 @@ ghost use Rattle.win_index.specs.Falling.{falling};
 ghost use Rattle.win_index.specs.Windows.{IsWindow};
 ghost use Rattle.channel_tables.specs.Tables.{windows_of};
 ghost use Rattle.nbhd_check.specs.Counts.{shared_len, shared_lists, AreCountsOf, CountsFit};
-ghost use Rattle.nbhd_check.specs.FarSearch.{AreFarFreeIn, ArePairNumbers, HasFamilyIn};
+ghost use Rattle.nbhd_check.specs.FarSearch.{AreFarFreeIn, ArePairNumbers, AreSeconds, HasFamilyIn};
 ghost use Rattle.nbhd_check.specs.Runs.{AreFree, BeginsFarTuple};
 
 use crate::counts::{Counts, close_count, count_family};
@@ -194,9 +194,7 @@ impl<'b> Family<'b> {
     // and below `end`.
     fn free_with_seconds(self, first: u32, low: u32, end: u32, least: u32) -> u32
         requires counted { AreCountsOf self.table.now self.shared.now self.counts.now }
-        requires ids { (first < self.table.now.ids) × (low < end) × (end ≤ self.table.now.ids) }
-        requires first { ¬ Contains self.shared.now first }
-        requires free { (x : ℕ) → low ≤ x → x < end → (first ≢ x) × ¬ Contains self.shared.now x }
+        requires seconds { AreSeconds self.table.now self.shared.now first low end }
         ensures less { result ≤ least }
         ensures free { AreFarFreeIn self.entry.table.now self.entry.distance result (λ window. (slice_index window 0 ≡ first)
             × (low ≤ slice_index window 1) × (slice_index window 1 < end) × (drop 2 window ≡ self.entry.shared.now)) }

@@ -1,8 +1,9 @@
-use Rattle.std.proofs.Common.{◌≡◌, ◌≢◌, ℕ, ◌+◌, ◌*◌, ◌<◌, ◌≤◌, List, drop, get_or, slice_get, Some, arith, refl, ⊎_elim}
+use Rattle.std.proofs.Common.{◌≡◌, ◌≢◌, ℕ, ◌+◌, ◌*◌, ◌<◌, ◌≤◌, List, Contains, drop, get_or, slice_get, Some, arith, refl, rules, ⊎_elim}
 use Rattle.std.proofs.lemmas.Bool.{cases_lt}
 use Rattle.channel_tables.specs.Tables.{windows_of}
 use Rattle.win_index.proofs.Numbers.{windows_all}
-use Rattle.nbhd_check.proofs.Ends.{before_window}
+use Rattle.nbhd_check.specs.Counts.{shared_len}
+use Rattle.nbhd_check.proofs.Ends.{before_window, window_before}
 use Rattle.nbhd_check.proofs.FarFree.{by_pair, first_two}
 use Rattle.nbhd_check.proofs.far_counts.Family.free_with_first.Goals.{Joined-second-end, then-second-end, else-second-end}
 use Rattle.nbhd_check.proofs.far_counts.Family.free_with_first.Goals as goal
@@ -31,6 +32,22 @@ at_end c number window item first rest same =
     let parts = before_window _ _ c.args.first c.end_of_free-end.result z (rw list at (windows_all (2 * t.rounds + 1) t.ids number window item)) in
     let below = (first_two t number window c.args.self.some.0 item).2 in
     parts.2 (c.end_of_free-end.ensures.used (omega (arith, below, same)) parts.0)
+
+-- Each identifier before the end makes a window with the first one.
+pub free_with_seconds-least-requires-clause-seconds : goal.free_with_seconds-least-requires-clause-seconds
+free_with_seconds-least-requires-clause-seconds c =
+    let t = c.args.self.table.now in
+    let z = c.args.self.shared.now in
+    let end = c.end_of_free-end in
+    let size : shared_len t + 2 ≡ 2 * t.rounds + 1 = omega (arith, c.args.self.some.0) in
+    let lacks : ¬ Contains z c.args.first = search rules in
+    record {
+      some = c.if-second-end.true;
+      windows = λ second from below.
+          let free = end.ensures.free second from below in
+          rw size at (window_before (shared_len t) t.ids c.args.first second z c.args.self.window
+          c.requires.first (omega (arith, below, end.ensures.within)) free.0 lacks free.1);
+    }
 
 pub loop-second-preserved : goal.loop-second-preserved
 loop-second-preserved c =
