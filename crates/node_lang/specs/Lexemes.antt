@@ -1,5 +1,5 @@
 -- The tokens of a text, each with its place. Blanks and comments only separate tokens.
-use Rattle.std.specs.Prelude.{ℕ, ◌+◌, ◌==◌, Bool, true, false, List, [], ◌∷◌, map, length, drop, max, if◌then◌else◌}
+use Rattle.std.specs.Prelude.{◌≡◌, ◌<◌, ℕ, ◌+◌, ◌==◌, Bool, true, false, List, [], ◌∷◌, map, length, drop, max, if◌then◌else◌, slice_index}
 use Rattle.std.specs.List.{prefix_len}
 use Rattle.node_lang.specs.declared.token.Token.{Token}
 use Rattle.node_lang.specs.Words.{is_blank, is_word_byte, word_token, mark_token}
@@ -50,6 +50,12 @@ lexemes_of text = joined (length text) (split_of (blanked false text)).word (spl
 -- the lexemes of a text from the byte `at` on
 abbrev pub lexemes_from : List ℕ → ℕ → List Lexeme
 lexemes_from text at = lexemes_of (drop at text)
+
+-- the text begins with a token: its first byte is no blank and begins no comment
+pub record BeginsWithToken (text : List ℕ) : Type 0 where
+  pub some : 0 < length text
+  pub no_blank : is_blank (slice_index text 0) ≡ false
+  pub no_comment : slice_index text 0 ≡ 35 → ⊥
 
 -- the number of bytes of the token at the start of a text: those of the word there, or 1
 abbrev pub token_len : List ℕ → ℕ

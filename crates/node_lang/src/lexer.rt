@@ -2,7 +2,7 @@
 ghost use Rattle.std.specs.Prelude.{◌≡◌, ◌==◌, not, ◌+◌, ◌-◌, ◌<◌, ◌≤◌, [], ◌∷◌, length, slice_index, drop, false, IfSome, IfNone};
 ghost use Rattle.std.specs.List.{prefix_len};
 ghost use Rattle.node_lang.specs.Words.{is_blank as blank, is_word_byte as word_byte};
-ghost use Rattle.node_lang.specs.Lexemes.{lexemes_of, lexemes_from, token_len};
+ghost use Rattle.node_lang.specs.Lexemes.{lexemes_of, lexemes_from, token_len, BeginsWithToken};
 
 use crate::token::Token;
 use crate::words::{is_blank, is_word_byte, mark_token, token_of};
@@ -56,9 +56,7 @@ fn token_start(text: &[u8]) -> usize
 // Returns the token at the start of the text, and its length.
 #[tactic(auto, using(crate::proofs::Placing::word_token_first, crate::proofs::Placing::mark_token_first))]
 fn token_at(text: &[u8]) -> (Token, usize)
-    requires some { 0 < length text.now }
-    requires no_blank { blank (slice_index text.now 0) ≡ false }
-    requires no_comment { slice_index text.now 0 ≡ 35 → ⊥ }
+    requires { BeginsWithToken text.now }
     ensures token { lexemes_of text.now ≡ record { from = length text.now; token = result.0 } ∷ lexemes_of (drop result.1 text.now) }
     ensures len { result.1 ≡ token_len text.now }
     ensures within { result.1 ≤ length text.now }
