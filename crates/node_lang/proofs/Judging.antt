@@ -21,10 +21,10 @@ use Rattle.node_lang.specs.Lexemes.{Lexeme, tokens_in, lexemes_of, lexemes_from}
 use Rattle.node_lang.specs.Grammar.{spelling, Reads}
 use Rattle.node_lang.specs.Reading.{Read, Got, Fault, expression, program}
 use Rattle.node_lang.specs.Viable.{Stands, unknown, large, out_of_range, unexpected, too_deep, too_many, FirstFault, Mark, node, one_at, nodes_at}
-use Rattle.node_lang.specs.Following.{FollowsAt, IsExpectedAt}
+use Rattle.node_lang.specs.Following.{FollowsAt}
 use Rattle.node_lang.specs.Faults.{FaultsAt, IsFirstHighByte, too_long, not_ascii, in_lexemes}
 use Rattle.node_lang.specs.Laws.{ReadingStopsAtFirstFault, FirstFaultStopsReading, OneReading, OneTextFault, ReadableTextsAreRead, ReadableTextsHaveNoFault, ReadTextsAreReadable}
-use Rattle.node_lang.specs.Parsing.{Gives}
+use Rattle.node_lang.specs.Parsing.{Gives, StopsAt}
 use Rattle.node_lang.proofs.Rest.{Rest, Nothing, AnExpression, ANumber, depth_next, expected_of, counted, Met, Stops, Goes, limited, checked, meets, step, a_program, read, went, read_next, program_read}
 use Rattle.node_lang.proofs.SmallTokens.{is_small, small_tokens}
 use Rattle.node_lang.proofs.Marks.{Shallow, shallow_at, Fine, fine, program_matches}
@@ -273,13 +273,10 @@ read_is_readable text p n left short ascii e =
     let spelt = read_is_spelt p 0 n (lexemes_of text) left (small_tokens text) e in
     record { short = short; ascii = ascii; tokens = spelt.tokens; limits = spelt.limits }
 
--- what the parser returns of a text: the program that it reads as, or its fault, with which it reads as none, and what
--- can follow there
+-- what the parser returns of a text: the program that it reads as, or where reading it stops
 pub record Outcome (text : List ℕ) (r : Result ProgramTree Stop) : Type 0 where
   pub program : IfOk r (Reads text)
-  pub fault : IfErr r (λ f. f.kind ≢ kind.OutOfMemory → FaultsAt text f.kind f.offset)
-  pub expected : IfErr r (λ f. f.kind ≢ kind.OutOfMemory → IsExpectedAt text f.offset f.expected)
-  pub none : IfErr r (λ f. f.kind ≢ kind.OutOfMemory → (p : ProgramTree) → Reads text p → ⊥)
+  pub stop : IfErr r (StopsAt text)
 
 pub outcome : (old new : Parser) (r : Result ProgramTree Stop) → old.at ≡ 0 → old.nodes ≡ 0 →
     length old.text.now ≤ LONGEST_TEXT → All (λ b. b < 128) old.text.now →
@@ -287,9 +284,7 @@ pub outcome : (old new : Parser) (r : Result ProgramTree Stop) → old.at ≡ 0 
 outcome old new (Ok p) at nodes short ascii h = record {
   program = read_is_readable old.text.now p new.nodes (lexemes_from old.text.now new.at) short ascii
       (rw (at, nodes) at h.1);
-  fault = tt;
-  expected = tt;
-  none = tt;
+  stop = tt;
 }
 outcome old new (Err f) at nodes short ascii h =
     let from = length old.text.now - f.offset in
@@ -301,7 +296,10 @@ outcome old new (Err f) at nodes short ascii h =
     in_lexemes f.kind f.offset from short ascii (first m).0 (omega (arith, stops.0)) in
     record {
       program = tt;
-      fault = fault;
-      expected = λ m. (first m).1;
-      none = λ m p reads. no_fault old.text.now p f.kind f.offset reads (fault m);
+      stop = record {
+        memory = h.0;
+        none = λ m p reads. no_fault old.text.now p f.kind f.offset reads (fault m);
+        fault = fault;
+        expected = λ m. (first m).1;
+      };
     }

@@ -5,6 +5,9 @@ use Rattle.node_lang.specs.declared.fault.FaultKind.TheVariants as kind
 use Rattle.node_lang.specs.declared.fault.Stop.{Stop}
 use Rattle.node_lang.specs.declared.parser.Parser.{Parser}
 use Rattle.node_lang.specs.Lexemes.{Lexeme, lexemes_from}
+use Rattle.node_lang.specs.Grammar.{Reads}
+use Rattle.node_lang.specs.Following.{IsExpectedAt}
+use Rattle.node_lang.specs.Faults.{FaultsAt}
 use Rattle.node_lang.specs.Reading.{Read, Reader, Got, Fault, ◌>>=◌, ◌>>◌, done, exactly, expression, node, number, operand}
 use Rattle.node_lang.specs.declared.token.Token.{Token}
 use Rattle.node_lang.specs.declared.token.Token.TheVariants as token
@@ -12,7 +15,7 @@ use Rattle.node_program.specs.declared.limits.TheConstants.{MAX_DEPTH}
 use Rattle.node_program.specs.declared.tree.UnOp.{UnOp}
 use Rattle.node_program.specs.declared.tree.BinOp.{BinOp}
 use Rattle.node_program.specs.declared.tree.Expr.{Expr}
-use Rattle.node_program.specs.Term.{Term, One, Two, Choose, term_of}
+use Rattle.node_program.specs.Term.{Term, One, Two, Choose, ProgramTree, term_of}
 
 -- A method of the parser behaves as this reader: it returns the tree and moves the parser past the nodes and lexemes
 -- read, or it returns the reader's fault. For want of memory only the offset 0 is stated.
@@ -25,6 +28,14 @@ Gives tree old new (Err f) read =
     (f.kind ≡ kind.OutOfMemory → f.offset ≡ 0)
     × (f.kind ≢ kind.OutOfMemory → (f.offset ≤ length old.text.now)
     × (read old.nodes (lexemes_from old.text.now old.at) ≡ Fault f.kind f.expected (length old.text.now - f.offset)))
+
+-- Reading a text stops here: at offset 0 for want of memory, or else the text reads as no program, this is its fault, and
+-- this can follow there.
+pub record StopsAt (text : List ℕ) (stop : Stop) : Type 0 where
+  pub memory : stop.kind ≡ kind.OutOfMemory → stop.offset ≡ 0
+  pub none : stop.kind ≢ kind.OutOfMemory → (p : ProgramTree) → Reads text p → ⊥
+  pub fault : stop.kind ≢ kind.OutOfMemory → FaultsAt text stop.kind stop.offset
+  pub expected : stop.kind ≢ kind.OutOfMemory → IsExpectedAt text stop.offset stop.expected
 
 -- a word of the header and its number
 abbrev pub field : Token → ℕ → ℕ → Reader ℕ

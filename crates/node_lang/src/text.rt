@@ -5,8 +5,9 @@ ghost use Rattle.node_program.specs.Term.{ProgramTree};
 ghost use Rattle.node_lang.specs.Grammar.{Reads};
 ghost use Rattle.node_lang.specs.declared.fault.FaultKind.{FaultKind};
 ghost use Rattle.node_lang.specs.declared.expected.Expected.TheVariants as expected;
-ghost use Rattle.node_lang.specs.Following.{IsExpected, IsExpectedAt};
+ghost use Rattle.node_lang.specs.Following.{IsExpected};
 ghost use Rattle.node_lang.specs.Faults.{FaultsAt, IsFirstHighByte};
+ghost use Rattle.node_lang.specs.Parsing.{StopsAt};
 
 use crate::expected::Expected;
 use crate::fault::{FaultKind, Stop, TextFault};
@@ -28,10 +29,7 @@ fn read(alloc: Global, text: &[u8]) -> Result<Program, Stop>
     requires short { length text.now ≤ LONGEST_TEXT }
     requires ascii { All (λ b. b < 128) text.now }
     ensures program { IfOk result (Reads text.now) }
-    ensures none { IfErr result (λ f. f.kind ≢ kind.OutOfMemory → (p : ProgramTree) → Reads text.now p → ⊥) }
-    ensures memory { IfErr result (λ f. f.kind ≡ kind.OutOfMemory → f.offset ≡ 0) }
-    ensures fault { IfErr result (λ f. f.kind ≢ kind.OutOfMemory → FaultsAt text.now f.kind f.offset) }
-    ensures expected { IfErr result (λ f. f.kind ≢ kind.OutOfMemory → IsExpectedAt text.now f.offset f.expected) }
+    ensures stop { IfErr result (StopsAt text.now) }
 {
     let mut parser = Parser {
         alloc,

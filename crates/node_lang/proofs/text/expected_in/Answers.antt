@@ -13,7 +13,7 @@ returns-clause-fault c =
       | in-Err+in-OutOfMemory w ↦ rw w.result-is tt
       | in-Err+in_default w ↦ rw w.result-is (λ k offset f.
           let known = w.in_default.not-OutOfMemory in
-          let same = one_fault text w.in-Err.stop.kind k w.in-Err.stop.offset offset (w.in-Err.ensures.fault known) f in
+          let same = one_fault text w.in-Err.stop.kind k w.in-Err.stop.offset offset (w.in-Err.ensures.stop.fault known) f in
           let own = short_in_tokens text k offset c.if-text-gt-LONGEST_TEXT.false (search rules) f in
-          (own.0, own.1, subst (λ o. IsExpectedAt text o w.in-Err.stop.expected) same.1 (w.in-Err.ensures.expected known)))
+          (own.0, own.1, subst (λ o. IsExpectedAt text o w.in-Err.stop.expected) same.1 (w.in-Err.ensures.stop.expected known)))
     ]

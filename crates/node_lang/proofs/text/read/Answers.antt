@@ -13,11 +13,5 @@ whole_outcome c =
 pub returns-clause-program : goal.returns-clause-program
 returns-clause-program c = (whole_outcome c).program
 
-pub returns-clause-fault : goal.returns-clause-fault
-returns-clause-fault c = (whole_outcome c).fault
-
-pub returns-clause-expected : goal.returns-clause-expected
-returns-clause-expected c = (whole_outcome c).expected
-
-pub returns-clause-none : goal.returns-clause-none
-returns-clause-none c = (whole_outcome c).none
+pub returns-clause-stop : goal.returns-clause-stop
+returns-clause-stop c = (whole_outcome c).stop
