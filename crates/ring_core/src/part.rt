@@ -13,13 +13,13 @@ use win_index::Ring;
 
 // A segment, and the messages that it has sent: message k of each list is that of round k.
 #[derive(Drop)]
-pub(crate) struct Part<'a> {
+pub(crate) struct SegmentProgress<'a> {
     segment: Segment<'a>,
     rightward: Vec<Msg<'a>>,
     leftward: Vec<Msg<'a>>,
 }
 
-impl<'a> Model for Part<'a> {
+impl<'a> Model for SegmentProgress<'a> {
     ghost use Rattle.std.specs.Prelude.{vec_len};
     ghost use Rattle.ring_core.specs.Parts.{Progress, KeepsMessages};
     ghost use Rattle.ring_core.specs.MachineCodes.{progress_code};
@@ -33,7 +33,7 @@ impl<'a> Model for Part<'a> {
     ghost invariant = { λ p. KeepsMessages p.segment p.rightward.items p.leftward.items };
 }
 
-impl<'a> Part<'a> {
+impl<'a> SegmentProgress<'a> {
     ghost use Rattle.border_exchange.specs.Headings.{heading_of};
     ghost use Rattle.border_exchange.specs.Needs.{from_left, from_right};
     ghost use Rattle.ring_core.specs.Parts.{AreInOrder, headings_of};
@@ -45,13 +45,13 @@ impl<'a> Part<'a> {
         ring: &'a Ring,
         segments: u32,
         index: u32,
-    ) -> Result<Part<'a>, OutOfMemory>
+    ) -> Result<SegmentProgress<'a>, OutOfMemory>
         requires cut { CanBeCut plan.now ring.now segments }
         requires index { index < segments }
         ensures { IfOk result (λ part. part ≡ opening_part plan.now ring.now segments index) }
     {
         let segment = Segment::new(alloc, plan, ring, segments, index)?;
-        Ok(Part {
+        Ok(SegmentProgress {
             segment,
             rightward: Vec::new(alloc),
             leftward: Vec::new(alloc),

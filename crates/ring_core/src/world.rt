@@ -8,7 +8,7 @@ ghost use Rattle.ring_core.specs.MachinePromises.{KeepsPromises, segment_after_r
 ghost use Rattle.ring_core.specs.Parts.{CanBeCut, opening_part, sending, came_to, needed_to, sender_of, sent_to};
 
 use crate::event::RingEvent;
-use crate::part::Part;
+use crate::part::SegmentProgress;
 use border_exchange::{Msg, Side};
 use lang_check::Plan;
 use node_program::OutOfMemory;
@@ -24,7 +24,7 @@ use win_index::Ring;
 pub struct World<'a> {
     plan: &'a Plan,
     ring: &'a Ring,
-    parts: Vec<Part<'a>>,
+    parts: Vec<SegmentProgress<'a>>,
 }
 
 impl<'a> Model for World<'a> {
@@ -146,7 +146,7 @@ impl<'a> World<'a> {
     }
 
     // Returns a segment with its messages.
-    fn part(&self, index: usize) -> &Part<'a>
+    fn part(&self, index: usize) -> &SegmentProgress<'a>
         requires { index < length self.now.segments }
         ensures segment { result.now.segment ≡ segment_after_rounds self.now index (segment_at self.now index).round }
         ensures rightward { result.now.rightward ≡ length (right_border self.now index).rightward }
@@ -205,13 +205,13 @@ fn opening_parts<'a>(
     plan: &'a Plan,
     ring: &'a Ring,
     segments: u32,
-) -> Result<Vec<Part<'a>>, OutOfMemory>
+) -> Result<Vec<SegmentProgress<'a>>, OutOfMemory>
     requires { CanBeCut plan.now ring.now segments }
     ensures { IfOk result (λ parts. parts.items ≡ map (opening_part plan.now ring.now segments) (range_with_len 0 segments)) }
 {
     let mut parts = Vec::new(alloc);
     for index in 0..segments {
-        let part = Part::new(alloc, plan, ring, segments, index)?;
+        let part = SegmentProgress::new(alloc, plan, ring, segments, index)?;
         let Ok(()) = parts.push(part) else {
             return Err(OutOfMemory);
         };

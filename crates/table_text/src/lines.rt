@@ -35,7 +35,7 @@ pub(crate) struct Header {
 }
 
 // The first line of a text at a place where the line of a window is expected.
-pub(crate) enum Line<'a> {
+pub(crate) enum WindowLine<'a> {
     // Its form is not that of such a line.
     Malformed,
     // Its identifiers are not the window.
@@ -176,24 +176,24 @@ fn entry<'a>(text: &'a [u8], ids: &mut [u32]) -> Option<(u32, &'a [u8])>
 
 // Classifies the first line of the text, where the line of this window is expected. `ids` is
 // scratch of the window's length.
-fn line_in<'a>(window: &[u32], text: &'a [u8], ids: &mut [u32]) -> Line<'a>
+fn line_in<'a>(window: &[u32], text: &'a [u8], ids: &mut [u32]) -> WindowLine<'a>
     requires { length ids.old ≡ length window.now }
     ensures { IsLine window.now text.entry.now result }
 {
     match entry(text, ids) {
-        None => Line::Malformed,
+        None => WindowLine::Malformed,
         Some((channel, rest)) => {
             if &*ids == window {
-                Line::Entry(channel, rest)
+                WindowLine::Entry(channel, rest)
             } else {
-                Line::OtherWindow
+                WindowLine::OtherWindow
             }
         }
     }
 }
 
 // Classifies the first line of the text, where the line of this window is expected.
-pub(crate) fn line_of<'a>(window: &[u32], text: &'a [u8]) -> Line<'a>
+pub(crate) fn line_of<'a>(window: &[u32], text: &'a [u8]) -> WindowLine<'a>
     requires { length window.now ≤ MAX_WINDOW_LEN }
     ensures { IsLine window.now text.entry.now result }
 {
@@ -266,12 +266,12 @@ fn known_line<'a>(odometer: &Odometer, pieces: &Pieces, text: &'a [u8]) -> Optio
 
 // Classifies the first line of the text, where the line of the odometer's window is expected. The
 // line is compared with the pieces that are written for it, and read only if it differs.
-pub(crate) fn line_at<'a>(odometer: &Odometer, pieces: &Pieces, text: &'a [u8]) -> Line<'a>
+pub(crate) fn line_at<'a>(odometer: &Odometer, pieces: &Pieces, text: &'a [u8]) -> WindowLine<'a>
     requires { HasPieces odometer.now pieces.now }
     ensures { IsLine (window_of odometer.now) text.entry.now result }
 {
     if let Some((channel, rest)) = known_line(odometer, pieces, text) {
-        return Line::Entry(channel, rest);
+        return WindowLine::Entry(channel, rest);
     }
     let mut cells = [0u32; MAX_WINDOW_LEN];
     let len = odometer.write_window(&mut cells);

@@ -11,7 +11,7 @@ ghost use Rattle.table_text.specs.Faults.{IsMalformed, IsFault};
 use crate::fault::TableFault;
 use crate::laws::{table_texts_are_apart, table_texts_are_read};
 use crate::limits::LONGEST_TABLE_TEXT;
-use crate::lines::{Header, Line, after_end, after_title, line_at, sizes};
+use crate::lines::{Header, WindowLine, after_end, after_title, line_at, sizes};
 use crate::odometer::Odometer;
 use crate::piece::Piece;
 use crate::pieces::pieces_of;
@@ -126,9 +126,9 @@ fn entries<'a>(
     let mut rest = start;
     'lines: for number in 0..count {
         match line_at(&odometer, &pieces, rest) {
-            Line::Malformed => return Err(syntax(text, rest)),
-            Line::OtherWindow => return Err(TableFault::WrongWindow(number + 3)),
-            Line::Entry(channel, after) => {
+            WindowLine::Malformed => return Err(syntax(text, rest)),
+            WindowLine::OtherWindow => return Err(TableFault::WrongWindow(number + 3)),
+            WindowLine::Entry(channel, after) => {
                 if is_too_large(channel, header) {
                     return Err(TableFault::ChannelTooLarge(number + 3));
                 }
