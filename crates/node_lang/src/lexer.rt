@@ -5,7 +5,7 @@ ghost use Rattle.node_lang.specs.Words.{is_blank as blank, is_word_byte as word_
 ghost use Rattle.node_lang.specs.Lexemes.{lexemes_of, lexemes_from, token_len, BeginsWithToken};
 
 use crate::token::Token;
-use crate::words::{is_blank, is_word_byte, mark_token, token_of};
+use crate::word_tokens::{is_blank, is_word_byte, mark_token, token_of};
 
 /// A token, with the offsets at which it starts and ends in its text.
 #[derive(Clone, Copy)]

@@ -11,7 +11,7 @@ mod parser;
 mod printing;
 mod text;
 mod token;
-mod words;
+mod word_tokens;
 
 pub use expected::Expected;
 pub use fault::{FaultKind, TextFault};

@@ -6,7 +6,7 @@ ghost use Rattle.node_program.specs.Term.{step_of, term_of};
 ghost use Rattle.node_lang.specs.Printed.{operation_name as name_of, own_word, printed_expression, assignment_lines, header_lines, round_lines, printed};
 
 use crate::fault::TextFault;
-use crate::words::operation_name;
+use crate::word_tokens::operation_name;
 use node_program::{Expr, Program, Round};
 use std::alloc::{AllocError, Global};
 use std::fmt::Write;

@@ -1,6 +1,6 @@
 use Rattle.std.proofs.Common.{◌≡◌, drop}
 use Rattle.node_lang.specs.Words.{token_in}
-use Rattle.node_lang.proofs.words.token_in.Given as goal
+use Rattle.node_lang.proofs.word_tokens.token_in.Given as goal
 
 -- no row so far has the word
 abbrev pub invariant-rows : goal.invariant-rows

@@ -1,6 +1,6 @@
 use Rattle.std.proofs.Common.{◌≡◌, ℕ, ◌<◌, ◌^◌, List, drop}
 use Rattle.node_lang.specs.Words.{read_on}
-use Rattle.node_lang.proofs.words.number.Given as goal
+use Rattle.node_lang.proofs.word_tokens.number.Given as goal
 
 -- the number so far is small, and the digits left complete it
 pub record HasRead (digits : List ℕ) (number i : ℕ) : Type 0 where
