@@ -1,6 +1,6 @@
 //! The course of a run: the segments that run, and those that are still to start.
-ghost use Rattle.std.specs.Prelude.{◌≡◌, ◌≢◌, ◌+◌, ◌<◌, ◌≤◌, None, Some, IsNone, IsSome, vec_len, vec_capacity};
-ghost use Rattle.ring_exec.specs.Courses.{AreWaiting, HasEnded};
+ghost use Rattle.std.specs.Prelude.{◌≡◌, ◌≢◌, ◌+◌, ◌≤◌, None, Some, IsNone, IsSome, vec_len, vec_capacity};
+ghost use Rattle.ring_exec.specs.Courses.{HasEnded, HasNextSegment};
 ghost use Rattle.ring_exec.specs.Outcomes.{AreInOrder, HasMore};
 ghost use Rattle.round_eval.specs.declared.fault.ThreadFault.TheVariants.{NoThread};
 
@@ -29,9 +29,7 @@ pub(crate) struct Course<'a, R, G, B: BorderName, L: BorderName> {
 pub(crate) fn ended<'a, R: Threads + Wait, G: Gate, B: BorderName, L: BorderName>(
     course: Course<'a, R, G, B, L>,
 ) -> Joined<'a>
-    requires waiting { IsSome course.before → 0 < vec_len course.progress.waiting }
-    requires next { IsSome course.before
-        → AreWaiting course.progress.index (vec_len course.progress.threads) course.progress.waiting.items }
+    requires next { IsSome course.before → HasNextSegment course.progress }
     requires stopped { IsNone course.before → course.progress.joined.fault ≢ None }
     ensures all { HasEnded course.entry.progress 1 result }
     ensures no_thread { result.fault ≡ Some NoThread → course.entry.progress.joined.fault ≡ Some NoThread }

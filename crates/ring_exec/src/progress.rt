@@ -1,5 +1,5 @@
 //! How far a run is.
-ghost use Rattle.std.specs.Prelude.{◌≡◌, ◌+◌, ◌<◌, ◌≤◌, All, Ok, Err, IfSome, MatchOption, vec_len, vec_capacity};
+ghost use Rattle.std.specs.Prelude.{◌≡◌, ◌+◌, ◌≤◌, All, Ok, Err, IfSome, MatchOption, vec_len, vec_capacity};
 ghost use Rattle.ring_exec.specs.Outcomes.{AreInOrder};
 ghost use Rattle.border_exchange.specs.declared.limits.TheConstants.{MAX_SEGMENTS};
 ghost use Rattle.round_eval.specs.declared.fault.ThreadFault.TheVariants.{NoThread};
@@ -25,13 +25,12 @@ pub(crate) struct Progress<'a> {
 }
 
 impl<'a> Progress<'a> {
+    ghost use Rattle.ring_exec.specs.Courses.{HasRoom};
+
     // Counts the segment whose start was tried, and keeps its thread if the start was not refused.
     pub(crate) fn keep(&mut self, thread: Option<SegmentThread<'a>>) -> Result<(), ThreadFault>
         requires next { IfSome thread (λ thread. thread.promise.0 ≡ vec_len self.old.threads) }
-        requires few { self.old.index + vec_len self.old.waiting < MAX_SEGMENTS }
-        requires room { (vec_len self.old.threads + vec_len self.old.waiting < vec_capacity self.old.threads)
-            × (vec_len self.old.joined.segments + vec_len self.old.threads + vec_len self.old.waiting
-            < vec_capacity self.old.joined.segments) }
+        requires room { HasRoom self.old }
         ensures index { self.new.index ≡ self.old.index + 1 }
         ensures kept { MatchOption thread.entry ((result ≡ Err NoThread) × (vec_len self.new.threads ≡ vec_len self.old.threads))
             (λ _. (result ≡ Ok tt) × (vec_len self.new.threads ≡ vec_len self.old.threads + 1)) }

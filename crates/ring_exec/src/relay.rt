@@ -1,11 +1,9 @@
 //! The recursion of a run over its segments: each segment beside the segments after it.
-ghost use Rattle.std.specs.Prelude.{◌≡◌, ◌+◌, ◌<◌, ◌⊎◌, IsNone, IsSome, IfErr, IfSome, OnOk, vec_len};
+ghost use Rattle.std.specs.Prelude.{◌≡◌, ◌+◌, ◌<◌, IsNone, IsSome, IfErr, IfSome, OnOk};
 ghost use Rattle.border_exchange.specs.declared.Side.TheVariants.{Leftward};
 ghost use Rattle.ring_exec.specs.Borders.{AreBlanksOf};
-ghost use Rattle.ring_exec.specs.Courses.{AreWaiting, HasEnded, HasRefused, HasStarted, IsOnCourse};
+ghost use Rattle.ring_exec.specs.Courses.{HasEnded, HasNextSegment, HasRefused, HasRefusedNext, HasStarted, HasStartedNext, IsOnCourse};
 ghost use Rattle.ring_exec.specs.Seats.{AreSeatsOf};
-ghost use Rattle.round_eval.specs.declared.fault.ThreadFault.TheVariants.{Work, NoThread};
-ghost use Rattle.round_eval.specs.declared.fault.WorkFault.TheVariants.{OutOfMemory as NoMemory};
 
 use crate::border_name::{Blanks, BorderName};
 use crate::course::{Course, ended};
@@ -158,15 +156,9 @@ impl<
     ) -> Result<Edge<Msg<'a>, N>, ThreadFault>
         requires blanks { AreBlanksOf blanks N.rightward N.leftward }
         requires seat { left.seat ≡ record { side = Leftward; puts = 0 } }
-        requires waiting { 0 < vec_len progress.old.waiting }
-        requires next { AreWaiting progress.old.index (vec_len progress.old.threads) progress.old.waiting.items }
-        ensures rest { (vec_len progress.new.waiting + 1 ≡ vec_len progress.old.waiting)
-            × (progress.new.joined ≡ progress.old.joined) }
-        ensures next { OnOk result (AreWaiting progress.new.index (vec_len progress.new.threads) progress.new.waiting.items) }
-        ensures started { OnOk result ((progress.new.index ≡ progress.old.index + 1)
-            × (vec_len progress.new.threads ≡ vec_len progress.old.threads + 1)) }
-        ensures refused { IfErr result (λ fault. ((fault ≡ NoThread) × (progress.new.index ≡ progress.old.index + 1))
-            ⊎ ((fault ≡ Work NoMemory) × (progress.new.index ≡ progress.old.index))) }
+        requires next { HasNextSegment progress.old }
+        ensures started { OnOk result (HasStartedNext progress.old progress.new) }
+        ensures refused { IfErr result (HasRefusedNext progress.old progress.new) }
     {
         let Some(segment) = progress.waiting.pop() else {
             unreachable!()

@@ -6,7 +6,7 @@ use Rattle.ring_exec.proofs.course.ended.Goals as goal
 pub returns-clause-all : goal.returns-clause-all
 returns-clause-all g c =
     let progress = c.args.course.progress in
-    let next = c.requires.next (search rules) in
+    let next = (c.requires.next (search rules)).next in
     let index = next_index progress.index (vec_len progress.threads) progress.waiting.items c.pop.new.self.items c.in-Some-pop.segment c.in-Some-pop.ensures.items next in
     last_joined progress.joined c.add.new.self c.join_all-2.result (vec_len progress.threads) c.run.result c.add.ensures.added
     (subst (λ n. IfOk c.run.result (λ segment. segment.index ≡ n)) index c.run.ensures) c.join_all-2.ensures.all
