@@ -1,10 +1,13 @@
 -- The bytes of a writer, and those that wait in a chunk.
 use Rattle.std.proofs.Common.{◌≡◌, ℕ, ◌+◌, ◌≤◌, List, [], ◌++◌, length, take, drop, arith, Option, subst, refl, sym, ap, ◌∙◌, append-nil, append_assoc}
+use Rattle.std.specs.Prelude.{Bool, Result}
 use Rattle.std.proofs.Math.Seq.{take-append-add, take-append_seam}
 use Rattle.std.proofs.lemmas.List.{take-append-le, take-append-drop, length-take, length-take-le}
+use Rattle.std.proofs.lemmas.Result.{on_err_weaker, on_ok_weaker}
 use Rattle.std.proofs.KnownBytes.{Appends-nil, Appends-trans}
 use Rattle.std.specs.Io.KnownBytes.{Appends}
-use Rattle.devices.specs.Output.{AppendsFront, IsWrittenSoFar}
+use Rattle.devices.specs.declared.fault.EngineFault.{EngineFault}
+use Rattle.devices.specs.Output.{AppendsFront, IsWrittenSoFar, SendsText}
 
 -- one more piece in the chunk
 pub tells_more :
@@ -45,6 +48,16 @@ tells_front a b c waiting text whole rest told failed longer =
     ap (take (length told.0 + k)) begins ∙ take-append-add told.0 (waiting ++ rest) k
     ∙ ap (λ t. told.0 ++ t) (take-append-le k waiting rest short ∙ front_is count waiting) in
     (length told.0 + k, subst (Appends a c) (sym front) (Appends-trans a b c told.0 (take count waiting) told.1 failed.1))
+
+-- the bytes that wait are sent, so the whole text is
+pub sends_all :
+    {T : Type 0} (a b c : Option (List ℕ)) (waiting text : List ℕ) (failed : Bool) (r : Result T EngineFault) → IsWrittenSoFar a b waiting text
+    → SendsText waiting b c failed r → SendsText text a c failed r
+sends_all a b c waiting text failed r told sent = record {
+  ok = on_ok_weaker r (tells_all a b c waiting text told) sent.ok;
+  front = on_err_weaker r (λ front. tells_front a b c waiting text text [] told front (append-nil text)) sent.front;
+  fault = sent.fault;
+}
 
 -- a piece was written over the items from an index on
 pub put_front :

@@ -1,9 +1,8 @@
 //! A buffer that collects bytes, so that they are written in large pieces.
 
 ghost use Rattle.std.specs.Prelude.{◌≡◌, ◌+◌, ◌≤◌, ◌++◌, ℕ, List, [], false, length, take, IfOk, OnOk, OnErr};
-ghost use Rattle.std.specs.Io.KnownBytes.{Appends};
-ghost use Rattle.devices.specs.Output.{part_text, AppendsFront, IsWrittenSoFar};
-ghost use Rattle.devices.specs.Watched.{device_of, has_failed, FailsByWrites};
+ghost use Rattle.devices.specs.Output.{part_text, SendsText, SendsSoFar};
+ghost use Rattle.devices.specs.Watched.{device_of, has_failed};
 
 use crate::fault::EngineFault;
 use crate::output::send;
@@ -99,13 +98,9 @@ impl Chunk {
     /// then written, and the chunk is unchanged.
     pub fn send<W: Write>(&mut self, writer: &mut Watched<W>) -> Result<(), EngineFault>
         requires { has_failed writer.old ≡ false }
-        ensures ok { OnOk result (Appends (W.contents (device_of writer.old))
-            (W.contents (device_of writer.new)) self.old) }
+        ensures sent { SendsText self.old (W.contents (device_of writer.old)) (W.contents (device_of writer.new)) (has_failed writer.new) result }
         ensures empty { OnOk result (self.new ≡ []) }
-        ensures err { OnErr result (AppendsFront (W.contents (device_of writer.old))
-            (W.contents (device_of writer.new)) self.old) }
         ensures kept { OnErr result (self.new ≡ self.old) }
-        ensures fault { FailsByWrites result (has_failed writer.new) }
     {
         let filled = self.filled;
         send(writer, &self.bytes[..filled])?;
@@ -122,13 +117,9 @@ impl Chunk {
     ) -> Result<(), EngineFault>
         requires short { room ≤ CHUNK_LEN }
         requires working { has_failed writer.old ≡ false }
-        ensures ok { OnOk result (IsWrittenSoFar (W.contents (device_of writer.old))
-            (W.contents (device_of writer.new)) self.new self.old) }
+        ensures sent { SendsSoFar self.old self.new (W.contents (device_of writer.old)) (W.contents (device_of writer.new)) (has_failed writer.new) result }
         ensures room { OnOk result (length self.new + room ≤ CHUNK_LEN) }
-        ensures err { OnErr result (AppendsFront (W.contents (device_of writer.old))
-            (W.contents (device_of writer.new)) self.old) }
         ensures kept { OnErr result (self.new ≡ self.old) }
-        ensures fault { FailsByWrites result (has_failed writer.new) }
     {
         if CHUNK_LEN - self.filled < room {
             self.send(writer)?;

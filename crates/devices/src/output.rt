@@ -1,9 +1,8 @@
 //! Writing the report.
 
-ghost use Rattle.std.specs.Prelude.{◌≡◌, false, OnOk, OnErr};
-ghost use Rattle.std.specs.Io.KnownBytes.{Appends};
-ghost use Rattle.devices.specs.Output.{AppendsFront};
-ghost use Rattle.devices.specs.Watched.{device_of, has_failed, FailsByWrites};
+ghost use Rattle.std.specs.Prelude.{◌≡◌, false};
+ghost use Rattle.devices.specs.Output.{SendsText};
+ghost use Rattle.devices.specs.Watched.{device_of, has_failed};
 
 use crate::fault::EngineFault;
 use crate::watched::Watched;
@@ -15,11 +14,7 @@ use std::io::Write;
 /// written, and nothing else.
 pub fn send<W: Write>(writer: &mut Watched<W>, bytes: &[u8]) -> Result<(), EngineFault>
     requires { has_failed writer.old ≡ false }
-    ensures ok { OnOk result (Appends (W.contents (device_of writer.old))
-        (W.contents (device_of writer.new)) bytes.now) }
-    ensures err { OnErr result (AppendsFront (W.contents (device_of writer.old))
-        (W.contents (device_of writer.new)) bytes.now) }
-    ensures fault { FailsByWrites result (has_failed writer.new) }
+    ensures { SendsText bytes.now (W.contents (device_of writer.old)) (W.contents (device_of writer.new)) (has_failed writer.new) result }
 {
     let mut sent = 0;
     while sent < bytes.len() {

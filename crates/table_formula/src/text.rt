@@ -1,11 +1,10 @@
 //! Writing the text of a formula.
 
-ghost use Rattle.std.specs.Prelude.{◌≡◌, ◌+◌, ◌≤◌, ◌++◌, ◌∷◌, [], drop, false, length, OnOk, OnErr};
+ghost use Rattle.std.specs.Prelude.{◌≡◌, ◌+◌, ◌≤◌, ◌++◌, ◌∷◌, [], drop, false, length};
 ghost use Rattle.std.specs.Fmt.{decimal};
-ghost use Rattle.std.specs.Io.KnownBytes.{Appends};
 ghost use Rattle.devices.specs.declared.chunk.TheConstants.{CHUNK_LEN};
-ghost use Rattle.devices.specs.Output.{AppendsFront, IsWrittenSoFar, WritesText};
-ghost use Rattle.devices.specs.Watched.{device_of, has_failed, FailsByWrites};
+ghost use Rattle.devices.specs.Output.{SendsText, SendsSoFar, WritesText};
+ghost use Rattle.devices.specs.Watched.{device_of, has_failed};
 ghost use Rattle.table_formula.specs.Formula.{formula as clauses_of, longest_len};
 ghost use Rattle.table_formula.specs.Texts.{literal_text, clause_text, head_text, formula_text};
 
@@ -76,11 +75,7 @@ fn write_clauses<W: Write>(
     requires working { has_failed writer.old ≡ false }
     requires first { chunk.old ≡ head_text formula.now }
     requires room { longest_len (clauses_of formula.now) ≤ length clause.old }
-    ensures ok { OnOk result (Appends (W.contents (device_of writer.old))
-        (W.contents (device_of writer.new)) (formula_text formula.now)) }
-    ensures err { OnErr result (AppendsFront (W.contents (device_of writer.old))
-        (W.contents (device_of writer.new)) (formula_text formula.now)) }
-    ensures fault { FailsByWrites result (has_failed writer.new) }
+    ensures { SendsText (formula_text formula.now) (W.contents (device_of writer.old)) (W.contents (device_of writer.new)) (has_failed writer.new) result }
 {
     for index in 0..formula.count() {
         let len = formula.write_clause(index, clause);
@@ -95,12 +90,8 @@ fn write_clause<W: Write>(
     chunk: &mut Chunk,
     clause: &[Literal],
 ) -> Result<(), EngineFault>
-    requires working { has_failed writer.old ≡ false }
-    ensures ok { OnOk result (IsWrittenSoFar (W.contents (device_of writer.old)) (W.contents (device_of writer.new))
-        chunk.new (chunk.old ++ clause_text clause.now)) }
-    ensures err { OnErr result (AppendsFront (W.contents (device_of writer.old))
-        (W.contents (device_of writer.new)) (chunk.old ++ clause_text clause.now)) }
-    ensures fault { FailsByWrites result (has_failed writer.new) }
+    requires { has_failed writer.old ≡ false }
+    ensures { SendsSoFar (chunk.old ++ clause_text clause.now) chunk.new (W.contents (device_of writer.old)) (W.contents (device_of writer.new)) (has_failed writer.new) result }
 {
     for l in clause {
         chunk.make_room(LITERAL_LEN, writer)?;

@@ -1,9 +1,8 @@
 //! Writing the text of a table whose lines are made by threads.
 
-ghost use Rattle.std.specs.Prelude.{◌≡◌, ℕ, ◌+◌, ◌*◌, ◌^◌, ◌<◌, ◌≤◌, List, [], false, length, vec_len, slice_index_or, IfOk, OnOk, OnErr, flat_map};
-ghost use Rattle.std.specs.Io.KnownBytes.{Appends};
-ghost use Rattle.devices.specs.Output.{AppendsFront, WritesText};
-ghost use Rattle.devices.specs.Watched.{device_of, has_failed, FailsByWrites};
+ghost use Rattle.std.specs.Prelude.{◌≡◌, ℕ, ◌+◌, ◌*◌, ◌^◌, ◌<◌, ◌≤◌, List, [], false, length, vec_len, slice_index_or, IfOk, OnOk, flat_map};
+ghost use Rattle.devices.specs.Output.{SendsText, WritesText};
+ghost use Rattle.devices.specs.Watched.{device_of, has_failed};
 ghost use Rattle.channel_tables.specs.Tables.{windows_of};
 ghost use Rattle.table_text.specs.declared.parallel.TheConstants.{CHUNKS};
 ghost use Rattle.table_text.specs.LineForms.{IsSeparation};
@@ -82,11 +81,8 @@ fn write_rest<R: Threads + Sync, W: Write>(
     requires threads { 0 < threads }
     requires chunks { (length chunks.old ≡ CHUNKS) × AreEmpty chunks.old }
     requires working { has_failed writer.old ≡ false }
-    ensures ok { OnOk result (Appends (W.contents (device_of writer.old)) (W.contents (device_of writer.new))
-        (entries_then (windows_of lines.entry.table.now) lines.entry.table.now.entries (end_then []))) }
-    ensures err { OnErr result (AppendsFront (W.contents (device_of writer.old)) (W.contents (device_of writer.new))
-        (entries_then (windows_of lines.entry.table.now) lines.entry.table.now.entries (end_then []))) }
-    ensures fault { FailsByWrites result (has_failed writer.new) }
+    ensures { SendsText (entries_then (windows_of lines.entry.table.now) lines.entry.table.now.entries (end_then []))
+        (W.contents (device_of writer.old)) (W.contents (device_of writer.new)) (has_failed writer.new) result }
 {
     let size = lines.size * CHUNKS as u32;
     for part in 0..lines.count().div_ceil(size) {
@@ -134,12 +130,9 @@ fn store_part(lines: Lines<'_>, first: u32, start: usize, part: &mut [Chunk])
 // Writes the contents of all chunks, in order, and empties them.
 fn send_chunks<W: Write>(chunks: &mut [Chunk], writer: &mut Watched<W>) -> Result<(), EngineFault>
     requires { has_failed writer.old ≡ false }
-    ensures ok { OnOk result (Appends (W.contents (device_of writer.old)) (W.contents (device_of writer.new))
-        (flat_map (λ chunk. chunk) chunks.old)) }
+    ensures sent { SendsText (flat_map (λ chunk. chunk) chunks.old) (W.contents (device_of writer.old))
+        (W.contents (device_of writer.new)) (has_failed writer.new) result }
     ensures empty { OnOk result (AreEmpty chunks.new) }
-    ensures err { OnErr result (AppendsFront (W.contents (device_of writer.old)) (W.contents (device_of writer.new))
-        (flat_map (λ chunk. chunk) chunks.old)) }
-    ensures fault { FailsByWrites result (has_failed writer.new) }
 {
     for index in 0..chunks.len() {
         chunks[index].send(writer)?;

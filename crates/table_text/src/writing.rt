@@ -1,10 +1,9 @@
 //! Writing the text of a table.
 
-ghost use Rattle.std.specs.Prelude.{◌≡◌, ◌≤◌, [], false, length, IfOk, OnOk, OnErr, string_bytes};
-ghost use Rattle.std.specs.Io.KnownBytes.{Appends};
+ghost use Rattle.std.specs.Prelude.{◌≡◌, ◌≤◌, [], false, length, IfOk, string_bytes};
 ghost use Rattle.devices.specs.declared.chunk.TheConstants.{CHUNK_LEN};
-ghost use Rattle.devices.specs.Output.{AppendsFront, WritesText};
-ghost use Rattle.devices.specs.Watched.{device_of, has_failed, FailsByWrites};
+ghost use Rattle.devices.specs.Output.{SendsText, WritesText};
+ghost use Rattle.devices.specs.Watched.{device_of, has_failed};
 ghost use Rattle.table_text.specs.declared.version.Version.TheVariants.{Two};
 ghost use Rattle.table_text.specs.LineForms.{IsSeparation};
 ghost use Rattle.table_text.specs.TableText.{written, head_then, table_text};
@@ -79,11 +78,7 @@ fn write_lines<W: Write>(
     requires working { has_failed writer.old ≡ false }
     requires first { chunk.old ≡ head_then (written Two table.now separation) [] }
     requires pieces { ArePieces table.now.ids table.now.channels pieces.now }
-    ensures ok { OnOk result (Appends (W.contents (device_of writer.old))
-        (W.contents (device_of writer.new)) (table_text table.now separation)) }
-    ensures err { OnErr result (AppendsFront (W.contents (device_of writer.old))
-        (W.contents (device_of writer.new)) (table_text table.now separation)) }
-    ensures fault { FailsByWrites result (has_failed writer.new) }
+    ensures { SendsText (table_text table.now separation) (W.contents (device_of writer.old)) (W.contents (device_of writer.new)) (has_failed writer.new) result }
 {
     let lines = Lines::new(table, pieces);
     let count = lines.count();

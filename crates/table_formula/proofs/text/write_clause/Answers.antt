@@ -25,7 +25,7 @@ loop-l-preserved g c =
     let item = c.l-item.result in
     let within : i < length clause = c.loop-l-test.true in
     let item_is : slice_get clause i ≡ Some item = slice_get-get_or clause i item within ∙ ap Some (sym c.l-item.is) in
-    let moved = tells_moved _ _ _ c.loop-l.chunk _ _ c.loop-l.invariant.told c.in_ok-make_room.ensures.ok in
+    let moved = tells_moved _ _ _ c.loop-l.chunk _ _ c.loop-l.invariant.told c.in_ok-make_room.ensures.sent.ok in
     let more = tells_more _ _ _ c.push_literal.new.chunk (literal_text item)
     (head ++ flat_map literal_text (take i clause)) moved c.push_literal.ensures in
     let text = text_more literal_text head (head ++ flat_map literal_text (take i clause))
@@ -36,34 +36,46 @@ loop-l-preserved g c =
       working = search rules;
     }
 
-pub returns-in_err-make_room-clause-err : goal.returns-in_err-make_room-clause-err
-returns-in_err-make_room-clause-err g c =
+pub returns-in_err-make_room : goal.returns-in_err-make_room
+returns-in_err-make_room g c =
     let head = c.args.chunk.now in
     let clause = c.args.clause.now in
     let i = c.loop-l.l-index in
     let rest = flat_map literal_text (drop i clause) in
-    on_err c.from_residual.result
-    (tells_front _ _ _ _ _ (head ++ clause_text clause) (rest ++ 48 ∷ 10 ∷ []) c.loop-l.invariant.told
-    c.in_err-make_room.ensures.err
-    (sym (append_assoc (head ++ flat_map literal_text (take i clause)) rest (48 ∷ 10 ∷ []))
-    ∙ ap (λ (bytes : List ℕ). bytes ++ 48 ∷ 10 ∷ []) (text_rest literal_text head clause i)
-    ∙ append_assoc head (flat_map literal_text clause) (48 ∷ 10 ∷ [])))
+    record {
+      ok = search rules;
+      front = on_err c.from_residual.result
+          (tells_front _ _ _ _ _ (head ++ clause_text clause) (rest ++ 48 ∷ 10 ∷ []) c.loop-l.invariant.told
+          c.in_err-make_room.ensures.sent.front
+          (sym (append_assoc (head ++ flat_map literal_text (take i clause)) rest (48 ∷ 10 ∷ []))
+          ∙ ap (λ (bytes : List ℕ). bytes ++ 48 ∷ 10 ∷ []) (text_rest literal_text head clause i)
+          ∙ append_assoc head (flat_map literal_text clause) (48 ∷ 10 ∷ [])));
+      fault = search rules;
+    }
 
-pub returns-in_err-make_room-2-clause-err : goal.returns-in_err-make_room-2-clause-err
-returns-in_err-make_room-2-clause-err g c =
+pub returns-in_err-make_room-2 : goal.returns-in_err-make_room-2
+returns-in_err-make_room-2 g c =
     let head = c.args.chunk.now in
     let clause = c.args.clause.now in
     let told = all_told _ _ c.loop-l.chunk head clause c.loop-l.l-index c.loop-l-test.false c.loop-l.invariant.told in
-    on_err c.from_residual-in_err-make_room-2.result
-    (tells_front _ _ _ _ _ (head ++ clause_text clause) (48 ∷ 10 ∷ []) told c.in_err-make_room-2.ensures.err
-    (append_assoc head (flat_map literal_text clause) (48 ∷ 10 ∷ [])))
+    record {
+      ok = search rules;
+      front = on_err c.from_residual-in_err-make_room-2.result
+          (tells_front _ _ _ _ _ (head ++ clause_text clause) (48 ∷ 10 ∷ []) told c.in_err-make_room-2.ensures.sent.front
+          (append_assoc head (flat_map literal_text clause) (48 ∷ 10 ∷ [])));
+      fault = search rules;
+    }
 
-pub returns-clause-ok : goal.returns-clause-ok
-returns-clause-ok g c =
+pub returns : goal.returns
+returns g c =
     let head = c.args.chunk.now in
     let literals = flat_map literal_text c.args.clause.now in
     let moved = tells_moved _ _ _ c.loop-l.chunk _ _
     (all_told _ _ c.loop-l.chunk head c.args.clause.now c.loop-l.l-index c.loop-l-test.false c.loop-l.invariant.told)
-    c.in_ok-make_room-2.ensures.ok in
+    c.in_ok-make_room-2.ensures.sent.ok in
     let more = tells_more _ _ _ c.push.new.self (48 ∷ 10 ∷ []) (head ++ literals) moved c.push.ensures in
-    subst (IsWrittenSoFar _ _ c.push.new.self) (append_assoc head literals (48 ∷ 10 ∷ [])) more
+    record {
+      ok = subst (IsWrittenSoFar _ _ c.push.new.self) (append_assoc head literals (48 ∷ 10 ∷ [])) more;
+      front = tt;
+      fault = search rules;
+    }

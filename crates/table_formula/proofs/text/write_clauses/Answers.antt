@@ -1,9 +1,10 @@
-use Rattle.std.proofs.Common.{◌+◌, ◌++◌, take, drop, refl, ap, ◌∙◌, subst, rules, List, ℕ}
+use Rattle.std.proofs.Common.{◌+◌, ◌≤◌, ◌++◌, arith, length, take, drop, refl, ap, ◌∙◌, subst, rules, List, ℕ}
 use Rattle.std.specs.List.{flat_map}
-use Rattle.std.proofs.lemmas.Result.{on_err_weaker}
+use Rattle.std.proofs.lemmas.List.{take_all}
 use Rattle.devices.specs.Output.{IsWrittenSoFar}
 use Rattle.devices.proofs.Known.{on_err}
-use Rattle.devices.proofs.WrittenChunks.{tells_more, tells_moved, tells_front}
+use Rattle.devices.proofs.WrittenChunks.{sends_all, tells_more, tells_moved, tells_front}
+use Rattle.table_formula.specs.declared.literal.Literal.{Literal}
 use Rattle.table_formula.specs.Formula.{formula}
 use Rattle.table_formula.specs.Texts.{clause_text, head_text, formula_text}
 use Rattle.table_formula.proofs.FormulaText.{text_more, text_rest}
@@ -26,8 +27,8 @@ loop-index-preserved g c =
       working = search rules;
     }
 
-pub returns-in_err-write_clause-clause-err : goal.returns-in_err-write_clause-clause-err
-returns-in_err-write_clause-clause-err g c =
+pub returns-in_err-write_clause : goal.returns-in_err-write_clause
+returns-in_err-write_clause g c =
     let p = c.args.formula.now in
     let i = c.loop-index.index in
     let clause = take c.write_clause-len.result c.write_clause-len.new.out in
@@ -35,20 +36,20 @@ returns-in_err-write_clause-clause-err g c =
     let text = text_more clause_text (head_text p) before (before ++ clause_text clause) (formula p) i clause refl
     c.write_clause-len.ensures.item refl in
     let rest = flat_map clause_text (drop (i + 1) (formula p)) in
-    on_err c.from_residual.result
-    (tells_front _ _ _ (c.loop-index.chunk ++ clause_text clause) (before ++ clause_text clause) (formula_text p) rest
-    (tells_more _ _ c.loop-index.chunk _ (clause_text clause) before c.loop-index.invariant.told refl)
-    c.in_err-write_clause.ensures.err
-    (ap (λ (bytes : List ℕ). bytes ++ rest) text ∙ text_rest clause_text (head_text p) (formula p) (i + 1)))
+    record {
+      ok = search rules;
+      front = on_err c.from_residual.result
+          (tells_front _ _ _ (c.loop-index.chunk ++ clause_text clause) (before ++ clause_text clause) (formula_text p) rest
+          (tells_more _ _ c.loop-index.chunk _ (clause_text clause) before c.loop-index.invariant.told refl)
+          c.in_err-write_clause.ensures.front
+          (ap (λ (bytes : List ℕ). bytes ++ rest) text ∙ text_rest clause_text (head_text p) (formula p) (i + 1)));
+      fault = search rules;
+    }
 
-pub returns-clause-err : goal.returns-clause-err
-returns-clause-err g c =
+pub returns : goal.returns
+returns g c =
     let p = c.args.formula.now in
-    let i = c.loop-index.index in
-    let before = head_text p ++ flat_map clause_text (take i (formula p)) in
-    on_err_weaker c.send.result
-    (λ failed.
-    tells_front _ _ _ c.loop-index.chunk before (formula_text p) (flat_map clause_text (drop i (formula p)))
-    c.loop-index.invariant.told failed
-    (text_rest clause_text (head_text p) (formula p) i))
-    c.send.ensures.err
+    let all : length (formula p) ≤ c.loop-index.index = omega (arith, c.count-index-end.ensures.value, c.loop-index-test.false) in
+    let text = ap (λ (clauses : List (List Literal)). head_text p ++ flat_map clause_text clauses) (take_all c.loop-index.index (formula p) all) in
+    let told = subst (IsWrittenSoFar _ _ c.loop-index.chunk) text c.loop-index.invariant.told in
+    sends_all _ _ _ _ _ _ c.send.result told c.send.ensures.sent

@@ -16,15 +16,19 @@ parts i chunks d lt =
     ∙ ap (λ l. flat_map (λ c. c) (take i chunks ++ l)) (sym (drop_more chunks i d lt))
     ∙ ap (flat_map (λ c. c)) (take-append-drop i chunks)
 
-pub returns-in_err-send-clause-err : goal.returns-in_err-send-clause-err
-returns-in_err-send-clause-err g c =
+pub returns-in_err-send-clause-sent : goal.returns-in_err-send-clause-sent
+returns-in_err-send-clause-sent g c =
     let inv = c.loop-index.invariant in
     let i = c.loop-index.index in
     let chunks = c.args.chunks.now in
     let lt : i < length chunks = search rules in
     let own = inv.left i c.index-chunks-index.result (omega arith) (omega (arith, lt, inv.size)) in
     let rest = flat_map (λ c. c) (drop (i + 1) chunks) in
-    on_err c.from_residual.result
-    (tells_front _ _ _ _ _ _ rest (flat_map (λ c. c) (take i chunks), inv.sent, refl) c.in_err-send.ensures.err
-    (ap (λ chunk. (flat_map (λ c. c) (take i chunks) ++ chunk) ++ rest) own
-    ∙ parts i chunks c.index-chunks-index.result lt))
+    record {
+      ok = search rules;
+      front = on_err c.from_residual.result
+          (tells_front _ _ _ _ _ _ rest (flat_map (λ c. c) (take i chunks), inv.sent, refl) c.in_err-send.ensures.sent.front
+          (ap (λ chunk. (flat_map (λ c. c) (take i chunks) ++ chunk) ++ rest) own
+          ∙ parts i chunks c.index-chunks-index.result lt));
+      fault = search rules;
+    }

@@ -1,12 +1,11 @@
-use Rattle.std.proofs.Common.{◌≡◌, ℕ, ◌+◌, ◌*◌, ◌≤◌, List, [], ◌++◌, length, drop, refl, sym, ap, ◌∙◌, subst, arith, rules, add-one, append-nil}
+use Rattle.std.proofs.Common.{◌≡◌, ℕ, ◌+◌, ◌*◌, ◌≤◌, List, [], ◌++◌, length, drop, refl, sym, ap, ◌∙◌, subst, arith, rules, add-one}
 use Rattle.std.specs.Prelude.{flat_map}
 use Rattle.std.specs.Io.KnownBytes.{Appends}
 use Rattle.std.proofs.Math.Nat.{suc-mul}
-use Rattle.std.proofs.lemmas.Result.{on_err_weaker, on_ok_weaker}
 use Rattle.std.proofs.KnownBytes.{Appends-trans}
 use Rattle.channel_tables.specs.Tables.{ChannelTable, windows_of}
 use Rattle.devices.proofs.Known.{on_err}
-use Rattle.devices.proofs.WrittenChunks.{tells_front}
+use Rattle.devices.proofs.WrittenChunks.{sends_all, tells_front}
 use Rattle.table_text.specs.TableText.{entries_then, end_then}
 use Rattle.table_text.specs.declared.parallel.TheConstants.{CHUNKS}
 use Rattle.table_text.specs.Sections.{lines_from, AreFilled}
@@ -38,19 +37,23 @@ loop-part-preserved g c =
       count = search rules;
       empty = c.in_ok-send_chunks.ensures.empty;
       sent = subst (Appends _ _) more
-          (Appends-trans _ _ _ _ _ c.loop-part.invariant.sent c.in_ok-send_chunks.ensures.ok);
+          (Appends-trans _ _ _ _ _ c.loop-part.invariant.sent c.in_ok-send_chunks.ensures.sent.ok);
     }
 
-pub returns-in_err-send_chunks-clause-err : goal.returns-in_err-send_chunks-clause-err
-returns-in_err-send_chunks-clause-err g c =
+pub returns-in_err-send_chunks : goal.returns-in_err-send_chunks
+returns-in_err-send_chunks g c =
     let t = c.args.lines.table.now in
     let n : ℕ = (c.loop-part.part + 1) * (c.args.lines.size * CHUNKS) in
     let rest = entries_then (drop n (windows_of t)) (drop n t.entries) (end_then []) in
     let more = one_more c.args.lines.table.now c.loop-part.part c.args.lines.size _ c.fill_chunks.new.chunks c.args.lines.full
     (c.fill_chunks.auto.chunks ∙ c.loop-part.invariant.count) refl c.fill_chunks.ensures in
-    on_err c.from_residual.result
-    (tells_front _ _ _ _ _ _ rest (_, c.loop-part.invariant.sent, refl) c.in_err-send_chunks.ensures.err
-    (ap (λ l. l ++ rest) more ∙ lines_before t n (end_then []) (omega (arith, c.args.lines.full))))
+    record {
+      ok = search rules;
+      front = on_err c.from_residual.result
+          (tells_front _ _ _ _ _ _ rest (_, c.loop-part.invariant.sent, refl) c.in_err-send_chunks.ensures.sent.front
+          (ap (λ l. l ++ rest) more ∙ lines_before t n (end_then []) (omega (arith, c.args.lines.full))));
+      fault = search rules;
+    }
 
 module _ (g : Over) (c : After-send g) where
   all : lines_from c.args.lines.table.now 0 (c.loop-part.part * (c.args.lines.size * CHUNKS)) ++ end_then []
@@ -64,13 +67,5 @@ module _ (g : Over) (c : After-send g) where
             (rw c.div_ceil-part-end.ensures at c.loop-part-test.false),
       ))
 
-pub returns-clause-ok : goal.returns-clause-ok
-returns-clause-ok g c =
-    on_ok_weaker c.send.result
-    (λ sent. subst (Appends _ _) (all g c) (Appends-trans _ _ _ _ _ c.loop-part.invariant.sent sent)) c.send.ensures.ok
-
-pub returns-clause-err : goal.returns-clause-err
-returns-clause-err g c =
-    on_err_weaker c.send.result
-    (λ failed. tells_front _ _ _ _ _ _ [] (_, c.loop-part.invariant.sent, refl) failed (append-nil _ ∙ all g c))
-    c.send.ensures.err
+pub returns : goal.returns
+returns g c = sends_all _ _ _ _ _ _ c.send.result (_, c.loop-part.invariant.sent, all g c) c.send.ensures

@@ -20,7 +20,7 @@ returns-in_default g c =
     ∙ whole_text t c.args.separation in
     record {
       ok = tt;
-      front = λ _. tells_front _ _ _ _ _ _ rest (tells_none _ _) c.in_default.ensures.err text;
+      front = λ _. tells_front _ _ _ _ _ _ rest (tells_none _ _) c.in_default.ensures.front text;
       no_memory = search rules;
       failed_is = search rules;
     }
@@ -44,7 +44,7 @@ returns g c =
     ∙ whole_text t c.args.separation in
     record {
       ok = tt;
-      front = λ _. tells_front _ _ _ _ _ _ [] (_, c.in-Ok.ensures.ok, refl) c.in-Err.ensures.err (append-nil _ ∙ text);
+      front = λ _. tells_front _ _ _ _ _ _ [] (_, c.in-Ok.ensures.ok, refl) c.in-Err.ensures.front (append-nil _ ∙ text);
       no_memory = search rules;
       failed_is = search rules;
     }

@@ -1,6 +1,5 @@
-use Rattle.std.proofs.Common.{◌≡◌, ℕ, ◌+◌, ◌*◌, ◌≤◌, List, Option, [], ◌++◌, length, take, refl, sym, ap, ◌∙◌, subst, arith, rules, add-one, append-nil}
+use Rattle.std.proofs.Common.{◌≡◌, ℕ, ◌+◌, ◌*◌, ◌≤◌, List, Option, [], ◌++◌, length, take, refl, sym, ap, ◌∙◌, subst, arith, rules, add-one}
 use Rattle.std.proofs.Math.Nat.{suc-mul}
-use Rattle.std.proofs.lemmas.Result.{on_err_weaker, on_ok_weaker}
 use Rattle.std.proofs.lemmas.List.{take_all}
 use Rattle.std.proofs.KnownBytes.{Appends-nil}
 use Rattle.channel_tables.specs.Tables.{ChannelTable, windows_of}
@@ -15,7 +14,7 @@ use Rattle.table_text.proofs.TextsApart.{lines_append}
 use Rattle.table_text.proofs.WrittenLines.{front_of, section_more, sections_all, lines_front}
 use Rattle.devices.specs.Output.{IsWrittenSoFar}
 use Rattle.devices.proofs.Known.{on_err}
-use Rattle.devices.proofs.WrittenChunks.{tells_more, tells_moved, tells_all, tells_front}
+use Rattle.devices.proofs.WrittenChunks.{sends_all, tells_more, tells_moved, tells_front}
 use Rattle.devices.specs.Watched.{device_of}
 use Rattle.table_text.proofs.writing.write_lines.Given.{Over}
 use Rattle.table_text.proofs.writing.write_lines.Goals.{After-send}
@@ -65,7 +64,7 @@ loop-section-preserved g c =
     let s = c.args.separation in
     let lines = c.new-lines.result in
     let first : ℕ = c.loop-section.section * lines.size in
-    let moved = tells_moved _ _ _ c.loop-section.chunk _ _ c.loop-section.invariant.told c.in_ok-make_room.ensures.ok in
+    let moved = tells_moved _ _ _ c.loop-section.chunk _ _ c.loop-section.invariant.told c.in_ok-make_room.ensures.sent.ok in
     let stored : c.store_next.new.chunk ≡ c.make_room.new.self ++ lines_from t first lines.size =
     c.store_next.ensures.lines ∙ ap (λ u. c.make_room.new.self ++ lines_from u first lines.size) c.new-lines.ensures.table in
     let more = tells_more _ _ _ c.store_next.new.chunk (lines_from t first lines.size) _ moved stored in
@@ -112,40 +111,38 @@ module _ (g : Over) (c : After-send g) where
         c.count-count.ensures.value,
         ap (λ u. length (windows_of u)) c.new-lines.ensures.table,
       )) c.loop-section.invariant.told in
-      let moved = tells_moved _ _ _ c.loop-section.chunk _ _ lines c.in_ok-make_room-2.ensures.ok in
+      let moved = tells_moved _ _ _ c.loop-section.chunk _ _ lines c.in_ok-make_room-2.ensures.sent.ok in
       with_end (written Two t c.args.separation) _ _ _ c.push.new.self _ moved c.push.ensures refl
 
-pub returns-clause-ok : goal.returns-clause-ok
+pub returns : goal.returns
 unfolding text_of
-returns-clause-ok g c =
+returns g c =
     let w = written Two c.args.table.now c.args.separation in
-    on_ok_weaker c.send.result
-    (λ sent. tells_all _ _ _ _ _
-    (subst (IsWrittenSoFar _ _ c.push.new.self) (lines_append w [] (end_then [])) (told g c)) sent) c.send.ensures.ok
+    sends_all _ _ _ _ _ _ c.send.result
+    (subst (IsWrittenSoFar _ _ c.push.new.self) (lines_append w [] (end_then [])) (told g c)) c.send.ensures.sent
 
-pub returns-clause-err : goal.returns-clause-err
-unfolding text_of
-returns-clause-err g c =
-    let w = written Two c.args.table.now c.args.separation in
-    on_err_weaker c.send.result
-    (λ failed. tells_front _ _ _ c.push.new.self _ _ [] (told g c) failed
-    (append-nil (lines_then w [] ++ end_then []) ∙ lines_append w [] (end_then [])))
-    c.send.ensures.err
-
-pub returns-in_err-make_room-clause-err : goal.returns-in_err-make_room-clause-err
-returns-in_err-make_room-clause-err g c =
+pub returns-in_err-make_room : goal.returns-in_err-make_room
+returns-in_err-make_room g c =
     let t = c.args.table.now in
     let front = lines_front t c.args.separation (c.loop-section.section * c.new-lines.result.size)
     (le_same (full c.args.table.now c.new-lines.result c.new-lines.ensures.table)) in
-    on_err c.from_residual.result
-    (tells_front _ _ _ c.loop-section.chunk _ _ front.0 c.loop-section.invariant.told
-    c.in_err-make_room.ensures.err front.1)
+    record {
+      ok = search rules;
+      front = on_err c.from_residual.result
+          (tells_front _ _ _ c.loop-section.chunk _ _ front.0 c.loop-section.invariant.told
+          c.in_err-make_room.ensures.sent.front front.1);
+      fault = search rules;
+    }
 
-pub returns-in_err-make_room-2-clause-err : goal.returns-in_err-make_room-2-clause-err
-returns-in_err-make_room-2-clause-err g c =
+pub returns-in_err-make_room-2 : goal.returns-in_err-make_room-2
+returns-in_err-make_room-2 g c =
     let t = c.args.table.now in
     let front = lines_front t c.args.separation (c.loop-section.section * c.new-lines.result.size)
     (le_same (full c.args.table.now c.new-lines.result c.new-lines.ensures.table)) in
-    on_err c.from_residual-in_err-make_room-2.result
-    (tells_front _ _ _ c.loop-section.chunk _ _ front.0 c.loop-section.invariant.told
-    c.in_err-make_room-2.ensures.err front.1)
+    record {
+      ok = search rules;
+      front = on_err c.from_residual-in_err-make_room-2.result
+          (tells_front _ _ _ c.loop-section.chunk _ _ front.0 c.loop-section.invariant.told
+          c.in_err-make_room-2.ensures.sent.front front.1);
+      fault = search rules;
+    }
