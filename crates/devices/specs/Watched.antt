@@ -1,8 +1,8 @@
 -- A reader or a writer with the count of its calls, and a note of the failure of one.
-use Rattle.std.specs.Prelude.{◌≡◌, ℕ, ◌+◌, ◌-◌, ◌^◌, min, ◌↔◌, Bool, true, Option, is_some, Result, IfErr, IsErrOf, IsTrue, MatchResult}
+use Rattle.std.specs.Prelude.{◌≡◌, ℕ, ◌+◌, ◌-◌, ◌^◌, min, ◌⊎◌, ◌↔◌, Bool, true, Option, is_some, Result, IfErr, IsErrOf, IsTrue, MatchResult}
 use Rattle.std.specs.declared.io.ErrorKind.{ErrorKind}
 use Rattle.devices.specs.declared.fault.EngineFault.{EngineFault}
-use Rattle.devices.specs.declared.fault.EngineFault.TheVariants.{Write}
+use Rattle.devices.specs.declared.fault.EngineFault.TheVariants.{Read, Write, Memory}
 use Rattle.devices.specs.declared.watched.Watched.{Watched}
 
 -- the reader or the writer itself
@@ -30,6 +30,11 @@ pub record IsCall {D T : Type 0} (fault : EngineFault) (old new : Watched D) (re
   pub fault_is : IfErr result (λ f. f ≡ fault)
   pub noted : Notes result (has_failed old) (has_failed new)
   pub counted : calls_of new ≡ min (calls_of old + 1) (2 ^ 64 - 1)
+
+-- the only faults are a failed read and refused memory, and a read failed exactly if the fault is that
+pub record FailsByReadOrMemory {T : Type 0} (result : Result T EngineFault) (failed : Bool) : Type 0 where
+  pub fault_is : IfErr result (λ fault. (fault ≡ Read) ⊎ (fault ≡ Memory))
+  pub failed_is : IsErrOf result Read ↔ IsTrue failed
 
 -- the only fault is a failed write, and a write failed exactly if there is a fault
 pub record FailsByWrites {T : Type 0} (result : Result T EngineFault) (failed : Bool) : Type 0 where

@@ -1,8 +1,8 @@
 //! Reading the input.
 
-ghost use Rattle.std.specs.Prelude.{◌≡◌, ◌+◌, ◌≤◌, ◌⊎◌, ◌↔◌, false, IsTrue, IfOk, IfErr, OnErr, IsErrOf};
+ghost use Rattle.std.specs.Prelude.{◌≡◌, ◌+◌, ◌≤◌, false, IfOk, OnErr};
 ghost use Rattle.devices.specs.Input.{GivesInput, TakesFront};
-ghost use Rattle.devices.specs.Watched.{device_of, has_failed, calls_of};
+ghost use Rattle.devices.specs.Watched.{device_of, has_failed, calls_of, FailsByReadOrMemory};
 
 use crate::fault::EngineFault;
 use crate::watched::Watched;
@@ -26,8 +26,7 @@ pub fn read_input<R: Read>(
         (R.remaining (device_of reader.new)) most input.items) }
     ensures refused { OnErr result (TakesFront (R.remaining (device_of reader.old))
         (R.remaining (device_of reader.new)) most) }
-    ensures faults { IfErr result (λ fault. (fault ≡ EngineFault.Read) ⊎ (fault ≡ EngineFault.Memory)) }
-    ensures failed { IsErrOf result EngineFault.Read ↔ IsTrue (has_failed reader.new) }
+    ensures failed { FailsByReadOrMemory result (has_failed reader.new) }
     ensures asked { calls_of reader.new ≤ calls_of reader.old + most }
 {
     let mut input = Vec::new(alloc);

@@ -48,7 +48,7 @@ returns-clause-failed g c =
       | then-reads-test+then-len-most w ↦ rw w.reader-is inv.working
       | then-reads-test+else-len-most+in_ok-count+then-count-eq0 w ↦ rw w.reader-is (w.in_ok-count.ensures.call.noted ∙ inv.working)
     ] in
-    (λ none. absurd (cc), λ failed. absurd (cc))
+    record { fault_is = tt; failed_is = (λ none. absurd (cc), λ failed. absurd (cc)) }
 
 pub returns-clause-refused : goal.returns-clause-refused
 returns-clause-refused g c = tt
