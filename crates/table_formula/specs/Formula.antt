@@ -1,6 +1,6 @@
 -- The formula of a problem: variables that say which window has which channel, and clauses that hold for each table
 -- that is asked for.
-use Rattle.std.specs.Prelude.{◌==◌, ℕ, ◌+◌, ◌*◌, ◌/◌, ◌%◌, ◌<◌, ◌≤◌, Bool, true, false, List, [], ◌∷◌, ◌++◌, map, filter, length, max, nat_lt, unwrap_or, slice_index}
+use Rattle.std.specs.Prelude.{◌≡◌, ◌==◌, ℕ, ◌+◌, ◌*◌, ◌/◌, ◌%◌, ◌<◌, ◌≤◌, Bool, true, false, List, [], ◌∷◌, ◌++◌, All, Some, map, filter, length, max, nat_lt, take, unwrap_or, slice_get, slice_index}
 use Rattle.std.specs.Int.{abs_diff}
 use Rattle.std.specs.List.{range_with_len, flat_map}
 use Rattle.win_index.specs.Arcs.{part_at}
@@ -90,6 +90,12 @@ not_too_close p tuple = map (not_both p tuple) (conflicts_of p)
 -- a clause for each window, and for each tuple and each forbidden pair
 unfoldable pub formula : Problem → List (List Literal)
 formula p = map (some_channel p) (range_with_len 0 (length (windows_of p))) ++ flat_map (not_too_close p) (tuples_of p)
+
+-- the first `count` of these literals are the clause of the formula with this index, and their variables are the formula's
+pub record BeginsWithClause (p : Problem) (index count : ℕ) (literals : List Literal) : Type 0 where
+  pub fits : count ≤ length literals
+  pub item : slice_get (formula p) index ≡ Some (take count literals)
+  pub within : All (λ l. l.variable < variable_count p) (take count literals)
 
 -- the number of literals of the longest clause of a list, or 1 if no clause has a literal
 abbrev pub longest_len : List (List Literal) → ℕ

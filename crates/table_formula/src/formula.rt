@@ -59,7 +59,7 @@ impl Formula {
     ghost use Rattle.win_index.specs.Windows.{IsWindow};
     ghost use Rattle.channel_tables.specs.Apart.{extra};
     ghost use Rattle.table_formula.specs.declared.limits.TheConstants.{MAX_CLAUSES, MAX_VARIABLES};
-    ghost use Rattle.table_formula.specs.Formula.{windows_of, tuples_of, variable_of, variable_count, conflicts_of, window_in, some_channel, not_both, IsPair, formula, longest_len};
+    ghost use Rattle.table_formula.specs.Formula.{windows_of, tuples_of, variable_of, variable_count, conflicts_of, window_in, some_channel, not_both, IsPair, formula, longest_len, BeginsWithClause};
     ghost use Rattle.table_formula.specs.Exchanges.{can_exchange, exchanged_window, exchanged_literal};
     ghost use Rattle.table_formula.specs.Problems.{problem_of};
     ghost use Rattle.table_formula.specs.Limits.{IsWithinLimits};
@@ -182,9 +182,7 @@ impl Formula {
         requires index { index < length (formula self.now) }
         requires room { longest_len (formula self.now) ≤ length out.old }
         ensures len { length out.new ≡ length out.old }
-        ensures fits { result ≤ length out.new }
-        ensures item { slice_get (formula self.now) index ≡ Some (take result out.new) }
-        ensures within { All (λ l. l.variable < variable_count self.now) (take result out.new) }
+        ensures written { BeginsWithClause self.now index result out.new }
     {
         let windows = u64::from(self.windows());
         if index < windows {

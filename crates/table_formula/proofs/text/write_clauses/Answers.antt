@@ -21,7 +21,7 @@ loop-index-preserved g c =
     let moved = tells_moved _ _ _ (c.loop-index.chunk ++ clause_text clause) c.write_clause.new.chunk
     (before ++ clause_text clause) told c.in_ok-write_clause.ensures.ok in
     let text = text_more clause_text (head_text p) before (before ++ clause_text clause) (formula p) i clause refl
-    c.write_clause-len.ensures.item refl in
+    c.write_clause-len.ensures.written.item refl in
     record {
       told = subst (IsWrittenSoFar _ _ c.write_clause.new.chunk) text moved;
       working = search rules;
@@ -34,7 +34,7 @@ returns-in_err-write_clause g c =
     let clause = take c.write_clause-len.result c.write_clause-len.new.out in
     let before = head_text p ++ flat_map clause_text (take i (formula p)) in
     let text = text_more clause_text (head_text p) before (before ++ clause_text clause) (formula p) i clause refl
-    c.write_clause-len.ensures.item refl in
+    c.write_clause-len.ensures.written.item refl in
     let rest = flat_map clause_text (drop (i + 1) (formula p)) in
     record {
       ok = search rules;
