@@ -2,7 +2,7 @@ use Rattle.std.proofs.Common.{rules, ◌≡◌, ◌∙◌, true, false, None, ge
 use Rattle.fill_core.specs.FillPromises.{HoldsJobs}
 use Rattle.std.proofs.lemmas.List.{get_or_read}
 use Rattle.fill_core.proofs.KnownSources.{entry_is}
-use Rattle.fill_core.proofs.known.KnownSource.block.Goals as goal
+use Rattle.fill_core.proofs.known.KnownCellsSource.block.Goals as goal
 
 pub returns-in-Some-clause-found : goal.returns-in-Some-clause-found
 returns-in-Some-clause-found c =
