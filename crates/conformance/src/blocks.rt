@@ -1,11 +1,11 @@
 //! Blocks of windows, made with and without the blocks below.
 
 use lang_check::Plan;
+use round_eval::{Block, Source};
 use std::alloc::Global;
 use std::test::Fail;
 use test_programs::{CV1, RED, plan_of};
 use unroll::{MakeFault, make_block};
-use window_states::{Block, Source};
 
 // A source whose only entry is the first of some borrowed blocks.
 #[derive(Drop)]
@@ -17,8 +17,8 @@ struct FirstBlockSource<'s> {
 
 ghost use Rattle.std.specs.Prelude.{◌≡◌, ◌==◌, ◌&&◌, Some, None, if◌then◌else◌, All, slice_get, IfSome, IsTrue};
 ghost use Rattle.std.specs.Option.{option_and_then};
-ghost use Rattle.window_states.specs.BlockStates.{IsKey};
-ghost use Rattle.window_states.specs.Entries.{Entries};
+ghost use Rattle.round_eval.specs.BlockStates.{IsKey};
+ghost use Rattle.round_eval.specs.Entries.{Entries};
 
 impl<'s> Source<'s> for FirstBlockSource<'s> {
     ghost plan = { λ s. s.plan.now };

@@ -4,13 +4,12 @@ use crate::filling::table_by;
 use channel_tables::Table;
 use lang_check::Plan;
 use node_lang::MAX_REGISTERS;
-use round_eval::{channel, width_of};
+use round_eval::{channel, width_of, window_state};
 use std::alloc::Global;
 use std::sync::Wait;
 use std::thread::Threads;
 use test_programs::{CV1, EIGHT_REGISTERS, RED, TWO_REGISTERS, plan_of};
 use win_index::MAX_WINDOW_LEN;
-use window_states::window_state;
 
 /// Returns whether the window with this number has the channel of its state after the rounds.
 fn has_its_channel(plan: &Plan, table: &Table, number: u32) -> bool {

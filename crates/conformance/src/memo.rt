@@ -4,13 +4,13 @@ ghost use Rattle.shared_memo.specs.Passes.{IsPassOf};
 
 use crate::blocks::first_block;
 use lang_check::Plan;
+use round_eval::Source;
 use shared_memo::{Installed, Memo, Pass, Reader};
 use std::alloc::Global;
 use std::test::Fail;
 use std::thread;
 use std::thread::Threads;
 use test_programs::{CV1, RED, plan_of};
-use window_states::Source;
 
 /// Returns the maker of the block in the cell of a job, or `None` if the cell is empty or there is
 /// no such job.

@@ -1,8 +1,7 @@
 //! Refutations that neighbours have different channels where there is one channel.
 
-use refutation::{LineFault, RefuteError, refute};
 use std::alloc::Global;
-use table_formula::{Formula, Separation};
+use table_formula::{Formula, LineFault, RefuteError, Separation, refute};
 use win_index::Shape;
 
 /// A refutation of the formula of two identifiers, no rounds and one channel.

@@ -1,10 +1,10 @@
 //! The numbers of windows, of tuples and of jobs, and the states of windows.
 
 use lang_check::Plan;
+use round_eval::window_state;
 use std::test::Fail;
 use test_programs::{CV1, RED, TWO_REGISTERS, plan_of};
 use win_index::{MAX_ROUNDS, Shape};
-use window_states::window_state;
 
 // Levels of eight identifiers, windows of them, and their numbers.
 const WINDOWS: [(u32, &[u32], Option<u32>); 9] = [

@@ -9,7 +9,7 @@ use Rattle.win_index.specs.Jobs.{jobs_of}
 use Rattle.win_index.specs.Laws.{JobsStandAtNumbers}
 use Rattle.lang_check.specs.Plans.{ProgramForIds}
 use Rattle.shared_memo.specs.PlanJobs.{job_count, job_of}
-use Rattle.window_states.specs.BlockStates.{MadeBlock}
+use Rattle.round_eval.specs.BlockStates.{MadeBlock}
 use Rattle.fill_core.specs.declared.state.FillEvent.{FillEvent}
 use Rattle.fill_core.specs.declared.state.FillEvent.TheVariants.{Draw, Look, Install}
 use Rattle.fill_core.specs.FillMachine.{Worker, Machine, idle, opening, nobody, worker, cell_of, CanDraw, drawn, stopped, CanLook, put_down, learned, looked, CanInstall, block_by, installed, Steps, Runs}

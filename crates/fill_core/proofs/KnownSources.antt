@@ -6,8 +6,8 @@ use Rattle.win_index.specs.Laws.{JobsStandAtNumbers}
 use Rattle.lang_check.specs.Plans.{ProgramForIds}
 use Rattle.shared_memo.specs.PlanJobs.{job_of, IsKeyedBlock}
 use Rattle.unroll.specs.Below.{IsBelow}
-use Rattle.window_states.specs.BlockStates.{MadeBlock}
-use Rattle.window_states.specs.Entries.{IsEntry}
+use Rattle.round_eval.specs.BlockStates.{MadeBlock}
+use Rattle.round_eval.specs.Entries.{IsEntry}
 use Rattle.fill_core.specs.FillMachine.{cell_of, is_marked, MarksBelow, block_by}
 use Rattle.fill_core.specs.FillPromises.{HoldsJobs, MarkedAreFull}
 use Rattle.fill_core.specs.KnownCells.{known_cell, known_entries}

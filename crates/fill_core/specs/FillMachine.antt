@@ -3,7 +3,7 @@ use Rattle.std.specs.Prelude.{◌≡◌, ℕ, ◌+◌, ◌<◌, ◌≤◌, ◌==
 use Rattle.std.specs.Coded.{Coded, code_by, coded×, coded_ℕ, coded_list, coded_option, coded_bool}
 use Rattle.lang_check.specs.Plans.{ProgramForIds, plan_code}
 use Rattle.unroll.specs.Below.{IsBelow}
-use Rattle.window_states.specs.BlockStates.{MadeBlock, block_code}
+use Rattle.round_eval.specs.BlockStates.{MadeBlock, block_code}
 use Rattle.shared_memo.specs.PlanJobs.{job_count, job_of}
 use Rattle.fill_core.specs.declared.state.FillEvent.{FillEvent}
 use Rattle.fill_core.specs.declared.state.FillEvent.TheVariants.{Draw, Look, Install}

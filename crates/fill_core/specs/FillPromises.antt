@@ -1,7 +1,7 @@
 -- The invariant of the fill machine, which holds after every list of events.
 use Rattle.std.specs.Prelude.{◌≡◌, ℕ, ◌<◌, ◌≤◌, ◌⊎◌, Bool, true, false, List, Option, None, Some, IsSome, length, slice_index_or}
 use Rattle.lang_check.specs.Plans.{ProgramForIds}
-use Rattle.window_states.specs.BlockStates.{MadeBlock}
+use Rattle.round_eval.specs.BlockStates.{MadeBlock}
 use Rattle.shared_memo.specs.PlanJobs.{job_count, job_of}
 use Rattle.fill_core.specs.FillMachine.{Machine, worker}
 

@@ -1,8 +1,8 @@
 -- What a worker knows, as a source of blocks.
 use Rattle.std.specs.Prelude.{ℕ, Bool, cond, List, Option, None}
 use Rattle.lang_check.specs.Plans.{ProgramForIds}
-use Rattle.window_states.specs.BlockStates.{MadeBlock}
-use Rattle.window_states.specs.Entries.{Entries}
+use Rattle.round_eval.specs.BlockStates.{MadeBlock}
+use Rattle.round_eval.specs.Entries.{Entries}
 use Rattle.shared_memo.specs.PlanJobs.{job_of}
 use Rattle.fill_core.specs.FillMachine.{cell_of, is_marked}
 

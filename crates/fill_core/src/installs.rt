@@ -9,10 +9,10 @@ use crate::known::KnownCells;
 use crate::state::{FillEvent, FillState};
 use lang_check::Plan;
 use node_program::OutOfMemory;
+use round_eval::Block;
 use std::alloc::Global;
 use unroll::{MakeFault, make_block};
 use win_index::jobs_have_numbers;
-use window_states::Block;
 
 // Makes a block from the cells that are known, or returns `None` if a block below is not known.
 fn make_known<'a, 's>(

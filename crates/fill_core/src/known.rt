@@ -1,13 +1,13 @@
 //! The blocks that a worker knows, as a source.
 ghost use Rattle.std.specs.Prelude.{◌≡◌, length};
 ghost use Rattle.shared_memo.specs.PlanJobs.{job_count};
-ghost use Rattle.window_states.specs.Entries.{Entries};
+ghost use Rattle.round_eval.specs.Entries.{Entries};
 ghost use Rattle.fill_core.specs.FillPromises.{HoldsJobs};
 ghost use Rattle.fill_core.specs.KnownCells.{known_entries};
 
 use lang_check::Plan;
+use round_eval::{Block, Source};
 use win_index::jobs_have_numbers;
-use window_states::{Block, Source};
 
 // The cells that a worker knows.
 #[derive(Drop)]

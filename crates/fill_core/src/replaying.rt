@@ -7,9 +7,9 @@ ghost use Rattle.fill_core.specs.FillStates.{machine_of, worker_of};
 use crate::state::{FillEvent, FillState, Hand};
 use lang_check::Plan;
 use node_program::OutOfMemory;
+use round_eval::Block;
 use std::alloc::Global;
 use win_index::jobs_have_numbers;
-use window_states::Block;
 
 // Runs the events from the opening state with this many workers.
 pub(crate) fn run<'a>(

@@ -3,10 +3,10 @@ use crate::replaying::run;
 use crate::state::{FillEvent, FillState};
 use lang_check::Plan;
 use node_program::OutOfMemory;
+use round_eval::Block;
 use std::alloc::Global;
 use std::marker::Model;
 use win_index::jobs_have_numbers;
-use window_states::Block;
 
 /// The state after a list of events: the cells of a plan's jobs, the next job, and the workers.
 /// Only `replay` makes one. Its methods take any worker, level and number; a number that no worker

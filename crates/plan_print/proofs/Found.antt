@@ -13,7 +13,7 @@ use Rattle.numerals.specs.declared.base.Base.{Base}
 use Rattle.task_words.specs.declared.task.Task.{Task}
 use Rattle.task_words.specs.declared.task.Task.TheVariants.{Check, Print, Table, Judge, Run, Trace, Explain, Plan, Audit, Apply, Migrate, Formula, Refute}
 use Rattle.reports.specs.Causes.{Reason}
-use Rattle.report_notes.specs.Notes.{IsFound}
+use Rattle.plan_print.specs.Notes.{IsFound}
 use Rattle.reports.specs.Report.{Report, yes_cause, IsJudgement, good, bad, IsAnswerOnRing, ring_fault, on_ring, IsRunAnswer, out_of_range, ran, IsExplainAnswer, no_place, explained, IsTextRefusal, text_refused, in_print, text_fault, check_fault, IsProgramReport, program_refused, answered, IsTableReport, table_refused, of_table}
 use Rattle.reports.specs.FormulaReports.{IsFormulaRefusal, no_formula, has_text, not_asked, refuted, not_refuted}
 use Rattle.table_formula.specs.Problems.{Problem}

@@ -8,7 +8,7 @@ use Rattle.task_words.specs.declared.task.Task.{Task}
 use Rattle.task_words.specs.declared.task.Task.TheVariants.{Table, Judge, Run, Plan, Audit, Apply, Migrate, Formula, Refute}
 use Rattle.node_lang.specs.declared.limits.TheConstants.{LONGEST_TEXT}
 use Rattle.table_text.specs.declared.limits.TheConstants.{LONGEST_TABLE_TEXT}
-use Rattle.refutation.specs.declared.limits.TheConstants.{LONGEST_REFUTATION}
+use Rattle.table_formula.specs.declared.limits.TheConstants.{LONGEST_REFUTATION}
 use Rattle.devices.specs.Input.{GivesInput, TakesFront}
 use Rattle.devices.specs.Output.{AppendsFront}
 use Rattle.devices.specs.Watched.{device_of, has_failed, calls_of}
@@ -16,7 +16,7 @@ use Rattle.devices.specs.declared.watched.Watched.{Watched}
 use Rattle.reports.specs.Report.{Report}
 use Rattle.reports.specs.Written.{MayHave}
 use Rattle.plan_print.specs.TaskReport.{IsReport}
-use Rattle.report_notes.specs.Notes.{IsNoteOn}
+use Rattle.plan_print.specs.Notes.{IsNoteOn}
 use Rattle.plan_print.specs.declared.engine.Reported.{Reported}
 
 -- the maximum number of bytes that are read of the input of a task: one more than the length of the longest text that the

@@ -1,7 +1,7 @@
 -- The exit status of the process.
 use Rattle.std.specs.Prelude.{◌≡◌, ◌⊎◌, ℕ, List, Result, Ok, Err, IfOk, MatchResult}
 use Rattle.reports.specs.StatusCodes.{exit_code}
-use Rattle.report_notes.specs.Notes.{IsNoteOn}
+use Rattle.plan_print.specs.Notes.{IsNoteOn}
 use Rattle.reports.specs.Report.{Report}
 use Rattle.reports.specs.Written.{MayHave}
 use Rattle.reports.specs.declared.status.Status.TheVariants.{Done}

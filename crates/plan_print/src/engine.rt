@@ -3,10 +3,11 @@
 ghost use Rattle.std.specs.Prelude.{◌≡◌, false, IfSome};
 ghost use Rattle.task_words.specs.Task.{IsRunnable};
 ghost use Rattle.devices.specs.Watched.{has_failed};
-ghost use Rattle.report_notes.specs.Notes.{IsNoteOn, IsFound};
+ghost use Rattle.plan_print.specs.Notes.{IsNoteOn, IsFound};
 ghost use Rattle.reports.specs.Causes.{reason_in};
 ghost use Rattle.plan_print.specs.Engine.{max_read, streams_of, DoesTask, WritesReport, TellsReport};
 
+use crate::note::note_on;
 use crate::report::report_of;
 use channel_tables::one_witness;
 use devices::fault::EngineFault;
@@ -14,8 +15,6 @@ use devices::input::read_input;
 use devices::watched::Watched;
 use node_lang::LONGEST_TEXT;
 use node_program::OutOfMemory;
-use refutation::LONGEST_REFUTATION;
-use report_notes::note_on;
 use reports::cause::Cause;
 use reports::status::Status;
 use reports::writing::write_answer;
@@ -23,6 +22,7 @@ use std::alloc::Global;
 use std::io::{Read, Write};
 use std::sync::Wait;
 use std::thread::Threads;
+use table_formula::LONGEST_REFUTATION;
 use table_text::LONGEST_TABLE_TEXT;
 use task_words::task::Task;
 

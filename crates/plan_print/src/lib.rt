@@ -4,6 +4,7 @@
 mod answer;
 pub mod engine;
 mod first_tuples;
+pub mod note;
 mod places;
 pub mod process;
 mod program_windows;

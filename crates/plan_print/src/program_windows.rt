@@ -4,10 +4,9 @@ ghost use Rattle.plan_print.specs.FirstTuples.{plan_table};
 use channel_tables::Windows;
 use lang_check::Plan;
 use node_program::MAX_REGISTERS;
-use round_eval::{channel, width_of};
+use round_eval::{channel, width_of, window_state};
 use table_fill::table_has_the_channels_of_windows;
 use win_index::Shape;
-use window_states::window_state;
 
 /// The windows of a plan's program. Their channels are computed when they are asked for, by rounds on
 /// the window.

@@ -8,10 +8,10 @@ use crate::plans::{has_block, plan_of};
 use crate::tell::{again, tell, tell_numbers, value_or};
 use lang_check::Plan;
 use node_lang::OutOfMemory;
+use round_eval::Block;
 use shared_memo::{Memo, Reader};
 use test_programs::CV1;
 use unroll::{BlockMaker, Code, MakeFault};
-use window_states::Block;
 
 /// `BlockMaker`: prints the number of states of the first block of level 0, and its first state. A
 /// maker that was refused memory for the block makes it a second time.

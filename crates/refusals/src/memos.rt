@@ -2,7 +2,7 @@
 ghost use Rattle.std.specs.Prelude.{◌≡◌, None, IfOk};
 ghost use Rattle.shared_memo.specs.Passes.{IsPassOf, memo_plan};
 ghost use Rattle.shared_memo.specs.PlanJobs.{IsKey};
-ghost use Rattle.window_states.specs.Entries.{Entries};
+ghost use Rattle.round_eval.specs.Entries.{Entries};
 
 use crate::blocks::tell_states;
 use crate::miss::Miss;
@@ -10,10 +10,10 @@ use crate::plans::{has_block, plan_of};
 use crate::tell::{again, tell, tell_numbers, value_or};
 use lang_check::Plan;
 use node_lang::OutOfMemory;
+use round_eval::{Block, Source};
 use shared_memo::{Installed, Memo, Pass, Reader};
 use test_programs::{CV1, RED};
 use unroll::{MakeFault, make_block};
-use window_states::{Block, Source};
 
 /// A source without blocks.
 #[derive(Drop)]

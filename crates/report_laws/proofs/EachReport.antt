@@ -19,18 +19,18 @@ use Rattle.reports.specs.declared.status.Status.TheVariants.{Done, No, Words, Re
 use Rattle.reports.specs.Causes.{Reason, of_text, of_program, of_ring, of_place, of_segments, of_table_text, of_formula, of_refutation, of_no}
 use Rattle.reports.specs.Lines.{line, numbers_text}
 use Rattle.numerals.specs.declared.base.Base.{Base}
-use Rattle.value_trees.specs.Explanation.{explanation}
-use Rattle.value_trees.specs.Trace.{trace_lines}
+use Rattle.reports.specs.Explanation.{explanation}
+use Rattle.reports.specs.Trace.{trace_lines}
 use Rattle.reports.specs.Laws.{TablesHaveChannels}
 use Rattle.reports.specs.Report as report
 use Rattle.win_index.specs.Ring.{IsRing}
 use Rattle.reports.specs.Report.{Report, Says, IsJudgement, good, bad, IsAnswerOnRing, ring_fault, on_ring, IsRunAnswer, out_of_range, ran, IsExplainAnswer, no_place, explained, text_refused, in_print, text_fault, check_fault, IsProgramReport, program_refused, answered, IsTableText, IsTableReport, table_refused, of_table}
 use Rattle.table_formula.specs.Problems.{Problem}
 use Rattle.table_formula.specs.Texts.{formula_text}
-use Rattle.refutation.specs.Laws.{EachTextHasAVerdict}
-use Rattle.refutation.specs.Refutations.{IsRefutation, IsFault}
-use Rattle.refutation.specs.declared.fault.RefuteError.{RefuteError}
-use Rattle.refutation.specs.declared.fault.RefuteError.TheVariants as refute
+use Rattle.table_formula.specs.RefutationLaws.{EachTextHasAVerdict}
+use Rattle.table_formula.specs.Refutations.{IsRefutation, IsFault}
+use Rattle.table_formula.specs.declared.fault.RefuteError.{RefuteError}
+use Rattle.table_formula.specs.declared.fault.RefuteError.TheVariants as refute
 use Rattle.reports.specs.FormulaReports as formulas
 use Rattle.reports.specs.FormulaReports.{IsFormulaReport, no_formula, has_text, IsRefuteReport, not_asked, refuted, not_refuted}
 use Rattle.reports.specs.ProblemFaults.{HasFormula, IsProblemFault}

@@ -2,9 +2,9 @@
 use Rattle.std.proofs.Common.{◌≡◌, ℕ, ◌-◌, List, ◌∷◌, ◌++◌, ap, sym, ◌∙◌}
 use Rattle.source_places.specs.Places.{after_lines}
 use Rattle.source_places.specs.Shown.{marked_line}
-use Rattle.refutation.specs.declared.fault.LineFault.{LineFault}
-use Rattle.refutation.specs.declared.fault.RefuteError.TheVariants as refute
-use Rattle.report_notes.specs.FormulaNotes.{line_head, IsLineNote, MayHaveAdvice}
+use Rattle.table_formula.specs.declared.fault.LineFault.{LineFault}
+use Rattle.table_formula.specs.declared.fault.RefuteError.TheVariants as refute
+use Rattle.table_formula.specs.RefutationNotes.{line_head, IsLineNote, MayHaveAdvice}
 use Rattle.reports.specs.Causes.{of_text, of_program, of_ring, of_place, of_segments, of_table_text, of_formula, of_refutation, of_no, of_no_tuples}
 use Rattle.report_laws.specs.Laws.{OneNote}
 

@@ -24,7 +24,7 @@ use Rattle.reports.specs.Laws.{OneListOfLines}
 use Rattle.reports.specs.Report as report
 use Rattle.reports.specs.Report.{Report, Says, Refuses, IsJudgement, good, bad, IsAnswerOnRing, ring_fault, on_ring, IsRunAnswer, out_of_range, ran, IsExplainAnswer, no_place, explained, IsTableText, IsTextRefusal, IsPrintReport, text_refused, in_print, IsProgramRefusal, text_fault, check_fault, IsProgramReport, program_refused, answered, IsOnRingByTable, IsTableRefusal, IsTableReport, table_refused, of_table}
 use Rattle.table_formula.specs.Problems.{Problem}
-use Rattle.refutation.specs.Laws.{OneRefutationFault, RefutationsAreRight}
+use Rattle.table_formula.specs.RefutationLaws.{OneRefutationFault, RefutationsAreRight}
 use Rattle.reports.specs.FormulaReports as formulas
 use Rattle.reports.specs.FormulaReports.{IsFormulaRefusal, IsFormulaReport, no_formula, has_text, IsRefuteReport, not_asked, refuted, not_refuted}
 use Rattle.reports.specs.ProblemFaults.{HasFormula, IsProblemFault}

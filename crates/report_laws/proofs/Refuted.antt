@@ -14,7 +14,7 @@ use Rattle.table_fill.specs.Laws.{ProgramTablesAreTables}
 use Rattle.table_fill.specs.ProgramTables.{table_of}
 use Rattle.headline.specs.Laws.{ProgramTablesAreApart}
 use Rattle.table_formula.specs.Problems.{Problem, IsImpossible}
-use Rattle.refutation.specs.Laws.{RefutationsAreSound}
+use Rattle.table_formula.specs.RefutationLaws.{RefutationsAreSound}
 use Rattle.reports.specs.FormulaReports.{IsRefuteReport, not_asked, refuted, not_refuted}
 use Rattle.reports.specs.Report.{Report}
 use Rattle.reports.specs.declared.status.Status.TheVariants.{Done}

@@ -19,9 +19,9 @@ use Rattle.lower_bound.specs.Towers.{tower, spread}
 use Rattle.table_fill.specs.ProgramTables.{table_of}
 use Rattle.numerals.specs.declared.base.Base.{Base}
 use Rattle.numerals.specs.Numerals.{radix}
-use Rattle.value_trees.specs.Explanation.{explanation}
-use Rattle.value_trees.specs.Laws.{ShowsTrace}
-use Rattle.value_trees.specs.Trace.{trace_lines}
+use Rattle.reports.specs.Explanation.{explanation}
+use Rattle.reports.specs.TraceLaws.{ShowsTrace}
+use Rattle.reports.specs.Trace.{trace_lines}
 use Rattle.border_exchange.specs.SegmentCounts.{IsSegmentCount}
 use Rattle.headline.specs.Headline.{ChannelsAreApart}
 use Rattle.table_text.specs.TableText.{table_text}
@@ -30,10 +30,10 @@ use Rattle.task_words.specs.declared.task.Task.{Task}
 use Rattle.task_words.specs.declared.task.Task.TheVariants.{Print, Table, Judge, Run, Trace, Explain, Plan, Audit, Apply, Migrate, Refute}
 use Rattle.reports.specs.declared.status.Status.TheVariants.{Done, No}
 use Rattle.reports.specs.Lines.{line, numbers_text}
-use Rattle.refutation.specs.declared.fault.RefuteError.TheVariants as refute
-use Rattle.report_notes.specs.FormulaNotes.{MayHaveAdvice}
+use Rattle.table_formula.specs.declared.fault.RefuteError.TheVariants as refute
+use Rattle.table_formula.specs.RefutationNotes.{MayHaveAdvice}
 use Rattle.reports.specs.Causes.{Reason, of_ring, of_place, of_segments, of_refutation, of_no, of_no_tuples}
-use Rattle.report_notes.specs.Notes.{IsNote}
+use Rattle.plan_print.specs.Notes.{IsNote}
 use Rattle.reports.specs.Report.{Report, Says, lines_of_places, place_lines}
 use Rattle.plan_print.specs.TaskReport.{IsReport}
 

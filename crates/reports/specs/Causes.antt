@@ -5,7 +5,7 @@ use Rattle.node_lang.specs.declared.fault.FaultKind.{FaultKind}
 use Rattle.lang_check.specs.declared.acceptance.CheckFault.{CheckFault}
 use Rattle.win_index.specs.declared.ring.RingFault.{RingFault}
 use Rattle.table_text.specs.declared.fault.TableFault.{TableFault}
-use Rattle.refutation.specs.declared.fault.RefuteError.{RefuteError}
+use Rattle.table_formula.specs.declared.fault.RefuteError.{RefuteError}
 use Rattle.reports.specs.declared.problem.ProblemFault.{ProblemFault}
 use Rattle.reports.specs.declared.cause.Cause.{Cause}
 use Rattle.reports.specs.declared.cause.Cause.TheVariants as cause

@@ -3,11 +3,11 @@ use Rattle.std.specs.Prelude.{◌≢◌, ℕ, List, [], ◌∷◌, codes}
 use Rattle.std.specs.Fmt.{decimal}
 use Rattle.table_formula.specs.Problems.{Problem}
 use Rattle.table_formula.specs.Texts.{formula_text}
-use Rattle.refutation.specs.Refutations.{IsRefutation, IsFault}
-use Rattle.refutation.specs.declared.fault.LineFault.{LineFault}
-use Rattle.refutation.specs.declared.fault.LineFault.TheVariants as line_fault
-use Rattle.refutation.specs.declared.fault.RefuteError.{RefuteError}
-use Rattle.refutation.specs.declared.fault.RefuteError.TheVariants as refute
+use Rattle.table_formula.specs.Refutations.{IsRefutation, IsFault}
+use Rattle.table_formula.specs.declared.fault.LineFault.{LineFault}
+use Rattle.table_formula.specs.declared.fault.LineFault.TheVariants as line_fault
+use Rattle.table_formula.specs.declared.fault.RefuteError.{RefuteError}
+use Rattle.table_formula.specs.declared.fault.RefuteError.TheVariants as refute
 use Rattle.reports.specs.Causes.{of_formula, of_refutation}
 use Rattle.reports.specs.Lines.{line}
 use Rattle.reports.specs.ProblemFaults.{HasFormula, IsProblemFault}

@@ -4,7 +4,7 @@ use crate::problem::ProblemFault;
 use lang_check::CheckFault;
 use nbhd_check::Witness;
 use node_lang::{Program, TextFault};
-use refutation::RefuteError;
+use table_formula::RefuteError;
 use table_text::TableFault;
 use win_index::RingFault;
 

@@ -5,8 +5,8 @@ ghost use Rattle.reports.specs.FormulaReports as report;
 ghost use Rattle.reports.specs.ProblemFaults.{problem_of};
 
 use crate::problem::{ProblemFault, ProblemNumbers};
-use refutation::{LineFault, RefuteError};
 use std::alloc::{AllocError, Global};
+use table_formula::{LineFault, RefuteError};
 
 // Returns the line of numbers of which there is no formula.
 pub(crate) fn formula_fault_line(fault: ProblemFault) -> &'static str

@@ -3,7 +3,7 @@
 
 ghost use Rattle.std.specs.Prelude.{◌≡◌, ◌≢◌, ◌≤◌, length, IfOk, IfErr, OnErr, OnOk};
 ghost use Rattle.win_index.specs.declared.limits.TheConstants.{MAX_ROUNDS};
-ghost use Rattle.refutation.specs.declared.limits.TheConstants.{LONGEST_REFUTATION};
+ghost use Rattle.table_formula.specs.declared.limits.TheConstants.{LONGEST_REFUTATION};
 ghost use Rattle.reports.specs.Answers.{report_in, IsRefusedBy};
 ghost use Rattle.reports.specs.Causes.{of_refutation};
 ghost use Rattle.reports.specs.Report.{Refuses};
@@ -19,9 +19,8 @@ use crate::refusal::Refusal;
 use crate::status::Status;
 use crate::told::ensure_refutation_told;
 use node_program::OutOfMemory;
-use refutation::{RefuteError, refute};
 use std::alloc::Global;
-use table_formula::{Formula, FormulaFault};
+use table_formula::{Formula, FormulaFault, RefuteError, refute};
 use win_index::{Shape, ShapeFault};
 
 /// Returns the report with the formula of these numbers. Refused memory never replaces the refusal

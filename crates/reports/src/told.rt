@@ -5,7 +5,7 @@ ghost use Rattle.std.specs.Prelude.{◌≡◌, ◌≢◌, OnErr, OnOk};
 
 use node_lang::{FaultKind, TextFault};
 use node_program::OutOfMemory;
-use refutation::RefuteError;
+use table_formula::RefuteError;
 use table_text::TableFault;
 
 // Ensures that a report tells the fault of a program text.

@@ -1,7 +1,10 @@
-//! What a program means: the value of an expression, one round at a node, and global rounds on a ring, whose state can be read
-//! before and after each.
+//! What a program means: the value of an expression, one round at a node, global rounds on a ring, whose state can be read
+//! before and after each, and the states of windows: the registers of a node after some rounds, from the identifiers around
+//! it. These are made one window at a time, or in blocks of `BLOCK_WINDOWS` consecutive windows, which a source hands out.
 #![tactic(auto)]
 
+mod block;
+mod block_numbers;
 mod configuration;
 mod fault;
 mod gate;
@@ -9,8 +12,13 @@ mod laws;
 mod node;
 mod rounds;
 mod row;
+mod source;
 mod value;
+mod window;
+mod window_laws;
 
+pub use block::{Block, BlockLists};
+pub use block_numbers::{block_len, first_number};
 pub use configuration::{Configuration, Reading};
 pub use fault::{ThreadFault, WorkFault};
 pub use gate::{Gate, OpenGate};
@@ -18,4 +26,9 @@ pub use laws::{rows_are_taken, stretches_are_rows};
 pub use node::{channel, messages, sent_to_left, sent_to_right, start_state, step};
 pub use rounds::plain_run;
 pub use row::{round_of_row, row_at, start_of_row, width_of};
+pub use source::Source;
 pub use value::value_of;
+pub use window::window_state;
+pub use window_laws::{
+    lines_are_rows, locality, one_state_remains, states_from_parts, windows_are_within,
+};

@@ -9,7 +9,7 @@ use Rattle.std.proofs.Math.Seq.{map-set_same}
 use Rattle.std.proofs.lemmas.Option.{some_pair_parts, same_Some}
 use Rattle.win_index.specs.Laws.{JobsStandAtNumbers}
 use Rattle.lang_check.specs.Plans.{ProgramForIds}
-use Rattle.window_states.specs.BlockStates.{MadeBlock}
+use Rattle.round_eval.specs.BlockStates.{MadeBlock}
 use Rattle.shared_memo.specs.declared.entry.Entry.{Entry}
 use Rattle.shared_memo.specs.declared.memo.Installed.{Installed}
 use Rattle.shared_memo.specs.declared.memo.Installed.TheVariants.{Fresh, Stood}

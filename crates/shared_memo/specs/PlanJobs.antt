@@ -2,8 +2,8 @@
 use Rattle.std.specs.Prelude.{◌≡◌, ℕ, ◌+◌, List, Option, Some, length, slice_index}
 use Rattle.win_index.specs.Jobs.{jobs_of, job_number}
 use Rattle.lang_check.specs.Plans.{ProgramForIds}
-use Rattle.window_states.specs.BlockStates.{MadeBlock}
-pub use Rattle.window_states.specs.BlockStates.{IsKey, IsKeyedBlock}
+use Rattle.round_eval.specs.BlockStates.{MadeBlock}
+pub use Rattle.round_eval.specs.BlockStates.{IsKey, IsKeyedBlock}
 
 -- the number of jobs of a plan
 abbrev pub job_count : ProgramForIds → ℕ

@@ -1,7 +1,7 @@
 -- The effect of asking a reader for a block.
 use Rattle.std.specs.Prelude.{◌≡◌, ℕ, Bool, true, false, None, Some, IsSomeAnd}
-use Rattle.window_states.specs.BlockStates.{MadeBlock}
-use Rattle.window_states.specs.Entries.{Asked}
+use Rattle.round_eval.specs.BlockStates.{MadeBlock}
+use Rattle.round_eval.specs.Entries.{Asked}
 use Rattle.shared_memo.specs.declared.reader.Reader.{Reader}
 use Rattle.shared_memo.specs.PlanJobs.{IsStranger}
 use Rattle.shared_memo.specs.Passes.{known, seen, LearnsAt, KnowsSame}

@@ -1,7 +1,7 @@
 -- A worker's view of the cells of a memo, before and after a call, and a block that it misses. No public contract cites
 -- this file.
 use Rattle.std.specs.Prelude.{◌≡◌, ℕ, ◌<◌}
-use Rattle.window_states.specs.Entries.{Grows}
+use Rattle.round_eval.specs.Entries.{Grows}
 use Rattle.shared_memo.specs.Passes.{known}
 use Rattle.table_fill.specs.declared.cell_maker.CellMaker.{CellMaker}
 use Rattle.lang_check.specs.Plans.{ProgramForIds}

@@ -6,7 +6,7 @@ use Rattle.lang_check.specs.Plans.{ProgramForIds}
 use Rattle.unroll.specs.Room.{Room}
 use Rattle.unroll.specs.States.{NodeStates, HasSize}
 use Rattle.column_machine.specs.StackNeed.{most_columns}
-use Rattle.window_states.specs.BlockStates.{MadeBlock, block_len, block_state}
+use Rattle.round_eval.specs.BlockStates.{MadeBlock, block_len, block_state}
 use Rattle.table_fill.specs.declared.entry_columns.EntryColumns.{EntryColumns}
 
 -- columns to evaluate the program of the plan at BLOCK_WINDOWS windows

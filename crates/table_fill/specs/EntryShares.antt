@@ -3,7 +3,7 @@ use Rattle.std.specs.Prelude.{◌≡◌, ℕ, ◌+◌, ◌*◌, ◌<◌, List, S
 use Rattle.std.specs.Int.{div_ceil}
 use denote.Ref.{Bor}
 use Rattle.lang_check.specs.Plans.{ProgramForIds}
-use Rattle.window_states.specs.BlockStates.{IsKeyedBlock, MadeBlock, window_numbered}
+use Rattle.round_eval.specs.BlockStates.{IsKeyedBlock, MadeBlock, window_numbered}
 use Rattle.win_index.specs.Blocks.{block_count, window_count}
 use Rattle.table_fill.specs.ProgramTables.{window_channel}
 use Rattle.win_index.specs.declared.limits.TheConstants.{BLOCK_WINDOWS}

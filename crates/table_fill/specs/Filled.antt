@@ -2,7 +2,7 @@
 use Rattle.std.specs.Prelude.{◌≡◌, ℕ, ◌<◌, List, Some, IfSome, All, true, is_some}
 use Rattle.win_index.specs.Blocks.{block_count}
 use Rattle.lang_check.specs.Plans.{ProgramForIds}
-use Rattle.window_states.specs.Entries.{Entries, Grows}
+use Rattle.round_eval.specs.Entries.{Entries, Grows}
 use Rattle.shared_memo.specs.declared.memo.Memo.{Memo}
 use Rattle.shared_memo.specs.declared.pass.Pass.{Pass}
 use Rattle.shared_memo.specs.Passes.{known, seen, IsPassOf}

@@ -2,15 +2,14 @@
 
 ghost use Rattle.std.specs.Prelude.{◌≡◌, ◌+◌, ◌*◌, ◌^◌, ◌<◌, ◌≤◌, ◌++◌, length, take, vec_len, vec_capacity, All};
 ghost use Rattle.win_index.specs.declared.limits.TheConstants.{BLOCK_WINDOWS};
-ghost use Rattle.window_states.specs.BlockStates.{IsKeyedBlock, block_len};
+ghost use Rattle.round_eval.specs.BlockStates.{IsKeyedBlock, block_len};
 ghost use Rattle.unroll.specs.States.{HasSize};
 ghost use Rattle.table_fill.specs.ChannelRoom.{IsWorkRoom, HoldStates};
 ghost use Rattle.table_fill.specs.EntryShares.{AreEntries};
 
-use round_eval::rows_are_taken;
+use round_eval::{Block, rows_are_taken, windows_are_within};
 use unroll::{Code, Columns, Work, channel_columns};
 use win_index::BLOCK_WINDOWS;
-use window_states::{Block, windows_are_within};
 
 // Copies the states of a block to columns.
 pub(crate) fn put_block(block: &Block<'_>, states: &mut Columns)

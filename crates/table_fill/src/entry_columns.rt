@@ -2,11 +2,10 @@
 
 use crate::block_channels::{append_below, put_block, write_channels};
 use node_program::OutOfMemory;
-use round_eval::width_of;
+use round_eval::{Block, width_of};
 use std::alloc::Global;
 use unroll::{Code, Columns, Work};
 use win_index::BLOCK_WINDOWS;
-use window_states::Block;
 
 // Scratch for reading the channels of a plan's blocks of the last level, block by block.
 #[derive(Drop)]
@@ -19,7 +18,7 @@ pub(crate) struct EntryColumns {
 impl EntryColumns {
     ghost use Rattle.std.specs.Prelude.{◌≡◌, ℕ, ◌+◌, ◌*◌, ◌≤◌, length, vec_len, vec_capacity, IfOk};
     ghost use Rattle.win_index.specs.declared.limits.TheConstants.{BLOCK_WINDOWS};
-    ghost use Rattle.window_states.specs.BlockStates.{IsKeyedBlock, block_len};
+    ghost use Rattle.round_eval.specs.BlockStates.{IsKeyedBlock, block_len};
     ghost use Rattle.table_fill.specs.ChannelRoom.{IsChannelRoom};
     ghost use Rattle.table_fill.specs.EntryShares.{AreEntries};
 

@@ -8,9 +8,9 @@ ghost use Rattle.table_fill.specs.EntryShares.{AreLastBlocks};
 ghost use Rattle.table_fill.specs.Filled.{HasLearned, KnowsLevel, LacksBlock, HasGap};
 
 use node_program::OutOfMemory;
+use round_eval::Block;
 use shared_memo::{Memo, Pass};
 use std::alloc::Global;
-use window_states::Block;
 
 // Returns an empty list with capacity for the blocks of the last level.
 pub(crate) fn empty_blocks<'s, 'a>(

@@ -1,8 +1,8 @@
 //! A worker's own reader of a memo.
 ghost use Rattle.shared_memo.specs.Passes.{IsPassOf, IsPassOf-prop};
 
+use round_eval::{Block, Source};
 use shared_memo::{Memo, Pass, Stranger};
-use window_states::{Block, Source};
 
 // A source of blocks that looks into a memo through a pass of its own. It returns no block for a
 // cell that holds a stranger.

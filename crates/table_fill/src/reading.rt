@@ -4,12 +4,12 @@ use crate::share::Share;
 use crate::shares::{entries_of, shares_of};
 use channel_tables::Table;
 use node_program::OutOfMemory;
+use round_eval::Block;
 use std::alloc::Global;
 use std::marker::Model;
 use std::thread::Threads;
 use unroll::Code;
 use win_index::BLOCK_WINDOWS;
-use window_states::Block;
 
 // The number of windows for each share. Fewer do not pay for a thread.
 const SHARE_WINDOWS: u32 = 64 * BLOCK_WINDOWS;

@@ -2,9 +2,9 @@
 
 use crate::entry_columns::EntryColumns;
 use node_program::OutOfMemory;
+use round_eval::Block;
 use std::alloc::Global;
 use unroll::Code;
-use window_states::Block;
 
 // The entries of the windows of consecutive blocks of the last level, and scratch to read them.
 #[derive(Drop)]

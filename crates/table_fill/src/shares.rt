@@ -6,11 +6,11 @@ ghost use Rattle.table_fill.specs.Shares.{AllRead, AreReadFrom, AreShares, IsRea
 
 use crate::share::Share;
 use node_program::OutOfMemory;
+use round_eval::Block;
 use std::alloc::Global;
 use std::thread::{Threads, for_each_mut};
 use unroll::Code;
 use win_index::BLOCK_WINDOWS;
-use window_states::Block;
 
 // Allocates this many shares, of the same number of blocks, as far as there are blocks. The first
 // has capacity for the entries of all. Fails if memory was refused.

@@ -4,11 +4,11 @@ use crate::looks::{empty_blocks, last_blocks, look_below};
 use crate::reading::EntryReader;
 use channel_tables::Table;
 use node_program::OutOfMemory;
+use round_eval::Block;
 use shared_memo::{Memo, Pass};
 use std::alloc::Global;
 use std::thread::Threads;
 use unroll::Code;
-use window_states::Block;
 
 // Memory to read a table, allocated before the first worker starts: a reader of its entries, and a
 // list with capacity for the blocks of the last level.

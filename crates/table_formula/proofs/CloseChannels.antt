@@ -4,7 +4,7 @@ use Rattle.std.specs.Int.{abs_diff}
 use Rattle.std.proofs.lemmas.Bool.{lt-ltb, ltb-true, ltb-false}
 use Rattle.table_formula.proofs.Truth.{truth}
 use Rattle.table_formula.specs.Formula.{close_to}
-use Rattle.table_formula.proofs.Clauses.{close_more}
+use Rattle.table_formula.proofs.ClauseLists.{close_more}
 
 -- whether a number is below another
 is_below : (a b : ℕ) → ((ltb a b ≡ true) × (a < b)) ⊎ ((ltb a b ≡ false) × (b ≤ a))

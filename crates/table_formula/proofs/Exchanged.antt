@@ -25,7 +25,7 @@ use Rattle.table_formula.specs.Problems.{Problem, IsSolution}
 use Rattle.table_formula.specs.Formula.{windows_of, variable_of, variable_count, values_of}
 use Rattle.table_formula.specs.Exchanges.{can_exchange, exchanged, mirrored, exchanged_window, exchanged_literal}
 use Rattle.table_formula.specs.Laws.{ExchangesKeepSolutions}
-use Rattle.table_formula.proofs.Clauses.{all_below, some_value}
+use Rattle.table_formula.proofs.ClauseLists.{all_below, some_value}
 use Rattle.table_formula.proofs.Satisfied.{problem_of, same_problem, value_at}
 use Rattle.table_formula.proofs.Models.{two_of_far}
 

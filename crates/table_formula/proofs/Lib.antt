@@ -1,5 +1,5 @@
 pub mod Truth
-pub mod Clauses
+pub mod ClauseLists
 pub mod CloseChannels
 pub mod Longest
 pub mod Sizes
@@ -12,3 +12,11 @@ pub mod Exchanged
 pub mod Exact
 pub mod FormulaText
 pub mod Reading
+pub mod SoundSteps
+pub mod Sound
+pub mod Verdicts
+pub mod Splitting
+pub mod Numbers
+pub mod ItemLists
+pub mod HintSteps
+pub mod NotePieces

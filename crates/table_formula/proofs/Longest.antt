@@ -6,7 +6,7 @@ use Rattle.std.proofs.lemmas.List.Elements.{All-head, All-tail, All-map}
 use Rattle.table_formula.specs.declared.literal.Literal.{Literal}
 use Rattle.table_formula.specs.Problems.{Problem}
 use Rattle.table_formula.specs.Formula.{windows_of, tuples_of, has_channel, some_channel, conflicts_of, not_both, not_too_close, formula, longest_len}
-use Rattle.table_formula.proofs.Clauses.{all_flat, of_windows, of_tuples, as_many_as_windows}
+use Rattle.table_formula.proofs.ClauseLists.{all_flat, of_windows, of_tuples, as_many_as_windows}
 
 pub longest_some : (clauses : List (List Literal)) → 1 ≤ longest_len clauses
 longest_some [] = omega arith

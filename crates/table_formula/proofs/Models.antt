@@ -18,7 +18,7 @@ use Rattle.table_formula.specs.declared.conflict.Conflict.{Conflict}
 use Rattle.table_formula.specs.Problems.{Problem}
 use Rattle.table_formula.specs.Formula.{windows_of, tuples_of, variable_of, has_channel, some_channel, is_close, close_to, close_pairs, conflicts_of, window_in, not_both, not_too_close, formula}
 use Rattle.table_formula.specs.Laws.{HasTables, ModelsGiveSolutions}
-use Rattle.table_formula.proofs.Clauses.{all_below, some_value, any_map}
+use Rattle.table_formula.proofs.ClauseLists.{all_below, some_value, any_map}
 use Rattle.table_formula.proofs.Satisfied.{part_channel}
 
 -- the elements of parts of a list

@@ -11,7 +11,7 @@ use Rattle.table_formula.specs.declared.literal.Literal.{Literal}
 use Rattle.table_formula.specs.declared.conflict.Conflict.{Conflict}
 use Rattle.table_formula.specs.Problems.{Problem}
 use Rattle.table_formula.specs.Formula.{windows_of, tuples_of, variable_of, has_channel, lacks_channel, some_channel, close_pairs, conflicts_of, window_in, not_both, not_too_close, IsPair, formula}
-use Rattle.table_formula.proofs.Clauses.{all_below, formula_length, of_windows, of_tuples, as_many_as_windows}
+use Rattle.table_formula.proofs.ClauseLists.{all_below, formula_length, of_windows, of_tuples, as_many_as_windows}
 use Rattle.table_formula.proofs.Satisfied.{IsClose, all_close}
 
 -- the variables are below their number

@@ -20,7 +20,7 @@ use Rattle.table_formula.specs.Formula.{windows_of, tuples_of, variable_count, s
 use Rattle.table_formula.specs.Texts.{literal_text, clause_text, formula_text}
 use Rattle.table_formula.specs.Dimacs.{is_feed, is_space, words_of, number_in, literal_of, literal_in, is_zero, with_literal, clauses_in, ReadsAs}
 use Rattle.table_formula.specs.Laws.{FormulaTextIsRead, OneReading}
-use Rattle.table_formula.proofs.Clauses.{all_below, all_flat, of_windows, of_tuples}
+use Rattle.table_formula.proofs.ClauseLists.{all_below, all_flat, of_windows, of_tuples}
 use Rattle.table_formula.proofs.Numbered.{some_within, pair_within, all_pairs}
 
 -- a word stands alone between spaces

@@ -18,7 +18,7 @@ use Rattle.table_formula.specs.declared.conflict.Conflict.{Conflict}
 use Rattle.table_formula.specs.Problems.{Problem, IsSolution}
 use Rattle.table_formula.specs.Formula.{windows_of, tuples_of, variable_of, values_of, has_channel, lacks_channel, some_channel, is_close, close_to, close_pairs, conflicts_of, window_in, not_both, not_too_close, formula}
 use Rattle.table_formula.specs.Laws.{SolutionsSatisfy}
-use Rattle.table_formula.proofs.Clauses.{all_flat, all_kept, all_below, some_value, any_map, any_in_range}
+use Rattle.table_formula.proofs.ClauseLists.{all_flat, all_kept, all_below, some_value, any_map, any_in_range}
 
 -- the value of a variable
 pub value_at : (p : Problem) (t : ChannelTable) (w c : ℕ) → c < p.channels →

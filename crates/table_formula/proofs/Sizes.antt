@@ -6,7 +6,7 @@ use Rattle.table_formula.specs.Problems.{Problem}
 use Rattle.table_formula.specs.Formula.{windows_of, tuples_of, conflicts_of, formula}
 use Rattle.table_formula.specs.Limits.{HasFewVariables, HasFewClauses, IsWithinLimits}
 use Rattle.table_formula.specs.declared.limits.TheConstants.{MAX_VARIABLES, MAX_CLAUSES}
-use Rattle.table_formula.proofs.Clauses.{formula_length}
+use Rattle.table_formula.proofs.ClauseLists.{formula_length}
 
 -- the numbers of windows, tuples and pairs of a problem
 pub record AreSizes (p : Problem) (windows tuples pairs : ℕ) : Type 0 where

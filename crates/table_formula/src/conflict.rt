@@ -33,7 +33,7 @@ pub(crate) fn conflicts_in(
 }
 
 // Appends the pairs of channels below `channels` that are closer than the distance.
-#[tactic(auto, using(crate::proofs::Clauses::flat_more, std::proofs::lemmas::Grind::common_steps))]
+#[tactic(auto, using(crate::proofs::ClauseLists::flat_more, std::proofs::lemmas::Grind::common_steps))]
 fn push_close_pairs(
     out: &mut Vec<Conflict>,
     channels: u32,

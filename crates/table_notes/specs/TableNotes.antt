@@ -1,5 +1,5 @@
 -- The notes on a text that is not the text of a table, and the window that a line of it is to have.
-use Rattle.std.specs.Prelude.{◌≡◌, ℕ, ◌+◌, ◌-◌, ◌*◌, ◌++◌, List, ◌∷◌, Some, slice_get, codes, bytes_eq, if◌then◌else◌}
+use Rattle.std.specs.Prelude.{◌≡◌, ℕ, ◌+◌, ◌-◌, ◌*◌, ◌<◌, ◌≤◌, ◌++◌, List, ◌∷◌, length, Some, slice_get, codes, bytes_eq, if◌then◌else◌}
 use Rattle.std.specs.Fmt.{decimal}
 use Rattle.source_places.specs.Heads.{place_head}
 use Rattle.source_places.specs.Kinds.{first_line}
@@ -7,6 +7,9 @@ use Rattle.source_places.specs.Lists.{joined}
 use Rattle.source_places.specs.Places.{after_lines}
 use Rattle.source_places.specs.Shown.{marked_line}
 use Rattle.table_text.specs.LineForms.{HasShape}
+use Rattle.table_text.specs.declared.fault.TableFault.{TableFault}
+use Rattle.table_text.specs.declared.fault.TableFault.TheVariants as table
+use Rattle.table_text.specs.declared.limits.TheConstants.{LONGEST_TABLE_TEXT}
 use Rattle.win_index.specs.Windows.{windows}
 
 -- a text that is too long
@@ -55,3 +58,11 @@ pub data IsWindowNote (text : List ℕ) (line : ℕ) (note : List ℕ) : Type 0 
 abbrev pub channel_note : ℕ → List ℕ
 channel_note line =
     codes "nbhd: line " ++ (decimal line ++ codes " has a channel that is not below the number of channels of line 2\n")
+
+-- the note on a fault of a table text; OutOfMemory is no fault of one
+abbrev pub IsTableNote : List ℕ → TableFault → List ℕ → Type 0
+IsTableNote input (table.Syntax offset) note =
+    (LONGEST_TABLE_TEXT < length input → note ≡ long_note) × (length input ≤ LONGEST_TABLE_TEXT → IsFormNote input offset note)
+IsTableNote input (table.WrongWindow line) note = IsWindowNote input line note
+IsTableNote input (table.ChannelTooLarge line) note = note ≡ channel_note line
+IsTableNote input table.OutOfMemory note = ⊥

@@ -7,5 +7,5 @@ mod tables;
 mod verdicts;
 
 pub use rings::{place_note, ring_note, segments_note};
-pub use tables::{channel_note, form_note, long_note, window_note};
+pub use tables::table_note;
 pub use verdicts::{no_tuples_note, verdict_note};

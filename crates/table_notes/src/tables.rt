@@ -1,9 +1,10 @@
 //! The notes on a text that is not the text of a table.
 
-ghost use Rattle.std.specs.Prelude.{◌≡◌, ◌+◌, ◌*◌, ◌<◌, ◌≤◌, ℕ, List, Some, length, slice_get, IfOk, IfSome, IfNone, string_bytes};
+ghost use Rattle.std.specs.Prelude.{◌≡◌, ◌≢◌, ◌+◌, ◌*◌, ◌<◌, ◌≤◌, ℕ, List, Some, length, slice_get, IfOk, IfSome, IfNone, string_bytes};
+ghost use Rattle.table_text.specs.Faults.{IsFault};
 ghost use Rattle.win_index.specs.Windows.{windows};
 ghost use Rattle.table_notes.specs.TableNotes as notes;
-ghost use Rattle.table_notes.specs.TableNotes.{long_note, IsFormNote, IsDue, IsWindowNote, line_note, doubled_text, channel_note};
+ghost use Rattle.table_notes.specs.TableNotes.{long_note, IsFormNote, IsDue, IsTableNote, IsWindowNote, line_note, doubled_text, channel_note};
 
 use crate::headers::header_advice;
 use node_program::OutOfMemory;
@@ -14,7 +15,7 @@ use source_places::{
 };
 use std::alloc::{AllocError, Global};
 use std::fmt::Write;
-use table_text::shape_in;
+use table_text::{LONGEST_TABLE_TEXT, TableFault, shape_in};
 use win_index::Shape;
 
 const WINDOW: &str = "; a line is the identifiers of a window, ` : ` and a channel";
@@ -32,16 +33,16 @@ const LAST: &str =
 
 const STOPPED: &str = "; the text stops in this line: lines are missing";
 
-/// Returns the note on a text that is too long. Fails if memory was refused.
-pub fn long_note(alloc: Global) -> Result<String, OutOfMemory>
+// Returns the note on a text that is too long. Fails if memory was refused.
+fn long_note(alloc: Global) -> Result<String, OutOfMemory>
     ensures { IfOk result (λ note. string_bytes note ≡ long_note) }
 {
     Ok(format!(in alloc; "nbhd: the text of a table has at most 134217728 bytes\n")?)
 }
 
-/// Returns the note on the line at this offset, which does not have its form. Fails if memory was
-/// refused.
-pub fn form_note(alloc: Global, text: &[u8], offset: usize) -> Result<String, OutOfMemory>
+// Returns the note on the line at this offset, which does not have its form. Fails if memory was
+// refused.
+fn form_note(alloc: Global, text: &[u8], offset: usize) -> Result<String, OutOfMemory>
     requires { offset ≤ length text.now }
     ensures { IfOk result (λ note. IsFormNote text.now offset (string_bytes note)) }
 {
@@ -449,9 +450,9 @@ fn due_window(alloc: Global, text: &[u8], line: u32) -> Result<Option<Vec<u32>>,
     Ok(Some(window_in(alloc, shape, line - 3)?))
 }
 
-/// Returns the note on a line of a table text that does not have its window, which follows from the
-/// second line. Lines are counted from 1. Fails if memory was refused.
-pub fn window_note(alloc: Global, text: &[u8], line: u32) -> Result<String, OutOfMemory>
+// Returns the note on a line of a table text that does not have its window, which follows from the
+// second line. Lines are counted from 1. Fails if memory was refused.
+fn window_note(alloc: Global, text: &[u8], line: u32) -> Result<String, OutOfMemory>
     ensures { IfOk result (λ note. IsWindowNote text.now line (string_bytes note)) }
 {
     let due = due_window(alloc, text, line)?;
@@ -495,12 +496,27 @@ fn line_note(alloc: Global, line: u32, window: &[u32], end: &str) -> Result<Stri
     Ok(note)
 }
 
-/// Returns the note on a line whose channel is too large. Lines are counted from 1. Fails if memory
-/// was refused.
-pub fn channel_note(alloc: Global, line: u32) -> Result<String, OutOfMemory>
+// Returns the note on a line whose channel is too large. Lines are counted from 1. Fails if memory
+// was refused.
+fn channel_note(alloc: Global, line: u32) -> Result<String, OutOfMemory>
     ensures { IfOk result (λ note. string_bytes note ≡ channel_note line) }
 {
     Ok(format!(in alloc;
         "nbhd: line {line} has a channel that is not below the number of channels of line 2\n"
     )?)
+}
+
+/// Returns the note on the fault of a table text. Fails if memory was refused.
+pub fn table_note(alloc: Global, text: &[u8], fault: TableFault) -> Result<String, OutOfMemory>
+    requires own { fault ≢ TableFault.OutOfMemory }
+    requires fault { IsFault text.now fault }
+    ensures { IfOk result (λ note. IsTableNote text.now fault (string_bytes note)) }
+{
+    match fault {
+        TableFault::Syntax(_) if text.len() > LONGEST_TABLE_TEXT => long_note(alloc),
+        TableFault::Syntax(offset) => form_note(alloc, text, offset as usize),
+        TableFault::WrongWindow(line) => window_note(alloc, text, line),
+        TableFault::ChannelTooLarge(line) => channel_note(alloc, line),
+        TableFault::OutOfMemory => unreachable!(),
+    }
 }

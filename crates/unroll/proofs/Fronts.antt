@@ -5,7 +5,7 @@ use Rattle.std.proofs.lemmas.Bool.{false≢true, cases_Bool}
 use Rattle.std.specs.List.{range_with_len}
 use Rattle.node_program.specs.Node.{next}
 use Rattle.unroll.specs.States.{AreRewritten}
-use Rattle.window_states.specs.Laws.{PartsAreJoined}
+use Rattle.round_eval.specs.WindowLaws.{PartsAreJoined}
 use Rattle.unroll.specs.Parts.{window_in}
 use Rattle.unroll.specs.WideColumns.{part_state, left_message, right_message, state_in, AreWritten, HasFronts, HoldFronts, HoldLasts}
 use Rattle.unroll.specs.declared.scratch.Scratch.{Scratch}

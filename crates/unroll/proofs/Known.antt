@@ -4,10 +4,10 @@ use Rattle.std.proofs.lemmas.Bool.{false≢true}
 use Rattle.std.proofs.lemmas.Option.{get_or_from_slice_get, same_Some}
 use Rattle.win_index.specs.Windows.{windows, number_of}
 use Rattle.unroll.specs.Below.{part}
-use Rattle.window_states.specs.BlockStates.{MadeBlock, window_numbered, block_len, block_state}
-use Rattle.window_states.specs.Line.{middle_state}
+use Rattle.round_eval.specs.BlockStates.{MadeBlock, window_numbered, block_len, block_state}
+use Rattle.round_eval.specs.Line.{middle_state}
 use Rattle.lang_check.specs.Plans.{ProgramForIds}
-use Rattle.window_states.specs.Entries.{Entries, Grows, Asked, IsEntry}
+use Rattle.round_eval.specs.Entries.{Entries, Grows, Asked, IsEntry}
 use Rattle.unroll.specs.MakeFaults.{KnowsAllBelow, IsMissingBelow, IsMakeFault, LooksUp}
 use Rattle.unroll.specs.Parts.{HoldsWindow, KnowsPart, KnowsParts, KnowsBelow}
 use Rattle.unroll.specs.declared.fault.MakeFault.{MakeFault}

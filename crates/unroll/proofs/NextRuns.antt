@@ -6,7 +6,7 @@ use Rattle.win_index.specs.Windows.{windows, IsWindow}
 use Rattle.win_index.specs.declared.limits.TheConstants.{BLOCK_WINDOWS}
 use Rattle.win_index.specs.declared.run_prefix.RunPrefix.{RunPrefix}
 use Rattle.win_index.specs.declared.series.RunPlaces.{RunPlaces}
-use Rattle.window_states.specs.BlockStates.{block_len}
+use Rattle.round_eval.specs.BlockStates.{block_len}
 use Rattle.std.proofs.lemmas.List.{drop-take}
 use Rattle.unroll.specs.Below.{part}
 use Rattle.unroll.specs.Parts.{window_in, EndsAt, IsAtIndex}

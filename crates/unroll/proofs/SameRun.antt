@@ -8,8 +8,8 @@ use Rattle.win_index.proofs.Positions.{number_of_is}
 use Rattle.lang_check.specs.Plans.{ProgramForIds}
 use Rattle.node_program.specs.Node.{to_right}
 use Rattle.unroll.specs.Below.{part}
-use Rattle.window_states.specs.Entries.{Entries, Grows}
-use Rattle.window_states.specs.Line.{middle_state}
+use Rattle.round_eval.specs.Entries.{Entries, Grows}
+use Rattle.round_eval.specs.Line.{middle_state}
 use Rattle.unroll.specs.Parts.{KnowsPart, IsFirstPart, IsRun}
 use Rattle.unroll.specs.declared.run.FirstPart.{FirstPart}
 use Rattle.unroll.specs.declared.run.Run.{Run}

@@ -12,8 +12,8 @@ use Rattle.win_index.specs.declared.series.RunPlaces.{RunPlaces}
 use Rattle.win_index.specs.Windows.{windows, IsWindow}
 use Rattle.node_program.specs.Node.{to_left}
 use Rattle.unroll.specs.Below.{part}
-use Rattle.window_states.specs.BlockStates.{block_state}
-use Rattle.window_states.specs.Entries.{Entries, Grows}
+use Rattle.round_eval.specs.BlockStates.{block_state}
+use Rattle.round_eval.specs.Entries.{Entries, Grows}
 use Rattle.unroll.specs.Parts.{window_in, KnowsParts, IsRun, EndsAt, InRun}
 use Rattle.unroll.specs.declared.run.Run.{Run}
 use Rattle.unroll.specs.WideColumns.{part_state, right_message, HasFronts, AreWritten, AreTakenInRun}

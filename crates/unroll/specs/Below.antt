@@ -2,7 +2,7 @@
 use Rattle.std.specs.Prelude.{◌≡◌, ℕ, ◌+◌, ◌*◌, ◌/◌, ◌<◌, ◌≤◌, List, Some}
 use Rattle.win_index.specs.Arcs.{part_at}
 use Rattle.win_index.specs.Windows.{number_of}
-use Rattle.window_states.specs.BlockStates.{window_numbered, block_len}
+use Rattle.round_eval.specs.BlockStates.{window_numbered, block_len}
 use Rattle.win_index.specs.declared.limits.TheConstants.{BLOCK_WINDOWS}
 
 -- the 2r+1 identifiers of a window from offset d on: the first, the middle and the last part of a window of level r+1

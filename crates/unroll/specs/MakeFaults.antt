@@ -2,8 +2,8 @@
 use Rattle.std.specs.Prelude.{◌≡◌, ℕ, None, IsSome, Result, IfOk, IfErr, MatchResult}
 use Rattle.lang_check.specs.Plans.{ProgramForIds}
 use Rattle.unroll.specs.Below.{IsBelow}
-use Rattle.window_states.specs.BlockStates.{MadeBlock}
-use Rattle.window_states.specs.Entries.{Asked, Entries}
+use Rattle.round_eval.specs.BlockStates.{MadeBlock}
+use Rattle.round_eval.specs.Entries.{Asked, Entries}
 use Rattle.unroll.specs.declared.fault.MakeFault.{MakeFault}
 use Rattle.unroll.specs.declared.fault.MakeFault.TheVariants.{Missing, OutOfMemory}
 

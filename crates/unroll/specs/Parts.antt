@@ -5,10 +5,10 @@ use Rattle.node_program.specs.Node.{to_right}
 use Rattle.win_index.specs.RunPrefixes.{HasNumbers}
 use Rattle.win_index.specs.Runs.{IsRunStart, HasPlaces, IsEndOfSame, IsAtPlace}
 use Rattle.win_index.specs.Windows.{windows, number_of, IsWindow}
-use Rattle.window_states.specs.Line.{middle_state}
+use Rattle.round_eval.specs.Line.{middle_state}
 use Rattle.unroll.specs.Below.{part, IsPartNumber}
-use Rattle.window_states.specs.BlockStates.{MadeBlock, window_numbered, block_len}
-use Rattle.window_states.specs.Entries.{Entries, IsEntry}
+use Rattle.round_eval.specs.BlockStates.{MadeBlock, window_numbered, block_len}
+use Rattle.round_eval.specs.Entries.{Entries, IsEntry}
 use Rattle.unroll.specs.declared.run.Reached.{Reached}
 use Rattle.win_index.specs.declared.run_prefix.RunPrefix.{RunPrefix}
 use Rattle.unroll.specs.declared.upper_block.UpperBlock.{UpperBlock}

@@ -7,10 +7,10 @@ use Rattle.lang_check.specs.Plans.{ProgramForIds}
 use Rattle.unroll.specs.States.{HasSize}
 use Rattle.column_machine.specs.StackNeed.{most_columns}
 use Rattle.unroll.specs.Below.{part}
-use Rattle.window_states.specs.BlockStates.{MadeBlock, block_len, block_state}
-use Rattle.window_states.specs.Line.{middle_state}
-use Rattle.window_states.specs.Entries.{Entries}
-use Rattle.window_states.specs.HeldStates.{first_states}
+use Rattle.round_eval.specs.BlockStates.{MadeBlock, block_len, block_state}
+use Rattle.round_eval.specs.Line.{middle_state}
+use Rattle.round_eval.specs.Entries.{Entries}
+use Rattle.round_eval.specs.HeldStates.{first_states}
 use Rattle.unroll.specs.Parts.{window_in, IsKnownBlock, KnowsBelow, EndsAt}
 use Rattle.unroll.specs.Reading.{round_reads_right}
 use Rattle.unroll.specs.declared.scratch.Scratch.{Scratch}

@@ -1,7 +1,7 @@
 //! The states of a block's windows, from the states of their parts in blocks one level lower.
 ghost use Rattle.std.specs.Prelude.{◌≡◌, ℕ, ◌+◌, ◌-◌, ◌*◌, ◌<◌, [], ◌∷◌, length, slice_index};
-ghost use Rattle.window_states.specs.BlockStates.{IsKey, block_len, window_numbered};
-ghost use Rattle.window_states.specs.HeldStates.{HoldsSent};
+ghost use Rattle.round_eval.specs.BlockStates.{IsKey, block_len, window_numbered};
+ghost use Rattle.round_eval.specs.HeldStates.{HoldsSent};
 ghost use Rattle.unroll.specs.MakeFaults.{KnowsAllBelow, LooksUp};
 ghost use Rattle.unroll.specs.Parts.{IsFirstWindow, IsReached};
 ghost use Rattle.unroll.specs.WideColumns.{AreGathered, AreTaken, HoldBlock, HoldFronts, IsReady, IsRunGathered, ShareFronts};
@@ -14,9 +14,8 @@ use crate::scratch::{Scratch, fill_some};
 use crate::upper_block::UpperBlock;
 use crate::{Code, next_columns, start_columns, to_left_columns, to_right_columns};
 use node_program::MAX_REGISTERS;
-use round_eval::{step, width_of};
+use round_eval::{Block, Source, block_len, first_number, states_from_parts, step, width_of};
 use win_index::{BLOCK_WINDOWS, MAX_WINDOW_LEN, Shape};
-use window_states::{Block, Source, block_len, first_number, states_from_parts};
 
 // Gathers the parts of each window of a block, whose first window is `window`, run by run. Where
 // the round is evaluated once a run, it writes the states after it in place of the parts.

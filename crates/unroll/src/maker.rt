@@ -5,11 +5,10 @@ use crate::gathering::{send_states, write_states};
 use crate::scratch::{Scratch, zeros};
 use lang_check::Plan;
 use node_program::OutOfMemory;
-use round_eval::{rows_are_taken, width_of};
+use round_eval::{Block, BlockLists, Source, block_len, rows_are_taken, width_of};
 use std::alloc::Global;
 use std::marker::Model;
 use win_index::{BLOCK_WINDOWS, Shape};
-use window_states::{Block, BlockLists, Source, block_len};
 
 /// Makes blocks of a plan, one after another, with scratch columns that it reuses. Its model is the
 /// plan.
@@ -35,7 +34,7 @@ impl<'c, 'p> Model for BlockMaker<'c, 'p> {
 
 impl<'c, 'p> BlockMaker<'c, 'p> {
     ghost use Rattle.std.specs.Prelude.{◌≡◌, IfOk};
-    ghost use Rattle.window_states.specs.BlockStates.{IsKey};
+    ghost use Rattle.round_eval.specs.BlockStates.{IsKey};
     ghost use Rattle.unroll.specs.MakeFaults.{AskedFor, IsMade};
 
     /// Returns a maker of blocks of the plan that was compiled to this code, or the error that
@@ -90,7 +89,7 @@ impl<'c, 'p> BlockMaker<'c, 'p> {
 }
 
 ghost use Rattle.std.specs.Prelude.{◌≡◌, ◌<◌, ◌≤◌, vec_len, IfOk};
-ghost use Rattle.window_states.specs.BlockStates.{IsKey};
+ghost use Rattle.round_eval.specs.BlockStates.{IsKey};
 ghost use Rattle.unroll.specs.MakeFaults.{AskedFor, IsMade};
 
 /// Makes the block of a plan with this level, number and maker.

@@ -2,8 +2,8 @@
 //! which are windows one level lower. They are at the offsets 0, 1 and 2.
 ghost use Rattle.std.specs.Prelude.{◌≡◌, ◌+◌, ◌<◌, ◌≤◌, ℕ, length, None, true, IfSome, MatchOption};
 ghost use Rattle.node_program.specs.Node.{to_left};
-ghost use Rattle.window_states.specs.BlockStates.{IsKey, block_len, block_state};
-ghost use Rattle.window_states.specs.Entries.{Asked, IsEntry};
+ghost use Rattle.round_eval.specs.BlockStates.{IsKey, block_len, block_state};
+ghost use Rattle.round_eval.specs.Entries.{Asked, IsEntry};
 ghost use Rattle.unroll.specs.Below.{IsPartNumber};
 ghost use Rattle.unroll.specs.MakeFaults.{LooksUp};
 ghost use Rattle.unroll.specs.Parts.{window_in, HoldsWindow, IsKnownBlock};
@@ -13,8 +13,8 @@ use crate::fault::MakeFault;
 use crate::scratch::copy_some;
 use crate::upper_block::UpperBlock;
 use lang_check::Plan;
+use round_eval::{Block, Source};
 use win_index::BLOCK_WINDOWS;
-use window_states::{Block, Source};
 
 // Returns the block that holds the part with this number of the window at an index of an upper
 // block, and the index of the part in it. `last` can be any block of the part's level.

@@ -6,8 +6,8 @@ ghost use Rattle.unroll.specs.Parts.{window_in, IsWindowIn, IsAtIndex, IsFirstPa
 use crate::fault::MakeFault;
 use crate::parts::part_block;
 use crate::upper_block::UpperBlock;
+use round_eval::{Block, Source, first_number};
 use win_index::{RunPlaces, RunPrefix};
-use window_states::{Block, Source, first_number};
 
 // The first part of a window: its number, and the message of its node to the right in the next
 // round.

@@ -2,10 +2,10 @@
 ghost use Rattle.std.specs.Prelude.{◌≡◌, ◌+◌, ◌<◌, ◌^◌, true, false, length};
 ghost use Rattle.unroll.specs.Reading.{round_reads_right};
 ghost use Rattle.win_index.specs.Blocks.{block_count, window_count};
-ghost use Rattle.window_states.specs.BlockStates.{block_len};
+ghost use Rattle.round_eval.specs.BlockStates.{block_len};
 
 use lang_check::Plan;
-use window_states::block_len;
+use round_eval::block_len;
 
 // The number of windows from which on a run is long: evaluating a round once for all of them, at
 // one node, is then faster than in columns.

@@ -1,5 +1,5 @@
 use Rattle.std.proofs.Common.{◌≡◌, None, IsSome, subst}
-use Rattle.window_states.specs.Entries.{Entries}
+use Rattle.round_eval.specs.Entries.{Entries}
 use Rattle.fill_core.proofs.KnownSources.{all_below, missing_below, same_block}
 use Rattle.fill_core.proofs.installs.make_known.Goals as goal
 

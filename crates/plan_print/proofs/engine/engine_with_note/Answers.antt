@@ -4,7 +4,7 @@ use Rattle.devices.specs.Input.{GivesInput}
 use Rattle.devices.specs.Watched.{device_of}
 use Rattle.reports.specs.Answers.{report_in}
 use Rattle.reports.specs.Causes.{Reason, reason_in}
-use Rattle.report_notes.specs.Notes.{IsNoteOn, IsFound}
+use Rattle.plan_print.specs.Notes.{IsNoteOn, IsFound}
 use Rattle.plan_print.specs.Engine.{max_read}
 use Rattle.plan_print.specs.TaskReport.{IsReport}
 use Rattle.plan_print.proofs.Found.{found}

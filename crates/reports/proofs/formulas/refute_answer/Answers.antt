@@ -1,7 +1,7 @@
 use Rattle.std.proofs.Common.{subst}
 use Rattle.std.proofs.lemmas.Result.{IfOk-weaker}
 use Rattle.table_formula.specs.Problems.{Problem}
-use Rattle.refutation.specs.Refutations.{IsFault}
+use Rattle.table_formula.specs.Refutations.{IsFault}
 use Rattle.reports.specs.FormulaReports.{not_refuted}
 use Rattle.reports.proofs.formulas.refute_answer.Goals as goal
 

@@ -1,6 +1,6 @@
 use Rattle.std.proofs.Common.{rules, ◌≡◌, ℕ, ◌+◌, ◌*◌, [], length, get_or, take, drop, sym, ap, ◌∙◌, arith}
 use Rattle.std.proofs.lemmas.List.FromFn.{get_or-map-range_with_len}
-use Rattle.window_states.specs.BlockStates.{block_len}
+use Rattle.round_eval.specs.BlockStates.{block_len}
 use Rattle.table_fill.proofs.block_channels.put_block.Goals as goal
 
 pub returns : goal.returns

@@ -2,8 +2,8 @@ use Rattle.std.proofs.Common.{◌≡◌, ◌+◌, ◌*◌, ◌<◌, [], length, 
 use Rattle.std.proofs.lemmas.List.{get_or-map, get_or-take, length-take-le}
 use Rattle.node_program.specs.Node.{channel}
 use Rattle.node_program.specs.Bounds.{register_bounds, IsWithin}
-use Rattle.window_states.specs.BlockStates.{block_len, window_numbered}
-use Rattle.window_states.specs.Line.{middle_state}
+use Rattle.round_eval.specs.BlockStates.{block_len, window_numbered}
+use Rattle.round_eval.specs.Line.{middle_state}
 use Rattle.table_fill.proofs.Programs.{numbered_is_window}
 use Rattle.table_fill.proofs.block_channels.write_channels.Goals as goal
 use Rattle.win_index.specs.declared.limits.TheConstants.{BLOCK_WINDOWS}

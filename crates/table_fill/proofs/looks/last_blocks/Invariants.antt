@@ -1,7 +1,7 @@
 use Rattle.std.proofs.Common.{◌≡◌, ℕ, ◌<◌, ◌≤◌, length, Some, slice_get, true, vec_capacity}
 use Rattle.std.specs.Prelude.{is_some}
 use denote.Ref.{Bor}
-use Rattle.window_states.specs.BlockStates.{MadeBlock}
+use Rattle.round_eval.specs.BlockStates.{MadeBlock}
 use Rattle.shared_memo.specs.PlanJobs.{IsKeyedBlock}
 use Rattle.shared_memo.specs.Passes.{known}
 use Rattle.win_index.specs.Blocks.{block_count}

@@ -2,7 +2,7 @@ use Rattle.std.proofs.Common.{ap, arith, length-append}
 use Rattle.std.specs.List.{flat_map, range_with_len}
 use Rattle.std.specs.Prelude.{length}
 use Rattle.table_formula.specs.Formula.{close_to}
-use Rattle.table_formula.proofs.Clauses.{flat_more}
+use Rattle.table_formula.proofs.ClauseLists.{flat_more}
 use Rattle.table_formula.proofs.conflict.close_pair_count.Goals as goal
 
 pub loop-first-preserved : goal.loop-first-preserved

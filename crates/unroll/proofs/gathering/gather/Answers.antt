@@ -2,7 +2,7 @@ use Rattle.std.proofs.Common.{rules, ◌≡◌, ◌+◌, ◌*◌, ◌/◌, ◌<�
 use Rattle.std.proofs.lemmas.List.{with_items_is}
 use Rattle.win_index.specs.Windows.{windows, IsWindow}
 use Rattle.win_index.specs.declared.limits.TheConstants.{BLOCK_WINDOWS}
-use Rattle.window_states.specs.BlockStates.{block_len, window_numbered}
+use Rattle.round_eval.specs.BlockStates.{block_len, window_numbered}
 use Rattle.unroll.specs.Parts.{window_in, IsKnownBlock}
 use Rattle.unroll.specs.WideColumns.{AreGathered}
 use Rattle.unroll.proofs.Known.{still_known, window_at, asked_both, missing_later, entry_grows, if_some_more}

@@ -1,5 +1,5 @@
 use Rattle.std.proofs.Common.{◌≡◌, ◌+◌, ◌-◌, ◌*◌}
-use Rattle.window_states.specs.Entries.{Asked}
+use Rattle.round_eval.specs.Entries.{Asked}
 use Rattle.unroll.specs.Parts.{IsAtIndex, IsNear}
 use Rattle.unroll.specs.WideColumns.{IsReady, AreGathered}
 use Rattle.unroll.proofs.NextRuns.{IsPlaced}

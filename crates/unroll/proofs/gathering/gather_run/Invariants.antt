@@ -1,5 +1,5 @@
 use Rattle.std.proofs.Common.{◌≡◌, ◌-◌, ◌<◌, ◌≤◌, List, ℕ, length, IfSome}
-use Rattle.window_states.specs.Entries.{Asked}
+use Rattle.round_eval.specs.Entries.{Asked}
 use Rattle.unroll.specs.Parts.{window_in, InRun, IsKnownBlock}
 use Rattle.unroll.specs.WideColumns.{AreTakenInRun}
 use Rattle.unroll.proofs.gathering.gather_run.Given as goal

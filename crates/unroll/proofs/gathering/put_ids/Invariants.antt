@@ -1,6 +1,6 @@
 use Rattle.std.proofs.Common.{◌≡◌, ℕ, ◌+◌, ◌*◌, ◌<◌, [], ◌∷◌, get_or, slice_get, Some}
 use Rattle.win_index.specs.Windows.{windows, IsWindow}
-use Rattle.window_states.specs.BlockStates.{block_len, window_numbered}
+use Rattle.round_eval.specs.BlockStates.{block_len, window_numbered}
 use Rattle.unroll.proofs.gathering.put_ids.Given as goal
 use Rattle.win_index.specs.declared.limits.TheConstants.{BLOCK_WINDOWS}
 

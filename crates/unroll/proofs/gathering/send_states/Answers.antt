@@ -1,6 +1,6 @@
 use Rattle.std.proofs.Common.{ℕ, ◌<◌, length, ◌∙◌, ap, arith}
 use Rattle.node_program.specs.Node.{to_left, to_right}
-use Rattle.window_states.specs.BlockStates.{block_len, block_state}
+use Rattle.round_eval.specs.BlockStates.{block_len, block_state}
 use Rattle.unroll.proofs.ColumnStates.{item_taken}
 use Rattle.unroll.proofs.gathering.send_states.Goals as goal
 

@@ -1,8 +1,8 @@
 use Rattle.std.proofs.Common.{[], ◌∷◌, length, get_or, sym, ◌∙◌, ap, arith}
 use Rattle.std.proofs.lemmas.List.{get_or-map, length-map}
 use Rattle.node_program.specs.Node.{start}
-use Rattle.window_states.specs.BlockStates.{block_len, block_state}
-use Rattle.window_states.specs.Line.{middle_state}
+use Rattle.round_eval.specs.BlockStates.{block_len, block_state}
+use Rattle.round_eval.specs.Line.{middle_state}
 use Rattle.unroll.proofs.ColumnStates.{take_states}
 use Rattle.unroll.proofs.gathering.start_states.Goals as goal
 

@@ -1,5 +1,5 @@
 use Rattle.std.proofs.Common.{◌≡◌, ℕ, ◌+◌, List, ◌∙◌, arith}
-use Rattle.window_states.specs.BlockStates.{block_len}
+use Rattle.round_eval.specs.BlockStates.{block_len}
 use Rattle.unroll.specs.MakeFaults.{KnowsAllBelow}
 use Rattle.unroll.specs.WideColumns.{HoldBlock, state_in}
 use Rattle.unroll.specs.declared.upper_block.UpperBlock.{UpperBlock}

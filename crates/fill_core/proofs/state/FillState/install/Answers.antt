@@ -1,7 +1,7 @@
 use Rattle.std.proofs.Common.{rules, ◌≡◌, ◌∙◌, ◌<◌, None, Some, Bool, List, Option, length, set, subst, sym, refl, ap, inl, inr, arith}
 use Rattle.std.proofs.lemmas.List.{get_or_read}
 use Rattle.std.proofs.lemmas.Option.{MatchOption-at_some, MatchOption-at_none}
-use Rattle.window_states.specs.BlockStates.{MadeBlock}
+use Rattle.round_eval.specs.BlockStates.{MadeBlock}
 use Rattle.fill_core.specs.FillMachine.{Worker, cell_of, learned, block_by, MarksBelow}
 use Rattle.fill_core.specs.FillPromises.{HoldsJobs, MarkedAreFull}
 use Rattle.fill_core.specs.FillStates.{worker_of}

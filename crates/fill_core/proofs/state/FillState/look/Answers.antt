@@ -1,6 +1,6 @@
 use Rattle.std.proofs.Common.{rules, ◌∙◌, ℕ, Option, None, IsSome, length, subst, sym, ap, inl, arith}
 use Rattle.std.proofs.lemmas.List.{get_or_read}
-use Rattle.window_states.specs.BlockStates.{MadeBlock}
+use Rattle.round_eval.specs.BlockStates.{MadeBlock}
 use Rattle.fill_core.specs.FillMachine.{Worker, cell_of, learned}
 use Rattle.fill_core.proofs.FillViews.{Seen, seen, seen_set}
 use Rattle.fill_core.proofs.state.FillState.look.Goals as goal

@@ -5,8 +5,8 @@ use Rattle.win_index.specs.Blocks.{block_count}
 use Rattle.win_index.specs.Laws.{WindowOfNumber}
 use Rattle.win_index.specs.Windows.{windows}
 use Rattle.unroll.specs.Below.{part, IsBelow}
-use Rattle.window_states.specs.BlockStates.{window_numbered}
-use Rattle.window_states.specs.Entries.{Entries}
+use Rattle.round_eval.specs.BlockStates.{window_numbered}
+use Rattle.round_eval.specs.Entries.{Entries}
 use Rattle.unroll.specs.MakeFaults.{IsMakeFault}
 use Rattle.unroll.specs.declared.fault.MakeFault.{MakeFault}
 use Rattle.unroll.specs.declared.fault.MakeFault.TheVariants.{Missing, OutOfMemory}

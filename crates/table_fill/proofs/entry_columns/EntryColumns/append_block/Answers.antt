@@ -1,6 +1,6 @@
 use Rattle.std.proofs.Common.{◌≡◌, length, ◌∙◌}
 use Rattle.std.proofs.lemmas.List.{with_items_is}
-use Rattle.window_states.specs.BlockStates.{block_len}
+use Rattle.round_eval.specs.BlockStates.{block_len}
 use Rattle.table_fill.proofs.JoinedEntries.{joined_entries}
 use Rattle.table_fill.proofs.entry_columns.EntryColumns.append_block.Goals as goal
 

@@ -3,7 +3,7 @@ use Rattle.std.specs.Prelude.{is_some, slice_get}
 use Rattle.std.proofs.lemmas.Option.{some_pair_parts}
 use Rattle.std.proofs.lemmas.List.Elements.{All-append, All-cons, All-nil}
 use Rattle.lang_check.specs.Plans.{ProgramForIds}
-use Rattle.window_states.specs.Entries.{Entries, Grows}
+use Rattle.round_eval.specs.Entries.{Entries, Grows}
 use Rattle.win_index.specs.Jobs.{jobs_of}
 use Rattle.win_index.specs.Laws.{JobsStandAtNumbers}
 use Rattle.shared_memo.specs.PlanJobs.{job_of}

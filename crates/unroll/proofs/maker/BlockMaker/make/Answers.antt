@@ -1,6 +1,6 @@
 use Rattle.std.proofs.Common.{◌*◌, length, refl, ◌∙◌}
 use Rattle.std.proofs.lemmas.List.{with_items_is}
-use Rattle.window_states.specs.BlockStates.{block_len}
+use Rattle.round_eval.specs.BlockStates.{block_len}
 use Rattle.unroll.proofs.maker.BlockMaker.make.Goals as goal
 
 -- the lists of the block hold its states and its messages

@@ -1,4 +1,0 @@
--- Lemmas that several proofs share.
-pub mod Lines
-pub mod Within
-pub mod AroundPlaces
