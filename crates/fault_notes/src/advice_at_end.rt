@@ -1,11 +1,10 @@
 //! Advice on a text that ends too early.
 
-ghost use Rattle.std.specs.Prelude.{◌≤◌, length};
-
 use crate::around::{last_line, place_in};
 use crate::rules::advice_by;
 use crate::text_beginnings::has_one;
 use node_lang::{Expected, Token};
+use source_places::len_before;
 
 const HIDDEN: &str = "; a comment goes up to the end of its line";
 
@@ -25,14 +24,7 @@ fn last_comment(text: &[u8]) -> &[u8] {
 
 // Returns the text after the first `#`, an empty one if there is none.
 fn after_sign(line: &[u8]) -> &[u8] {
-    &line[before_sign_len(line)..]
-}
-
-// Returns the number of bytes before the first `#`.
-fn before_sign_len(line: &[u8]) -> usize
-    ensures { result ≤ length line.now }
-{
-    line.iter().take_while(|byte| **byte != b'#').count()
+    &line[len_before(line, b'#')..]
 }
 
 // Returns advice on a text that ends where `wanted` can follow.

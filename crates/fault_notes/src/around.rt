@@ -4,7 +4,7 @@ ghost use Rattle.std.specs.Prelude.{◌≤◌, length};
 
 use crate::word_texts::is_word_byte;
 use node_lang::{Expected, Token, token_from};
-use source_places::{first_line_len, is_one_of};
+use source_places::{first_line_len, is_made_of, is_one_of, last_line_len, leading_len};
 
 // The length of the longest words that are tried in two parts.
 const LONGEST_JOINED: usize = 32;
@@ -165,13 +165,6 @@ pub(crate) fn has_operands(place: Place) -> bool {
     has_comma(&place.rest[end..])
 }
 
-// Returns the number of bytes after the last line feed.
-fn last_line_len(text: &[u8]) -> usize
-    ensures { result ≤ length text.now }
-{
-    text.iter().rev().take_while(|byte| **byte != b'\n').count()
-}
-
 // Returns the last line of a text.
 pub(crate) fn last_line(text: &[u8]) -> &[u8] {
     &text[text.len() - last_line_len(text)..]
@@ -179,22 +172,12 @@ pub(crate) fn last_line(text: &[u8]) -> &[u8] {
 
 // Returns whether a line has only blanks.
 fn is_blank(line: &[u8]) -> bool {
-    line.iter()
-        .all(|byte| matches!(*byte, b' ' | b'\t' | b'\r'))
-}
-
-// Returns the number of blanks at the start.
-fn blanks_len(text: &[u8]) -> usize
-    ensures { result ≤ length text.now }
-{
-    text.iter()
-        .take_while(|byte| matches!(**byte, b' ' | b'\t'))
-        .count()
+    is_made_of(line, b" \t\r")
 }
 
 // Returns the text after the blanks at its start.
 pub(crate) fn after_blanks(text: &[u8]) -> &[u8] {
-    &text[blanks_len(text)..]
+    &text[leading_len(text, b" \t")..]
 }
 
 // Returns whether only blanks stand between a place and the start of its line.

@@ -4,6 +4,7 @@ ghost use Rattle.std.specs.Prelude.{◌≤◌, length};
 
 use crate::around::{Place, after_blanks, is_keyword, is_register};
 use crate::word_texts::is_word_byte;
+use source_places::contains_part;
 
 // Parts of a link that stand for a line feed, a carriage return and `=`, which each program has.
 const LINKED: [&[u8]; 5] = [b"%0A", b"%0a", b"%0D", b"%3D", b"%3d"];
@@ -63,12 +64,7 @@ fn begins_with_letter(text: &[u8]) -> bool {
 
 // Returns whether a part of a text is one of these.
 pub(crate) fn has_one(text: &[u8], parts: &[&[u8]]) -> bool {
-    for start in 0..text.len() {
-        if parts.iter().any(|part| text[start..].starts_with(part)) {
-            return true;
-        }
-    }
-    false
+    parts.iter().any(|part| contains_part(text, part))
 }
 
 // Returns whether a text begins with `%` and two hexadecimal digits of a byte of ASCII.

@@ -1,4 +1,5 @@
 -- The definitions that the contracts cite.
+pub mod ByteSets
 pub mod Places
 pub mod Heads
 pub mod Shown

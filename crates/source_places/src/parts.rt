@@ -31,8 +31,9 @@ pub(crate) fn first_line(text: &[u8]) -> &[u8]
     &text[..first_line_len(text)]
 }
 
-// Returns whether a part stands somewhere in a text.
-pub(crate) fn contains_part(text: &[u8], part: &[u8]) -> bool
+/// Returns whether a part stands somewhere in a text. In an empty text there is none, not even an empty
+/// part.
+pub fn contains_part(text: &[u8], part: &[u8]) -> bool
     ensures { result ≡ texts.contains_part text.now part.now }
 {
     let mut rest = text;

@@ -4,6 +4,8 @@ ghost use Rattle.std.specs.Prelude.{◌≡◌, ◌≤◌, ◌-◌, length};
 ghost use Rattle.std.specs.List.{after_first, prefix_len, suffix_len};
 ghost use Rattle.source_places.specs.Places.{after_lines, in_line, is_feed, line_number, column, line_before as before, line_from as from};
 
+use crate::byte_sets::len_before;
+
 /// Returns the line of the byte at this offset, counted from 1. The offset can be the text's
 /// length.
 pub fn line_of(text: &[u8], offset: usize) -> usize
@@ -22,8 +24,8 @@ pub fn column_of(text: &[u8], offset: usize) -> usize
     line_before(text, offset).len() + 1
 }
 
-// Returns the number of bytes after the last line feed.
-fn last_line_len(text: &[u8]) -> usize
+/// Returns the number of bytes after the last line feed, or of all if there is none.
+pub fn last_line_len(text: &[u8]) -> usize
     ensures value { result ≡ suffix_len in_line text.now }
     ensures within { result ≤ length text.now }
 {
@@ -35,7 +37,7 @@ pub fn first_line_len(text: &[u8]) -> usize
     ensures value { result ≡ prefix_len in_line text.now }
     ensures within { result ≤ length text.now }
 {
-    text.iter().take_while(|byte| **byte != b'\n').count()
+    len_before(text, b'\n')
 }
 
 /// Returns the text after the first line, an empty one if there is no other line.

@@ -14,7 +14,7 @@ use crate::parts::Parts;
 use std::alloc::AllocError;
 
 /// The form of a line. The clause, and the hints or the deleted numbers, stand beside it.
-#[derive(Clone, Copy, Debug, PartialEq, Eq)]
+#[derive(Clone, Copy)]
 pub(crate) enum LineForm {
     Malformed,
     Comment,
@@ -24,7 +24,7 @@ pub(crate) enum LineForm {
 
 // The letter that can follow the number of a line: it is a deletion, or an addition after an
 // exchange.
-#[derive(Clone, Copy, Debug, PartialEq, Eq)]
+#[derive(Clone, Copy)]
 pub(crate) enum Letter {
     Deletion,
     Identifiers,
@@ -132,7 +132,7 @@ fn read_lettered(
 ) -> Result<LineForm, AllocError>
     ensures { IfOk result (λ form. said.lettered_line letter number (remaining_parts words.entry) ≡ line_of form clause.new.items numbers.new.items) }
 {
-    if letter == Letter::Deletion {
+    if matches!(letter, Letter::Deletion) {
         return read_deletion(words, numbers);
     }
     let mut rest = words;

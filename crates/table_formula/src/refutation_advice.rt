@@ -1,10 +1,13 @@
 //! Advice on a line of a text that is no refutation. It promises nothing.
 
-ghost use Rattle.std.specs.Prelude.{◌≡◌, ◌≤◌, [], length};
+ghost use Rattle.std.specs.Prelude.{◌≡◌, []};
 ghost use Rattle.table_formula.specs.RefutationNotes.{MayHaveAdvice};
 
 use crate::fault::LineFault;
-use source_places::{TextKind, after_line, first_line_len, kind_advice, line_kind};
+use source_places::{
+    TextKind, after_line, contains_part, first_line_len, is_made_of, kind_advice, len_before,
+    line_kind,
+};
 
 const BINARY: &str = "; this may be a proof in binary: `cadical --no-binary` writes text";
 
@@ -19,37 +22,24 @@ const PART_OF_TABLE: &str =
 
 // Returns whether a line has a blank too many.
 fn has_wrong_blanks(line: &[u8]) -> bool {
-    let is_doubled = (1..line.len()).any(|index| line[index - 1] == b' ' && line[index] == b' ');
-    is_doubled || matches!(line, [b' ', ..] | [.., b' '])
+    contains_part(line, b"  ") || matches!(line, [b' ', ..] | [.., b' '])
 }
 
 // Returns whether a text has only numbers and minus signs.
 fn is_of_literals(text: &[u8]) -> bool {
-    text.iter()
-        .all(|byte| matches!(*byte, b'0'..=b'9' | b' ' | b'-'))
+    is_made_of(text, b"0123456789 -")
 }
 
 // Returns whether a line is one of FRAT: a letter, a number, and lists that end with 0.
 fn is_of_frat(line: &[u8]) -> bool {
-    let has_bytes = line.iter().all(|byte| matches!(
-        *byte,
-        b'0'..=b'9' | b' ' | b'-' | b'a' | b'f' | b'l' | b'o' | b'r'
-    ));
     let has_letter = matches!(line, [b'a' | b'f' | b'o' | b'r', b' ', b'1'..=b'9', ..]);
-    has_bytes && has_letter && line.ends_with(b" 0")
-}
-
-// Returns the number of bytes before the first blank.
-fn word_len(text: &[u8]) -> usize
-    ensures { result ≤ length text.now }
-{
-    text.iter().take_while(|byte| **byte != b' ').count()
+    is_made_of(line, b"0123456789 -aflor") && has_letter && line.ends_with(b" 0")
 }
 
 // Returns the text behind its first word, from the blank there on.
 fn after_word(text: &[u8]) -> &[u8] {
     match text {
-        [_, rest @ ..] => &rest[word_len(rest)..],
+        [_, rest @ ..] => &rest[len_before(rest, b' ')..],
         [] => text,
     }
 }
@@ -116,13 +106,7 @@ fn count_of_lists(lists: &[u8]) -> usize {
 
 // Returns whether a list behind the first one has a negative number.
 fn has_negative_hint(lists: &[u8]) -> bool {
-    (0..lists.len()).any(|start| lists[start..].starts_with(b" 0 ")
-        && lists[start..].contains(&b'-'))
-}
-
-// Returns whether a part stands somewhere in a line.
-fn has_part(line: &[u8], part: &[u8]) -> bool {
-    (0..line.len()).any(|start| line[start..].starts_with(part))
+    lists[first_list_len(lists).min(lists.len())..].contains(&b'-')
 }
 
 // Returns whether the first line of a text looks like one of a proof in DRAT, and the next one is a
@@ -136,16 +120,14 @@ fn is_step_like_proof(rest: &[u8]) -> bool {
 
 // Returns whether a line is the second one of a table, or that of a window.
 fn is_of_table(line: &[u8]) -> bool {
-    let is_of_numbers = line
-        .iter()
-        .all(|byte| matches!(*byte, b'0'..=b'9' | b' ' | b':'));
-    line.starts_with(b"rounds ") || is_of_numbers && has_part(line, b" : ")
+    line.starts_with(b"rounds ") || is_made_of(line, b"0123456789 :") && contains_part(line, b" : ")
 }
 
 // Returns whether a line is of positive numbers, and then one 0.
 fn is_of_hints(line: &[u8]) -> bool {
-    let has_bytes = line.iter().all(|byte| matches!(*byte, b'0'..=b'9' | b' '));
-    has_bytes && matches!(line, [b'1'..=b'9', .., b' ', b'0']) && count_of_lists(line) == 1
+    is_made_of(line, b"0123456789 ")
+        && matches!(line, [b'1'..=b'9', .., b' ', b'0'])
+        && count_of_lists(line) == 1
 }
 
 // Returns whether the first line of a text looks like the start of a step, and the next one like its
@@ -214,9 +196,7 @@ fn form_advice(rest: &[u8]) -> &'static str {
 
 // Returns whether the first word of a line has digits alone.
 fn has_number(line: &[u8]) -> bool {
-    line[..word_len(line)]
-        .iter()
-        .all(|byte| byte.is_ascii_digit())
+    is_made_of(&line[..len_before(line, b' ')], b"0123456789")
 }
 
 // Returns whether a list has a minus sign that does not stand right before a digit.
@@ -247,10 +227,10 @@ fn step_advice(line: &[u8]) -> &'static str {
     if line.contains(&b'\\') {
         return "; `\\n` stands for a line feed only in other texts: begin a new line";
     }
-    if has_part(line, b" -0") {
+    if contains_part(line, b" -0") {
         return "; 0 has no minus sign";
     }
-    if has_part(line, b" 0 c") {
+    if contains_part(line, b" 0 c") {
         return "; a comment is a line of its own, which begins with `c`";
     }
     if let Some(advice) = words_advice(line) {

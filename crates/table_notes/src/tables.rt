@@ -10,13 +10,15 @@ use crate::headers::header_advice;
 use node_program::OutOfMemory;
 use numerals::field;
 use source_places::{
-    TextKind, after_line, first_line_len, from_line, kind_advice, write_joined, write_marked_line,
-    write_place_head,
+    TextKind, after_line, contains_part, first_line_len, from_line, has_any_of, is_made_of,
+    kind_advice, leading_len, len_before, write_joined, write_marked_line, write_place_head,
 };
 use std::alloc::{AllocError, Global};
 use std::fmt::Write;
 use table_text::{LONGEST_TABLE_TEXT, TableFault, shape_in};
 use win_index::Shape;
+
+const DIGITS: &[u8] = b"0123456789";
 
 const WINDOW: &str = "; a line is the identifiers of a window, ` : ` and a channel";
 
@@ -106,10 +108,7 @@ fn first_advice(text: &[u8]) -> &'static str {
 
 // Returns whether a line is that of a window: numbers, a colon and a number.
 fn is_of_window(line: &[u8]) -> bool {
-    let has_form = line
-        .iter()
-        .all(|byte| matches!(*byte, b'0'..=b'9' | b' ' | b':'));
-    has_form && line.contains(&b':')
+    is_made_of(line, b"0123456789 :") && line.contains(&b':')
 }
 
 // Returns advice on a text that is not the rest of a table text.
@@ -117,7 +116,7 @@ fn other_advice(text: &[u8]) -> &'static str {
     if is_of_window(&text[..first_line_len(text)]) {
         return "; its first two lines are missing";
     }
-    if text.starts_with(b" ") && text[blanks_len(text)..].starts_with(b"nbhd-table") {
+    if text.starts_with(b" ") && text[leading_len(text, b" ")..].starts_with(b"nbhd-table") {
         return "; it begins with a blank";
     }
     if let Some(advice) = advice_before(text) {
@@ -165,35 +164,19 @@ fn advice_before(text: &[u8]) -> Option<&'static str> {
 fn has_lines_behind(text: &[u8], marks: &[u8], bytes: &[u8]) -> bool {
     let next = after_line(text);
     is_table_behind(text, bytes)
-        && next[len_of(next, bytes)..].starts_with(b"rounds ")
+        && next[leading_len(next, bytes)..].starts_with(b"rounds ")
         && has_mark_before(text, marks, bytes)
         && has_mark_before(next, marks, bytes)
 }
 
 // Returns whether one of these marks is among such bytes at the start.
 fn has_mark_before(text: &[u8], marks: &[u8], bytes: &[u8]) -> bool {
-    text[..len_of(text, bytes)]
-        .iter()
-        .any(|byte| marks.contains(byte))
+    has_any_of(&text[..leading_len(text, bytes)], marks)
 }
 
 // Returns whether a text is a table behind such bytes.
 fn is_table_behind(text: &[u8], bytes: &[u8]) -> bool {
-    text[len_of(text, bytes)..].starts_with(b"nbhd-table ")
-}
-
-// Returns the number of such bytes at the start.
-fn len_of(text: &[u8], bytes: &[u8]) -> usize
-    ensures { result ≤ length text.now }
-{
-    text.iter().take_while(|byte| bytes.contains(*byte)).count()
-}
-
-// Returns the number of blanks at the start.
-fn blanks_len(text: &[u8]) -> usize
-    ensures { result ≤ length text.now }
-{
-    text.iter().take_while(|byte| **byte == b' ').count()
+    text[leading_len(text, bytes)..].starts_with(b"nbhd-table ")
 }
 
 // Returns advice on a first line with another version than there is.
@@ -228,11 +211,10 @@ fn second_advice(text: &[u8], rest: &[u8]) -> &'static str {
 
 // Returns advice on the blanks of a line.
 fn blanks_advice(line: &[u8]) -> Option<&'static str> {
-    let is_doubled = (1..line.len()).any(|index| line[index - 1] == b' ' && line[index] == b' ');
     match line {
         [.., b' '] => Some("; it ends with a blank"),
         _ if line.contains(&b'\t') => Some(TAB),
-        _ if is_doubled => Some("; words are parted by single blanks"),
+        _ if contains_part(line, b"  ") => Some("; words are parted by single blanks"),
         _ => None,
     }
 }
@@ -326,21 +308,14 @@ fn has_long_number(line: &[u8]) -> bool {
     false
 }
 
-// Returns the number of digits at the end.
-fn last_digits_len(line: &[u8]) -> usize
-    ensures { result ≤ length line.now }
-{
-    line.iter()
-        .rev()
-        .take_while(|byte| byte.is_ascii_digit())
-        .count()
-}
-
 // Returns the identifiers of a line, if it has the form of a window and a channel.
 fn window_of(line: &[u8]) -> Option<&[u8]> {
-    let window = line[..line.len() - last_digits_len(line)].strip_suffix(b" : ")?;
-    let has_numbers = is_of_window(line) && !has_long_number(line) && blanks_advice(line).is_none();
-    if has_numbers && !window.contains(&b':') && matches!(line, [b'0'..=b'9', .., b'0'..=b'9']) {
+    let (before, rest) = line.split_at(len_before(line, b':'));
+    let window = before.strip_suffix(b" ")?;
+    let channel = rest.strip_prefix(b": ")?;
+    let has_numbers = is_made_of(window, b"0123456789 ") && is_made_of(channel, DIGITS);
+    let has_form = !has_long_number(line) && blanks_advice(line).is_none();
+    if has_numbers && has_form && matches!(line, [b'0'..=b'9', .., b'0'..=b'9']) {
         return Some(window);
     }
     None
@@ -365,49 +340,34 @@ fn bytes_advice(line: &[u8]) -> &'static str {
 
 // Returns whether a line has only blanks.
 fn is_blank(line: &[u8]) -> bool {
-    line.iter().all(|byte| matches!(*byte, b' ' | b'\t'))
+    is_made_of(line, b" \t")
 }
 
 // Returns whether a line has more than one colon.
 fn has_two_colons(line: &[u8]) -> bool {
-    line.iter().filter(|byte| **byte == b':').count() > 1
-}
-
-// Returns the number of bytes before the first colon.
-fn before_colon_len(line: &[u8]) -> usize
-    ensures { result ≤ length line.now }
-{
-    line.iter().take_while(|byte| **byte != b':').count()
-}
-
-// Returns the number of digits and blanks at the start.
-fn numbers_len(line: &[u8]) -> usize
-    ensures { result ≤ length line.now }
-{
-    line.iter()
-        .take_while(|byte| matches!(**byte, b'0'..=b'9' | b' '))
-        .count()
+    match &line[len_before(line, b':')..] {
+        [_, rest @ ..] => rest.contains(&b':'),
+        [] => false,
+    }
 }
 
 // Returns whether one word that is no number stands in the place of a channel.
 fn has_no_channel(line: &[u8]) -> bool {
-    match &line[numbers_len(line)..] {
-        [b':', b' ', rest @ ..] => !rest
-            .iter()
-            .any(|byte| matches!(*byte, b'0'..=b'9' | b' ' | b':')),
+    match &line[leading_len(line, b"0123456789 ")..] {
+        [b':', b' ', rest @ ..] => !has_any_of(rest, b"0123456789 :"),
         _ => false,
     }
 }
 
 // Returns advice on the numbers of a line with a colon.
 fn numbers_advice(line: &[u8]) -> &'static str {
-    if line[..before_colon_len(line)].contains(&b',') {
+    if line[..len_before(line, b':')].contains(&b',') {
         return "; numbers are parted by single blanks";
     }
     if line.contains(&b',') {
         return "; a channel is one number, without commas";
     }
-    if line.iter().any(|byte| matches!(*byte, b'+' | b'-' | b'.')) {
+    if has_any_of(line, b"+-.") {
         return "; a number has only digits";
     }
     if let Some(advice) = blanks_advice(line).or(zeros_advice(line)) {

@@ -4,7 +4,7 @@ ghost use Rattle.std.specs.Prelude.{◌≡◌, ◌≤◌, ◌==◌, [], length, 
 ghost use Rattle.std.specs.List.{list_any};
 ghost use Rattle.task_words.specs.Tips as tips;
 
-use source_places::is_one_of;
+use source_places::{is_one_of, len_before};
 
 /// An option that takes a number.
 #[derive(Clone, Copy, Debug, PartialEq, Eq)]
@@ -43,7 +43,7 @@ impl NumberOption {
 }
 
 /// What a command reads from the standard input.
-#[derive(Clone, Copy, Debug, PartialEq, Eq)]
+#[derive(Clone, Copy)]
 pub(crate) enum Input {
     Program,
     /// A program, which is run on the ring of the options.
@@ -459,7 +459,7 @@ fn name_len(word: &[u8]) -> usize
     ensures value { result ≡ tips.name_len word.now }
     ensures within { result ≤ length word.now }
 {
-    word.iter().take_while(|byte| **byte != b'=').count()
+    len_before(word, b'=')
 }
 
 // Returns the name of an option that may have its value in the same word.

@@ -1,7 +1,7 @@
 //! Advice on a word that `clap` refuses, which its text names. It promises nothing.
 
 use crate::foreign_names::{COMMANDS, OPTIONS, QUESTIONS, advice_in};
-use source_places::is_one_of;
+use source_places::{is_one_of, len_before};
 
 const NO_COMMAND: &str = "nbhd: the name of a command comes first, as in `nbhd check --ids 8`";
 
@@ -21,8 +21,7 @@ fn quoted_after<'a>(text: &'a str, beginning: &str) -> Option<&'a str> {
 
 // Returns the bytes of a word before the first that is `end`.
 fn part_before(word: &[u8], end: u8) -> &[u8] {
-    let len = word.iter().take_while(|byte| **byte != end).count();
-    &word[..len.min(word.len())]
+    &word[..len_before(word, end)]
 }
 
 // Returns whether a word is the name of a command.
