@@ -2,7 +2,7 @@
 ghost use Rattle.std.specs.Prelude.{◌≡◌, ◌↔◌, IfOk, IfErr, OnOk, length};
 ghost use Rattle.round_eval.specs.Shapes.{IsOfShape};
 ghost use Rattle.table_fill.specs.ProgramTables.{table_of};
-ghost use Rattle.table_fill.specs.Workers.{IsWorkerCount};
+ghost use Rattle.shared_memo.specs.Workers.{IsWorkerCount};
 ghost use Rattle.border_exchange.specs.SegmentCounts.{IsSegmentCount};
 ghost use Rattle.headline.specs.Headline.{IsHeadline, TableAgrees};
 ghost use Rattle.ring_exec.specs.declared.fault.RunFault.{RunFault};

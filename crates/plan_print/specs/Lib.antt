@@ -4,9 +4,9 @@ pub use Rattle.reports.specs.Lines
 pub use Rattle.table_text.specs.TableText
 pub use Rattle.table_text.specs.Texts
 pub use Rattle.numerals.specs.Numerals
-pub use Rattle.reports.specs.Trees
-pub use Rattle.reports.specs.Explanation
-pub use Rattle.reports.specs.Trace
+pub use Rattle.value_trees.specs.Trees
+pub use Rattle.value_trees.specs.Explanation
+pub use Rattle.value_trees.specs.Trace
 pub use Rattle.reports.specs.Report
 pub mod TaskReport
 pub use Rattle.task_words.specs.Decimal

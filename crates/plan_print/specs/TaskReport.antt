@@ -6,7 +6,7 @@ use Rattle.table_fill.specs.ProgramTables.{table_of}
 use Rattle.reports.specs.Report.{Report, Says, accepted_line, place_lines, IsAnswerOnRing, IsApplyAnswer, IsExplainAnswer, IsJudgement, IsPrintReport, IsProgramReport, IsRunAnswer, IsTableReport, IsTableText}
 use Rattle.reports.specs.FormulaReports.{IsFormulaReport, IsRefuteReport}
 use Rattle.reports.specs.declared.status.Status.TheVariants.{Done}
-use Rattle.reports.specs.Trace.{trace_lines}
+use Rattle.value_trees.specs.Trace.{trace_lines}
 use Rattle.task_words.specs.declared.task.Task.{Task}
 use Rattle.task_words.specs.declared.task.Task.TheVariants.{Check, Print, Table, Judge, Run, Trace, Explain, Plan, Audit, Apply, Migrate, Formula, Refute}
 

@@ -1,10 +1,10 @@
 //! The first tuples of a program's table, judged before the table is filled: a program that fails at
 //! one of them is refused at once.
-use crate::program_windows::ProgramWindows;
 use channel_tables::{Separation, Tuples, Witness};
 use lang_check::Plan;
 use node_program::OutOfMemory;
 use std::alloc::Global;
+use table_fill::ProgramWindows;
 
 /// The number of tuples that are judged before a table is filled.
 pub(crate) const FIRST_TUPLES: u64 = 64;

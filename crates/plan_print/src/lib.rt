@@ -7,7 +7,6 @@ mod first_tuples;
 pub mod note;
 mod places;
 pub mod process;
-mod program_windows;
 mod report;
 
 pub use devices::{fault, input, output, watched};

@@ -19,8 +19,8 @@ use Rattle.reports.specs.declared.status.Status.TheVariants.{Done, No, Words, Re
 use Rattle.reports.specs.Causes.{Reason, of_text, of_program, of_ring, of_place, of_segments, of_table_text, of_formula, of_refutation, of_no}
 use Rattle.reports.specs.Lines.{line, numbers_text}
 use Rattle.numerals.specs.declared.base.Base.{Base}
-use Rattle.reports.specs.Explanation.{explanation}
-use Rattle.reports.specs.Trace.{trace_lines}
+use Rattle.value_trees.specs.Explanation.{explanation}
+use Rattle.value_trees.specs.Trace.{trace_lines}
 use Rattle.reports.specs.Laws.{TablesHaveChannels}
 use Rattle.reports.specs.Report as report
 use Rattle.win_index.specs.Ring.{IsRing}

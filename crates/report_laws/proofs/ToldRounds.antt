@@ -23,9 +23,9 @@ use Rattle.reports.specs.declared.status.Status.TheVariants.{Done, No}
 use Rattle.reports.specs.Lines.{line, numbers_text}
 use Rattle.numerals.specs.Numerals.{after_blanks, form_of, padded, radix, row, widest}
 use Rattle.numerals.specs.declared.base.Base.{Base}
-use Rattle.reports.specs.Explanation.{explanation}
-use Rattle.reports.specs.TraceLaws.{ShowsTrace, ExplanationsShowTraces}
-use Rattle.reports.specs.Trace.{register_lines, round_lines, row_line, trace_lines}
+use Rattle.value_trees.specs.Explanation.{explanation}
+use Rattle.value_trees.specs.Laws.{ShowsTrace, ExplanationsShowTraces}
+use Rattle.value_trees.specs.Trace.{register_lines, round_lines, row_line, trace_lines}
 use Rattle.reports.proofs.Joined.{joined_after}
 use Rattle.reports.specs.Report.{Report, Says, IsJudgement, good, bad, IsAnswerOnRing, ring_fault, on_ring, IsRunAnswer, out_of_range, ran, IsExplainAnswer, no_place, explained, text_refused, in_print, IsProgramReport, program_refused, answered}
 use Rattle.report_laws.specs.Laws.{IsAcceptedText, JudgeTellsRounds, RunTellsRounds, TraceTellsRounds, TraceEndsWithRun, ExplainTellsRounds, ExplainShowsTrace, PlanTellsRounds, TableTellsRounds, PrintsAreReadBack, SameForWorkers, SameForSegments}

@@ -19,9 +19,9 @@ use Rattle.lower_bound.specs.Towers.{tower, spread}
 use Rattle.table_fill.specs.ProgramTables.{table_of}
 use Rattle.numerals.specs.declared.base.Base.{Base}
 use Rattle.numerals.specs.Numerals.{radix}
-use Rattle.reports.specs.Explanation.{explanation}
-use Rattle.reports.specs.TraceLaws.{ShowsTrace}
-use Rattle.reports.specs.Trace.{trace_lines}
+use Rattle.value_trees.specs.Explanation.{explanation}
+use Rattle.value_trees.specs.Laws.{ShowsTrace}
+use Rattle.value_trees.specs.Trace.{trace_lines}
 use Rattle.border_exchange.specs.SegmentCounts.{IsSegmentCount}
 use Rattle.headline.specs.Headline.{ChannelsAreApart}
 use Rattle.table_text.specs.TableText.{table_text}

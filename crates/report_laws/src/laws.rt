@@ -8,13 +8,13 @@ use headline::{program_tables_are_apart, tables_are_apart_on_rings};
 use lang_check::one_refusal;
 use lower_bound::{nearby_places_need_four, odd_rings_need_three, tables_need_channels};
 use node_lang::{first_fault, one_reading, one_text_fault, printed_is_read_back, reading_is_exact};
-use reports::explanations_show_traces;
 use reports::places::{one_list_of_lines, tables_have_channels};
 use table_fill::{
     program_tables_are_tables, table_has_the_channels_of_rounds, table_has_the_channels_of_windows,
 };
 use table_formula::{each_text_has_a_verdict, one_refutation_verdict, refutations_are_sound};
 use table_text::{one_table_fault, table_texts_are_apart, table_texts_are_read};
+use value_trees::explanations_show_traces;
 use win_index::{
     count_of_windows, number_of_window, one_ring_fault, places_of_arcs, rings_have_windows,
     tuples_are_rings, window_of_number, windows_have_numbers,

@@ -28,7 +28,7 @@ use Rattle.border_exchange.specs.SegmentCounts.{IsSegmentCount}
 use Rattle.reports.specs.declared.status.Status.{Status}
 use Rattle.reports.specs.declared.status.Status.TheVariants.{Done, No, Words, Refused, RingRefused}
 use Rattle.numerals.specs.declared.base.Base.{Base}
-use Rattle.reports.specs.Explanation.{explanation}
+use Rattle.value_trees.specs.Explanation.{explanation}
 use Rattle.reports.specs.Causes.{Reason, of_text, of_program, of_ring, of_place, of_segments, of_table_text, of_no, of_no_tuples}
 use Rattle.reports.specs.Lines.{line, numbers_text, right_aligned}
 use Rattle.table_text.specs.declared.fault.TableFault.{TableFault}

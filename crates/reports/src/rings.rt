@@ -7,23 +7,22 @@ ghost use Rattle.reports.specs.Causes.{of_place, of_ring, of_segments};
 ghost use Rattle.reports.specs.Report as report;
 ghost use Rattle.reports.specs.Report.{Says, Refuses, IsAnswerOnRing, IsExplainAnswer, IsNoRing, IsOnRingByTable};
 ghost use Rattle.border_exchange.specs.SegmentCounts.{IsSegmentCount};
-ghost use Rattle.reports.specs.Trace.{trace_lines};
+ghost use Rattle.value_trees.specs.Trace.{trace_lines};
 ghost use Rattle.win_index.specs.Ring.{IsRing};
 ghost use Rattle.win_index.specs.RingFaults.{IsFirstFault};
 
 use crate::answer::Answer;
 use crate::cause::Cause;
-use crate::explanation::explanation_text;
 use crate::lines::{place_fault_line, ring_fault_line, segments_fault_line};
 use crate::places::table_lines;
 use crate::refusal::Refusal;
 use crate::status::Status;
-use crate::trace::trace_text;
 use channel_tables::Table;
 use lang_check::Plan;
 use node_program::OutOfMemory;
 use numerals::Base;
 use std::alloc::{AllocError, Global};
+use value_trees::{explanation_text, trace_text};
 use win_index::{Ring, RingFault, Shape};
 
 /// Makes the ring of a list of identifiers for the program of a plan. The refusal is the report on a

@@ -2,5 +2,3 @@
 pub mod Programs
 pub mod JoinedEntries
 pub mod SharedFill
-mod Numbered
-mod Together

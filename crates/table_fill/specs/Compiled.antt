@@ -11,8 +11,8 @@ use Rattle.shared_memo.specs.Passes.{known}
 use Rattle.round_eval.specs.declared.fault.WorkFault.TheVariants as work
 use Rattle.table_fill.specs.declared.fault.FillFault.{FillFault}
 use Rattle.table_fill.specs.declared.fault.FillFault.TheVariants.{WorkersOutOfRange, OutOfMemory, Stranger, NoThread}
-use Rattle.table_fill.specs.Outcomes.{CameTo}
-use Rattle.table_fill.specs.Filled.{KnowsAll, HasGap}
+use Rattle.shared_memo.specs.Outcomes.{CameTo}
+use Rattle.shared_memo.specs.Filled.{KnowsAll, HasGap}
 
 -- the table of the plan's program, beside a pass that knows all blocks of the plan
 pub record IsCompiled (plan : ProgramForIds) (pass : Pass) (table : ChannelTable) : Type 0 where

@@ -1,10 +1,9 @@
 -- The entries of a table, read in shares from the blocks of the last level.
-use Rattle.std.specs.Prelude.{◌≡◌, ℕ, ◌+◌, ◌*◌, ◌<◌, List, Some, length, min, slice_index, slice_get}
+use Rattle.std.specs.Prelude.{◌≡◌, ℕ, ◌+◌, ◌*◌, ◌<◌, List, length, min, slice_index}
 use Rattle.std.specs.Int.{div_ceil}
-use denote.Ref.{Bor}
 use Rattle.lang_check.specs.Plans.{ProgramForIds}
-use Rattle.round_eval.specs.BlockStates.{IsKeyedBlock, MadeBlock, window_numbered}
-use Rattle.win_index.specs.Blocks.{block_count, window_count}
+use Rattle.round_eval.specs.BlockStates.{window_numbered}
+use Rattle.win_index.specs.Blocks.{window_count}
 use Rattle.table_fill.specs.ProgramTables.{window_channel}
 use Rattle.win_index.specs.declared.limits.TheConstants.{BLOCK_WINDOWS}
 
@@ -15,16 +14,6 @@ share_count most windows = min most (div_ceil windows (64 * BLOCK_WINDOWS))
 -- the number of windows of the last level
 abbrev pub windows_of : ProgramForIds → ℕ
 windows_of plan = window_count plan.ids (length plan.program.steps)
-
--- the number of its blocks
-abbrev pub blocks_of : ProgramForIds → ℕ
-blocks_of plan = block_count plan.ids (length plan.program.steps)
-
--- the blocks of the last level, in order
-pub record AreLastBlocks (plan : ProgramForIds) (blocks : List (Bor MadeBlock)) : Type 0 where
-  pub count : length blocks ≡ blocks_of plan
-  pub each : (n : ℕ) (b : Bor MadeBlock) → slice_get blocks n ≡ Some b
-      → IsKeyedBlock plan (length plan.program.steps) n b.now
 
 -- the channels of the windows of the last level from number `first` on, up to number `end`
 pub record AreEntries (plan : ProgramForIds) (first end : ℕ) (entries : List ℕ) : Type 0 where

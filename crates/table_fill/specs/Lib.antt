@@ -8,10 +8,7 @@ pub mod Readers
 pub mod Laws
 pub mod ChannelRoom
 pub mod Shares
-pub mod Workers
 pub mod Faults
-pub mod Outcomes
-pub mod Filled
 pub mod Compiled
 pub mod Cells
 pub mod TableRooms

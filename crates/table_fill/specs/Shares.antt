@@ -4,7 +4,8 @@ use Rattle.std.specs.Int.{div_ceil}
 use Rattle.lang_check.specs.Plans.{ProgramForIds}
 use Rattle.win_index.specs.declared.limits.TheConstants.{BLOCK_WINDOWS}
 use Rattle.table_fill.specs.ChannelRoom.{IsChannelRoom}
-use Rattle.table_fill.specs.EntryShares.{windows_of, blocks_of, AreEntries}
+use Rattle.table_fill.specs.EntryShares.{windows_of, AreEntries}
+use Rattle.shared_memo.specs.LastBlocks.{blocks_of}
 use Rattle.table_fill.specs.declared.share.Share.{Share}
 
 -- the number of windows of the first b blocks of the last level, as far as there are so many

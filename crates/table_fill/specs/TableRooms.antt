@@ -1,7 +1,7 @@
 -- Memory to read a table. No public contract cites this file.
 use Rattle.std.specs.Prelude.{◌≡◌, length}
 use Rattle.lang_check.specs.Plans.{ProgramForIds}
-use Rattle.table_fill.specs.Workers.{HasRoom}
+use Rattle.shared_memo.specs.Workers.{HasRoom}
 use Rattle.win_index.specs.Blocks.{block_count}
 use Rattle.table_fill.specs.declared.table_room.TableRoom.{TableRoom}
 

@@ -25,7 +25,7 @@ impl<'s, 'a> CellMaker<'s, 'a> {
     ghost use Rattle.shared_memo.specs.Passes.{known, seen, memo_plan};
     ghost use Rattle.shared_memo.specs.PlanJobs.{IsKey, IsStranger};
     ghost use Rattle.shared_memo.specs.Tickets.{worker_of};
-    ghost use Rattle.table_fill.specs.Filled.{LacksBlock, HasGap};
+    ghost use Rattle.shared_memo.specs.Filled.{LacksBlock, HasGap};
     ghost use Rattle.table_fill.specs.Cells.{GoesOn, NamesLowerBlock};
 
     // Returns a maker for a worker that knows no block of the memo yet. Fails if memory was refused.

@@ -1,6 +1,6 @@
-//! The compilation of a program to its table, by workers that share a memo. They fill jobs, which they
-//! draw at one desk, each worker on a thread of its own if there are several. The entries are then read
-//! from the blocks of the last level, in shares on threads.
+//! The compilation of a program to its table, by workers that share a memo: what a worker makes for each
+//! job that it has drawn. The entries are then read from the blocks of the last level, in shares on
+//! threads.
 #![tactic(auto)]
 
 mod block_channels;
@@ -8,12 +8,10 @@ mod cell_maker;
 mod entry_columns;
 mod fault;
 mod filling;
-mod jobs;
 mod laws;
-mod looks;
 mod memo_fill;
 mod own_reader;
-mod pool;
+mod program_windows;
 mod reading;
 mod share;
 mod shares;
@@ -22,8 +20,7 @@ mod table_room;
 pub use channel_tables::{Table, TableMaker};
 pub use fault::FillFault;
 pub use filling::compile;
-pub use jobs::Jobs;
 pub use laws::{
     program_tables_are_tables, table_has_the_channels_of_rounds, table_has_the_channels_of_windows,
 };
-pub use pool::fill_by_workers;
+pub use program_windows::ProgramWindows;

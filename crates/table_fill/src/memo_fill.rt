@@ -3,12 +3,11 @@
 ghost use Rattle.std.specs.Prelude.{◌≡◌};
 ghost use Rattle.shared_memo.specs.Passes.{known, memo_plan, IsPassOf};
 ghost use Rattle.shared_memo.specs.PlanJobs.{job_count};
-ghost use Rattle.table_fill.specs.Filled.{AreKnown};
+ghost use Rattle.shared_memo.specs.Filled.{AreKnown};
 
-use crate::Jobs;
 use crate::cell_maker::CellMaker;
 use round_eval::{Gate, WorkFault};
-use shared_memo::{Desk, Memo, Pass, Ticket};
+use shared_memo::{Desk, Jobs, Memo, Pass, Ticket};
 use std::alloc::Global;
 use unroll::Code;
 use win_index::jobs_have_numbers;

@@ -38,7 +38,8 @@ impl<'c, 'p> Model for EntryReader<'c, 'p> {
 
 impl<'c, 'p> EntryReader<'c, 'p> {
     ghost use Rattle.std.specs.Prelude.{◌≡◌, ◌<◌, ◌≤◌, IfOk};
-    ghost use Rattle.table_fill.specs.EntryShares.{windows_of, AreLastBlocks, share_count};
+    ghost use Rattle.table_fill.specs.EntryShares.{windows_of, share_count};
+    ghost use Rattle.shared_memo.specs.LastBlocks.{AreLastBlocks};
     ghost use Rattle.table_fill.specs.ProgramTables.{table_of};
 
     // Allocates memory to read the table of a plan in one share for each 64 blocks that are begun,

@@ -21,7 +21,7 @@ pub(crate) struct Share {
 impl Share {
     ghost use Rattle.std.specs.Prelude.{◌≡◌, ◌≤◌, vec_len, vec_capacity, IfOk};
     ghost use Rattle.table_fill.specs.ChannelRoom.{IsChannelRoom};
-    ghost use Rattle.table_fill.specs.EntryShares.{AreLastBlocks};
+    ghost use Rattle.shared_memo.specs.LastBlocks.{AreLastBlocks};
     ghost use Rattle.table_fill.specs.Shares.{HasRead, IsReady};
 
     // Allocates a share of the blocks from `first` up to `end`, with capacity for `capacity`

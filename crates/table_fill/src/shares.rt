@@ -1,7 +1,8 @@
 //! The shares of the entries of a table, each of which a thread reads.
 
 ghost use Rattle.std.specs.Prelude.{◌≡◌, ◌-◌, ◌<◌, ◌≤◌, length, vec_len, All, IfOk};
-ghost use Rattle.table_fill.specs.EntryShares.{windows_of, AreLastBlocks, AreEntries};
+ghost use Rattle.table_fill.specs.EntryShares.{windows_of, AreEntries};
+ghost use Rattle.shared_memo.specs.LastBlocks.{AreLastBlocks};
 ghost use Rattle.table_fill.specs.Shares.{AllRead, AreReadFrom, AreShares, IsReady};
 
 use crate::share::Share;

@@ -1,11 +1,10 @@
 //! Memory to read a table.
 
-use crate::looks::{empty_blocks, last_blocks, look_below};
 use crate::reading::EntryReader;
 use channel_tables::Table;
 use node_program::OutOfMemory;
 use round_eval::Block;
-use shared_memo::{Memo, Pass};
+use shared_memo::{Memo, Pass, empty_blocks, last_blocks, look_below};
 use std::alloc::Global;
 use std::thread::Threads;
 use unroll::Code;
@@ -22,7 +21,7 @@ impl<'s, 'a> TableRoom<'s, 'a> {
     ghost use Rattle.std.specs.Prelude.{◌≡◌, ◌<◌, IfOk, MatchOption};
     ghost use Rattle.shared_memo.specs.Passes.{known, memo_plan, IsPassOf};
     ghost use Rattle.table_fill.specs.ProgramTables.{table_of};
-    ghost use Rattle.table_fill.specs.Filled.{HasLearned, HasGap, KnowsAll};
+    ghost use Rattle.shared_memo.specs.Filled.{HasLearned, HasGap, KnowsAll};
     ghost use Rattle.table_fill.specs.TableRooms.{IsRoomFor};
 
     // Allocates room for the table of a memo's plan, which at most `shares` shares read.

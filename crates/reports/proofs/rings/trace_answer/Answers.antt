@@ -1,7 +1,7 @@
 use Rattle.std.proofs.Common.{length}
 use Rattle.reports.specs.Report.{Says}
 use Rattle.reports.specs.declared.status.Status.TheVariants.{Done}
-use Rattle.reports.specs.Trace.{trace_lines}
+use Rattle.value_trees.specs.Trace.{trace_lines}
 use Rattle.reports.proofs.NotRing.{no_ring_reported}
 use Rattle.reports.proofs.rings.trace_answer.Goals as goal
 

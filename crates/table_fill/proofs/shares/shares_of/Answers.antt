@@ -1,7 +1,7 @@
 use Rattle.std.proofs.Common.{rules, ◌≡◌, ℕ, ◌+◌, ◌-◌, ◌*◌, ◌<◌, ◌≤◌, min, Some, length, subst, sym, ◌∙◌, ap, arith}
 use Rattle.std.specs.Prelude.{slice_get}
 use Rattle.std.proofs.Math.Nat.{mul-add, mul-one, mul-zero}
-use Rattle.table_fill.specs.EntryShares.{blocks_of}
+use Rattle.shared_memo.specs.LastBlocks.{blocks_of}
 use Rattle.table_fill.specs.Shares.{share_blocks, IsShareAt}
 use Rattle.table_fill.specs.declared.share.Share.{Share}
 use Rattle.win_index.proofs.Kept.{each_snoc}

@@ -1,6 +1,6 @@
 use Rattle.std.proofs.Common.{◌≡◌, ℕ, ◌*◌, ◌≤◌, Some, length, min, vec_capacity}
 use Rattle.std.specs.Prelude.{slice_get}
-use Rattle.table_fill.specs.EntryShares.{blocks_of}
+use Rattle.shared_memo.specs.LastBlocks.{blocks_of}
 use Rattle.table_fill.specs.Shares.{share_blocks, IsShareAt}
 use Rattle.table_fill.specs.declared.share.Share.{Share}
 use Rattle.table_fill.proofs.shares.shares_of.Given as goal

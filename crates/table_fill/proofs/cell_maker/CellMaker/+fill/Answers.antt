@@ -1,5 +1,5 @@
 use Rattle.std.proofs.Common.{rules}
-use Rattle.table_fill.specs.Filled.{LacksBlock, HasGap}
+use Rattle.shared_memo.specs.Filled.{LacksBlock, HasGap}
 use Rattle.table_fill.proofs.cell_maker.CellMaker.+fill.Goals as goal
 
 pub returns-in_err-finds-clause-gap : goal.returns-in_err-finds-clause-gap

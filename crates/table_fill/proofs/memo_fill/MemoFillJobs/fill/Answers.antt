@@ -8,7 +8,7 @@ use Rattle.win_index.specs.Jobs.{jobs_of}
 use Rattle.win_index.specs.Laws.{JobsStandAtNumbers}
 use Rattle.shared_memo.specs.PlanJobs.{job_of}
 use Rattle.unroll.proofs.Known.{still_known}
-use Rattle.table_fill.specs.Filled.{AreKnown}
+use Rattle.shared_memo.specs.Filled.{AreKnown}
 use Rattle.shared_memo.specs.Passes.{known}
 use Rattle.shared_memo.specs.Tickets.{drawn}
 use Rattle.table_fill.proofs.memo_fill.MemoFillJobs.fill.Goals as goal

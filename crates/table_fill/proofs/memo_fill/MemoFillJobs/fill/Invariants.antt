@@ -1,7 +1,7 @@
 use Rattle.std.proofs.Common.{◌≡◌, ◌-◌, length}
 use Rattle.shared_memo.specs.Passes.{known}
 use Rattle.shared_memo.specs.Tickets.{drawn, told, worker_of, IsTicketOf}
-use Rattle.table_fill.specs.Filled.{AreKnown}
+use Rattle.shared_memo.specs.Filled.{AreKnown}
 use Rattle.table_fill.proofs.memo_fill.MemoFillJobs.fill.Given as goal
 
 abbrev pub invariant-loop-job : goal.invariant-loop-job

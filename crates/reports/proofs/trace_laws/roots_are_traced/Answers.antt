@@ -1,9 +1,0 @@
-use Rattle.reports.proofs.PartLines.{trees_show}
-use Rattle.reports.proofs.Roots.{sent}
-use Rattle.reports.proofs.trace_laws.roots_are_traced.Goals as goal
-
-pub returns-clause-trees : goal.returns-clause-trees
-returns-clause-trees c = trees_show
-
-pub returns-clause-sent : goal.returns-clause-sent
-returns-clause-sent c = sent

@@ -1,0 +1,12 @@
+//! A ring on one thread: its trace, and how one of its places computes, with each expression of a
+//! program as a tree that has the value of every part that counts.
+#![tactic(auto)]
+
+mod explanation;
+mod laws;
+mod trace;
+mod tree;
+
+pub use explanation::explanation_text;
+pub use laws::{explanations_show_traces, roots_are_traced};
+pub use trace::trace_text;
