@@ -4,7 +4,7 @@ use Rattle.std.specs.Prelude.{Option}
 use mathlib.Core.Logic.{dite}
 use native.Mathlib.Decide.{ℕ_discrete}
 use Rattle.std.proofs.lemmas.Bool.{cases_lt}
-use Rattle.std.proofs.lemmas.List.{get_or-map, map-set, length-map}
+use Rattle.std.proofs.lemmas.List.{get_or-map, get_or_past, map-set, length-map}
 use Rattle.std.proofs.Math.Seq.{map-set_same}
 use Rattle.std.proofs.lemmas.Option.{some_pair_parts, same_Some}
 use Rattle.win_index.specs.Laws.{JobsStandAtNumbers}
@@ -16,7 +16,7 @@ use Rattle.shared_memo.specs.declared.memo.Installed.TheVariants.{Fresh, Stood}
 use Rattle.once_cell.specs.Once.{cell_name}
 use Rattle.once_cell.specs.declared.race.once_box.OnceBox.{OnceBox}
 use Rattle.shared_memo.specs.PlanJobs.{job_of, IsKeyedBlock}
-use Rattle.shared_memo.specs.Known.{known_of, known_in, of_job, known_by, IsPut, KnowsBoth, IsBlockOf, AllInPlace, cells_of}
+use Rattle.shared_memo.specs.Known.{known_of, look_of, known_in, look_in, of_job, known_by, IsPut, KnowsBoth, IsBlockOf, AllInPlace, cells_of}
 use Rattle.shared_memo.specs.Passes.{LearnsAt, IsInstalled}
 
 -- the entry at an index
@@ -24,35 +24,43 @@ abbrev pub IsAt : List Entry → ℕ → Entry → Type 0
 IsAt es at e = (at < length es) × (e ≡ get_or es at e)
 
 -- what f gives of the entry at an index, and of one that is put there
-pub item_here : (f : Entry → Option MadeBlock) (es : List Entry) (at : ℕ) (e : Entry) → IsAt es at e → of_job f es (Some at) ≡ f e
+pub item_here : {X : Type 0} (f : Entry → Option X) (es : List Entry) (at : ℕ) (e : Entry) → IsAt es at e → of_job f es (Some at) ≡ f e
 item_here f es at e here = get_or-map f es at e None here.0 ∙ ap f (sym here.1)
 
-pub item_put : (f : Entry → Option MadeBlock) (es : List Entry) (at : ℕ) (e : Entry) → at < length es → of_job f (set es at e) (Some at) ≡ f e
+pub item_put : {X : Type 0} (f : Entry → Option X) (es : List Entry) (at : ℕ) (e : Entry) → at < length es → of_job f (set es at e) (Some at) ≡ f e
 item_put f es at e lt = item_here f (set es at e) at e (omega (arith, length-set es at e), sym (get_or-set_same es at e e lt))
 
--- what holds of the blocks known for a job before and after an entry is put in place of another: of what these two know if
--- the job is theirs, and of the same otherwise
+-- what holds of what f gives for a job before and after an entry is put in place of another: of what f gives of these two
+-- if the job is theirs, and of the same otherwise
 pub after_put :
-    (P : Option MadeBlock → Option MadeBlock → Type 0) (es : List Entry) (at : ℕ) (d e : Entry) → IsAt es at d → (o : Option ℕ)
-    → (o ≡ Some at → P (known_of d) (known_of e)) → ((x : Option MadeBlock) → (o ≡ Some at → ⊥) → P x x)
-    → P (of_job known_of es o) (of_job known_of (set es at e) o)
-after_put P es at d e here None this others = others None (λ none. cc)
-after_put P es at d e here (Some k) this others =
+    {X : Type 0} (f : Entry → Option X) (P : Option X → Option X → Type 0) (es : List Entry) (at : ℕ) (d e : Entry) → IsAt es at d → (o : Option ℕ)
+    → (o ≡ Some at → P (f d) (f e)) → ((x : Option X) → (o ≡ Some at → ⊥) → P x x)
+    → P (of_job f es o) (of_job f (set es at e) o)
+after_put f P es at d e here None this others = others None (λ none. cc)
+after_put f P es at d e here (Some k) this others =
     dite (ℕ_discrete k at)
-    (λ same. rw (same, item_here known_of es at d here, item_put known_of es at e here.0) (this (ap Some same)))
-    (λ apart. rw (map-set known_of es at e, get_or-set_other (map known_of es) at k (known_of e) None apart)
-    (others (known_in es k) (λ same. apart (same_Some k at same))))
+    (λ same. rw (same, item_here f es at d here, item_put f es at e here.0) (this (ap Some same)))
+    (λ apart. rw (map-set f es at e, get_or-set_other (map f es) at k (f e) None apart)
+    (others (of_job f es (Some k)) (λ same. apart (same_Some k at same))))
 
 pub keeps_put :
     (p : ProgramForIds) (es : List Entry) (at : ℕ) (d e : Entry) → IsAt es at d → AllInPlace p es
     → ((b : MadeBlock) → known_of e ≡ Some b → IsBlockOf p at b) → AllInPlace p (set es at e)
 keeps_put p es at d e here keeps right = λ k.
-    after_put (λ old new. ((b : MadeBlock) → old ≡ Some b → IsBlockOf p k b) → (b : MadeBlock) → new ≡ Some b → IsBlockOf p k b)
+    after_put known_of (λ old new. ((b : MadeBlock) → old ≡ Some b → IsBlockOf p k b) → (b : MadeBlock) → new ≡ Some b → IsBlockOf p k b)
     es at d e here (Some k) (λ same before b is. rw (same_Some k at same) (right b is)) (λ x apart before. before) (keeps k)
 
 pub same_put :
-    (es : List Entry) (at : ℕ) (d e : Entry) → IsAt es at d → known_of e ≡ known_of d → (o : Option ℕ) → of_job known_of (set es at e) o ≡ of_job known_of es o
-same_put es at d e here same o = after_put (λ old new. new ≡ old) es at d e here o (λ at. same) (λ x apart. refl)
+    {X : Type 0} (f : Entry → Option X) (es : List Entry) (at : ℕ) (d e : Entry) → IsAt es at d → f e ≡ f d → (o : Option ℕ)
+    → of_job f (set es at e) o ≡ of_job f es o
+same_put f es at d e here same o = after_put f (λ old new. new ≡ old) es at d e here o (λ at. same) (λ x apart. refl)
+
+-- a job of which f gives something has an entry
+pub job_within : {X : Type 0} (f : Entry → Option X) (es : List Entry) (job : ℕ) (x : X) → of_job f es (Some job) ≡ Some x → job < length es
+job_within f es job x is =
+    ⊎_elim (λ (below : job < length es). below)
+    (λ (past : length es ≤ job). absurd (let none = get_or_past (map f es) job None (omega (arith, past, length-map es f)) in cc))
+    (cases_lt job (length es))
 
 -- two keys with the same job are equal
 one_key :
@@ -68,8 +76,8 @@ pub learns_put :
     → IsAt es at d → ((b : MadeBlock) → known_of d ≡ Some b → known_of e ≡ Some b) → LearnsAt level number (known_by q es) (known_by q (set es at e))
 learns_put q es level number at d e law job here kept =
     record {
-      kept = λ l n. after_put (λ old new. (b : MadeBlock) → old ≡ Some b → new ≡ Some b) es at d e here (job_of q l n) (λ at. kept) (λ x apart b is. is);
-      only = λ l n. after_put (λ old new. (b : MadeBlock) → new ≡ Some b → ((l ≡ level) × (n ≡ number)) ⊎ (old ≡ Some b)) es at d e here
+      kept = λ l n. after_put known_of (λ old new. (b : MadeBlock) → old ≡ Some b → new ≡ Some b) es at d e here (job_of q l n) (λ at. kept) (λ x apart b is. is);
+      only = λ l n. after_put known_of (λ old new. (b : MadeBlock) → new ≡ Some b → ((l ≡ level) × (n ≡ number)) ⊎ (old ≡ Some b)) es at d e here
           (job_of q l n) (λ there b is. inl (one_key q level number l n at law job there)) (λ x apart b is. inr is);
     }
 
@@ -84,7 +92,7 @@ pub is_installed :
     (q : ProgramForIds) (es : List Entry) (at : ℕ) (d e : Entry) (b : MadeBlock) (r : Installed) → IsAt es at d → job_of q b.level b.number ≡ Some at
     → IsPut b (known_of d) (known_of e) r → IsInstalled b (known_by q es) (known_by q (set es at e)) r
 is_installed q es at d e b Fresh here job put = (rw job (item_here known_of es at d here ∙ put.0), rw job (item_put known_of es at e here.0 ∙ put.1))
-is_installed q es at d e b (Stood back) here job put = (put.0, λ l n. same_put es at d e here put.1 (job_of q l n))
+is_installed q es at d e b (Stood back) here job put = (put.0, λ l n. same_put known_of es at d e here put.1 (job_of q l n))
 
 abbrev Cell : Type 0
 Cell = OnceBox MadeBlock
@@ -116,7 +124,7 @@ pub joined_more :
     → KnowsBoth (known_of d) (known_of f) (known_of e) → ((k : ℕ) → JoinedBelow at k (F k) (G k) (known_in es k))
     → (k : ℕ) → JoinedBelow (at + 1) k (F k) (G k) (known_in (set es at e) k)
 joined_more es fs at d f e F G here there same both before = λ k.
-    after_put (λ old new. JoinedBelow at k (F k) (G k) old → JoinedBelow (at + 1) k (F k) (G k) new) es at d e here (Some k)
+    after_put known_of (λ old new. JoinedBelow at k (F k) (G k) old → JoinedBelow (at + 1) k (F k) (G k) new) es at d e here (Some k)
     (λ this was.
     let is : k ≡ at = same_Some k at this in
     let first : known_of d ≡ F at = sym (item_here known_of es at d here) ∙ (before at).left (omega arith) in
@@ -127,3 +135,16 @@ joined_more es fs at d f e F G here there same both before = λ k.
       left = λ le. was.left (omega arith);
     })
     (before k)
+
+-- the block that a last look found at a job, after the entries of the jobs before `at` learned what others know
+pub found_more :
+    (es fs : List Entry) (at : ℕ) (d f e : Entry) (G : ℕ → Option (Option MadeBlock)) → IsAt es at d → IsAt fs at f
+    → ((k : ℕ) → look_in fs k ≡ G k)
+    → ((b : MadeBlock) → look_of f ≡ Some (Some b) → look_of e ≡ Some (Some b))
+    → ((k : ℕ) (b : MadeBlock) → k < at → G k ≡ Some (Some b) → look_in es k ≡ Some (Some b))
+    → (k : ℕ) (b : MadeBlock) → k < at + 1 → G k ≡ Some (Some b) → look_in (set es at e) k ≡ Some (Some b)
+found_more es fs at d f e G here there same own before = λ k b lt found.
+    after_put look_of (λ old new. (k < at → old ≡ Some (Some b)) → new ≡ Some (Some b)) es at d e here (Some k)
+    (λ this was. own b (sym (item_here look_of fs at f there) ∙ same at ∙ ap G (sym (same_Some k at this)) ∙ found))
+    (λ x apart was. ⊎_elim (λ (below : k < at). was below) (λ (le : at ≤ k). absurd (apart (let is : k ≡ at = omega arith in ap Some is))) (cases_lt k at))
+    (λ below. before k b below found)

@@ -1,83 +1,114 @@
 //! A pool of workers, on threads of their own.
 
-ghost use Rattle.std.specs.Prelude.{◌≡◌, ◌<◌, ◌≤◌, ◌↔◌, Ok, Err, IsOk, IfOk, IfSome, MatchOption, MatchResult, IsTrue, vec_len};
+ghost use Rattle.std.specs.Prelude.{◌≡◌, ◌<◌, ◌≤◌, ◌^◌, ◌↔◌, All, IfOk, IfSome, IsErrOf, IsTrue, vec_len};
 ghost use Rattle.shared_memo.specs.Tickets.{worker_of, numbers_of, IsFreshTicketOf, AreFreshTickets, AreNumbered};
 ghost use Rattle.shared_memo.specs.Workers.{HasRoom, IsWorkerCount};
-ghost use Rattle.shared_memo.specs.Outcomes.{outcome_worker, AreOutcomes, IsLowestFault, CameTo, IsFaultOf};
+ghost use Rattle.shared_memo.specs.Outcomes.{outcome_worker, IsOutcome, AreOutcomes, IsAnswerOf};
+ghost use Rattle.shared_memo.specs.Pools.{IsRoomFor};
 
 use crate::desk::{Desk, Ticket};
+use crate::job_fault::{JobFault, StartFault};
 use crate::worker_jobs::{Jobs, WorkerOutcome};
-use round_eval::{Gate, ThreadFault, WorkFault};
-use std::alloc::{AllocError, Global};
+use node_program::OutOfMemory;
+use round_eval::Gate;
+use std::alloc::Global;
+use std::snapshot::Snapshot;
 use std::sync::Wait;
 use std::thread;
 use std::thread::{Promise, PromisedHandle, Scope, Threads};
 
-// The promise that a thread returns the outcome of the worker with this number.
-#[derive(Clone, Copy)]
-struct OutcomeOf(u32);
+// The promise that a thread returns an outcome of these jobs, of the worker with this number.
+#[derive(Drop)]
+struct OutcomeOf<J> {
+    jobs: Snapshot<J>,
+    worker: u32,
+}
 
-impl Promise<WorkerOutcome> for OutcomeOf {
-    ghost kept_by = { λ promise outcome. outcome_worker outcome ≡ promise.0 };
+impl<J: Jobs> Promise<WorkerOutcome<J::Known>> for OutcomeOf<J> {
+    ghost kept_by = { λ promise outcome. (outcome_worker outcome ≡ promise.worker)
+        × IsOutcome (J.HasFilled promise.jobs.value) (J.HasMetStranger promise.jobs.value) outcome };
 }
 
 // A worker's thread.
-type Handle = PromisedHandle<WorkerOutcome, OutcomeOf>;
+type Handle<J> = PromisedHandle<WorkerOutcome<<J as Jobs>::Known>, OutcomeOf<J>>;
 
-/// Fills jobs with `workers` workers, 1 to `MAX_THREADS`, that draw them at one desk. A single
-/// worker runs on the calling thread, and what it knows then is returned; several run on a thread
-/// each. No worker has a fault then, and each was told that all jobs are drawn.
+/// Lets `workers` workers, 1 to `MAX_THREADS`, fill jobs that they draw at one desk, and returns the
+/// outcome of each, in the order of their numbers. A single worker runs on the calling thread;
+/// several run on a thread each.
 ///
-/// Fails with `NoThread` if the start of a thread was refused, else with the fault of the lowest
-/// worker that has one. All workers that were started have ended before the call returns. Memory of
-/// the caller's own is allocated before the first start.
+/// Fails with `OutOfMemory` if memory of the caller's own was refused, which is allocated before the
+/// first start, and with `NoThread` if the start of a thread was refused, which a single worker does
+/// not need. All workers that were started have ended before the call returns.
 pub fn fill_by_workers<R: Threads + Wait + Sync, J: Jobs + Sync, G: Gate + Sync>(
     rt: &R,
     alloc: Global,
     jobs: &J,
     workers: u32,
     gate: &G,
-) -> Result<Option<J::Known>, ThreadFault>
+) -> Result<Vec<WorkerOutcome<J::Known>>, StartFault>
     requires { IsWorkerCount workers }
-    ensures one { IfOk result (λ known. MatchOption known (1 < workers) (λ _. workers ≡ 1)) }
-    ensures known { IfOk result (λ known. IfSome known (J.IsKnown jobs.now)) }
-    ensures ended { MatchResult result (λ _. CameTo workers (Ok tt)) (IsFaultOf workers) }
+    ensures outcomes { IfOk result (λ outcomes. AreOutcomes (J.HasFilled jobs.now) (J.HasMetStranger jobs.now) workers outcomes.items) }
+    ensures alone { IsErrOf result StartFault.NoThread → 1 < workers }
 {
-    let (desk, mut tickets) = Desk::new(alloc, jobs.count(), workers)?;
+    let room = Room::new(alloc, jobs.count(), workers)?;
     if workers > 1 {
-        let room = Room::new(alloc, workers)?;
-        let draws = Draws {
-            desk: &desk,
-            tickets,
-        };
-        let Some(outcomes) = run_all(rt, alloc, jobs, draws, room, gate) else {
-            return Err(ThreadFault::NoThread);
-        };
-        lowest_fault(&outcomes)?;
-        return Ok(None);
+        run_all(rt, alloc, jobs, room, gate).ok_or(StartFault::NoThread)
+    } else {
+        Ok(run_alone(alloc, jobs, room, gate))
     }
+}
+
+// A desk with a fresh ticket for each worker, and empty lists with capacity for their threads and
+// their outcomes.
+#[derive(Drop)]
+struct Room<H, K> {
+    desk: Desk,
+    tickets: Vec<Ticket>,
+    handles: Vec<H>,
+    outcomes: Vec<WorkerOutcome<K>>,
+}
+
+impl<H: Drop, K: Drop> Room<H, K> {
+    // Allocates room for this many workers, which draw as many numbers. Fails if memory was refused.
+    fn new(alloc: Global, numbers: u32, workers: u32) -> Result<Room<H, K>, OutOfMemory>
+        requires workers { IsWorkerCount workers }
+        requires numbers { numbers ≤ 2 ^ 24 }
+        ensures { IfOk result (IsRoomFor numbers workers) }
+    {
+        let (desk, tickets) = Desk::new(alloc, numbers, workers)?;
+        let handles = Vec::with_capacity(alloc, workers as usize)?;
+        let outcomes = Vec::with_capacity(alloc, workers as usize)?;
+        Ok(Room {
+            desk,
+            tickets,
+            handles,
+            outcomes,
+        })
+    }
+}
+
+// Runs the only worker on this thread, and returns its outcome in a list.
+fn run_alone<J: Jobs, G: Gate, H: Drop>(
+    alloc: Global,
+    jobs: &J,
+    room: Room<H, J::Known>,
+    gate: &G,
+) -> Vec<WorkerOutcome<J::Known>>
+    requires { IsRoomFor (J.jobs jobs.now) 1 room }
+    ensures { AreOutcomes (J.HasFilled jobs.now) (J.HasMetStranger jobs.now) 1 result.items }
+{
+    let Room {
+        desk,
+        mut tickets,
+        handles: _,
+        mut outcomes,
+    } = room;
     let Some(mut ticket) = tickets.pop() else {
         unreachable!()
     };
-    Ok(Some(jobs.fill(alloc, &desk, &mut ticket, gate)?))
-}
-
-// Empty lists with capacity for the threads of workers and for their outcomes.
-#[derive(Drop)]
-struct Room {
-    handles: Vec<Handle>,
-    outcomes: Vec<WorkerOutcome>,
-}
-
-impl Room {
-    // Allocates room for this many workers.
-    fn new(alloc: Global, workers: u32) -> Result<Room, AllocError>
-        ensures { IfOk result (λ room. HasRoom workers room.handles × HasRoom workers room.outcomes) }
-    {
-        let handles = Vec::with_capacity(alloc, workers as usize)?;
-        let outcomes = Vec::with_capacity(alloc, workers as usize)?;
-        Ok(Room { handles, outcomes })
-    }
+    let answer = jobs.fill(alloc, &desk, &mut ticket, gate);
+    outcomes.push_reserved(WorkerOutcome { ticket, answer });
+    outcomes
 }
 
 // A desk, and tickets of it that have drawn nothing, one for each worker.
@@ -87,36 +118,38 @@ struct Draws<'d> {
     tickets: Vec<Ticket>,
 }
 
-// Runs a worker for each ticket on a thread of its own, until all have ended. Returns what they came
-// to, or `None` if the start of a thread was refused.
+// Runs workers on a thread each, until all have ended. Returns their outcomes, or `None` if the start
+// of a thread was refused.
 fn run_all<R: Threads + Wait + Sync, J: Jobs + Sync, G: Gate + Sync>(
     rt: &R,
     alloc: Global,
     jobs: &J,
-    draws: Draws<'_>,
-    room: Room,
+    room: Room<Handle<J>, J::Known>,
     gate: &G,
-) -> Option<Vec<WorkerOutcome>>
-    requires tickets { AreFreshTickets draws.desk.now draws.tickets.items }
-    requires jobs { numbers_of draws.desk.now ≡ J.jobs jobs.now }
-    requires room { HasRoom (vec_len draws.tickets) room.handles × HasRoom (vec_len draws.tickets) room.outcomes }
-    ensures { IfSome result (λ outcomes. AreOutcomes (vec_len draws.entry.tickets) outcomes.items) }
+) -> Option<Vec<WorkerOutcome<J::Known>>>
+    requires { IsRoomFor (J.jobs jobs.now) (vec_len room.tickets) room }
+    ensures { IfSome result (λ outcomes. AreOutcomes (J.HasFilled jobs.now) (J.HasMetStranger jobs.now) (vec_len room.tickets) outcomes.items) }
 {
-    let Draws { desk, tickets } = draws;
-    let Room { handles, outcomes } = room;
+    let Room {
+        desk,
+        tickets,
+        handles,
+        outcomes,
+    } = room;
+    let desk = &desk;
     thread::scope(
         thread::scope_env(),
         rt,
-        |scope| -> Option<Vec<WorkerOutcome>>
+        |scope| -> Option<Vec<WorkerOutcome<J::Known>>>
             requires tickets { AreFreshTickets desk.now tickets.items }
             requires jobs { numbers_of desk.now ≡ J.jobs jobs.now }
             requires handles { HasRoom (vec_len tickets) handles }
             requires outcomes { HasRoom (vec_len tickets) outcomes }
-            ensures { IfSome result (λ outcomes. AreOutcomes (vec_len tickets) outcomes.items) }
+            ensures { IfSome result (λ outcomes. AreOutcomes (J.HasFilled jobs.entry.now) (J.HasMetStranger jobs.entry.now) (vec_len tickets) outcomes.items) }
         {
             let draws = Draws { desk, tickets };
             let (handles, all_started) = start_all(scope, alloc, jobs, draws, handles, gate);
-            let outcomes = join_all(rt, handles, outcomes);
+            let outcomes = join_all(rt, jobs, handles, outcomes);
             if all_started { Some(outcomes) } else { None }
         },
     )
@@ -129,24 +162,28 @@ fn start_all<'s, 'd: 's, E, J: Jobs + Sync + 's, G: Gate + Sync + 's>(
     alloc: Global,
     jobs: &'d J,
     draws: Draws<'d>,
-    mut handles: Vec<Handle>,
+    mut handles: Vec<Handle<J>>,
     gate: &'d G,
-) -> (Vec<Handle>, bool)
+) -> (Vec<Handle<J>>, bool)
     requires tickets { AreFreshTickets draws.desk.now draws.tickets.items }
     requires jobs { numbers_of draws.desk.now ≡ J.jobs jobs.now }
     requires handles { HasRoom (vec_len draws.tickets) handles }
-    ensures workers { AreNumbered result.0.items (λ handle. handle.promise.0) }
+    ensures workers { AreNumbered result.0.items (λ handle. handle.promise.worker) }
+    ensures jobs { All (λ handle. handle.promise.jobs.value ≡ jobs.now) result.0.items }
     ensures started { (vec_len result.0 ≤ vec_len draws.entry.tickets)
         × (IsTrue result.1 ↔ (vec_len result.0 ≡ vec_len draws.entry.tickets)) }
 {
     let Draws { desk, tickets } = draws;
     for ticket in tickets {
-        let promise = OutcomeOf(ticket.worker());
-        let worker = move || -> WorkerOutcome
+        let promise = OutcomeOf {
+            jobs: Snapshot::of(jobs),
+            worker: ticket.worker(),
+        };
+        let worker = move || -> WorkerOutcome<J::Known>
             requires { IsFreshTicketOf desk.now ticket × (numbers_of desk.now ≡ J.jobs jobs.now) }
         {
             let mut ticket = ticket;
-            let answer = answer_of(jobs.fill(alloc, desk, &mut ticket, gate));
+            let answer = jobs.fill(alloc, desk, &mut ticket, gate);
             WorkerOutcome { ticket, answer }
         };
         let Ok(handle) = scope.spawn_with(promise, worker) else {
@@ -157,25 +194,17 @@ fn start_all<'s, 'd: 's, E, J: Jobs + Sync + 's, G: Gate + Sync + 's>(
     (handles, true)
 }
 
-// Returns the fault of a worker, if it has one, without what it knows.
-fn answer_of<K: Drop>(filled: Result<K, WorkFault>) -> Result<(), WorkFault>
-    ensures { MatchResult filled (λ _. IsOk result) (λ fault. result ≡ Err fault) }
-{
-    match filled {
-        Ok(_known) => Ok(()),
-        Err(fault) => Err(fault),
-    }
-}
-
-// Joins the threads in order, and appends what their workers came to.
-fn join_all<R: Threads>(
+// Joins the threads in order, and appends the outcomes of their workers.
+fn join_all<R: Threads, J: Jobs>(
     rt: &R,
-    handles: Vec<Handle>,
-    mut outcomes: Vec<WorkerOutcome>,
-) -> Vec<WorkerOutcome>
-    requires workers { AreNumbered handles.items (λ handle. handle.promise.0) }
+    _jobs: &J,
+    handles: Vec<Handle<J>>,
+    mut outcomes: Vec<WorkerOutcome<J::Known>>,
+) -> Vec<WorkerOutcome<J::Known>>
+    requires workers { AreNumbered handles.items (λ handle. handle.promise.worker) }
+    requires jobs { All (λ handle. handle.promise.jobs.value ≡ _jobs.now) handles.items }
     requires outcomes { HasRoom (vec_len handles) outcomes }
-    ensures { AreOutcomes (vec_len handles) result.items }
+    ensures { AreOutcomes (J.HasFilled _jobs.now) (J.HasMetStranger _jobs.now) (vec_len handles) result.items }
 {
     for handle in handles {
         outcomes.push_reserved(handle.join(rt));
@@ -183,15 +212,19 @@ fn join_all<R: Threads>(
     outcomes
 }
 
-// Returns the fault of the lowest worker that has one.
-fn lowest_fault(outcomes: &[WorkerOutcome]) -> Result<(), WorkFault>
-    requires { AreNumbered outcomes.now outcome_worker }
-    ensures { IsLowestFault outcomes.now result }
+/// Returns what one of the workers knows, if there is one, or the fault of the lowest worker that has
+/// one. The outcomes are in the order of the workers' numbers.
+pub fn answer_of<K: Drop>(outcomes: Vec<WorkerOutcome<K>>) -> Result<Option<K>, JobFault<K>>
+    requires { AreNumbered outcomes.items outcome_worker }
+    ensures { IsAnswerOf outcomes.items result }
 {
+    let mut last = None;
     for outcome in outcomes {
-        if let Err(fault) = outcome.answer {
-            return Err(fault);
+        let WorkerOutcome { ticket: _, answer } = outcome;
+        match answer {
+            Ok(known) => last = Some(known),
+            Err(fault) => return Err(fault),
         }
     }
-    Ok(())
+    Ok(last)
 }

@@ -2,3 +2,4 @@
 pub mod Programs
 pub mod JoinedEntries
 pub mod SharedFill
+pub mod Unknown

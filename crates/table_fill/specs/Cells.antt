@@ -1,7 +1,7 @@
 -- A worker's view of the cells of a memo, before and after a call, and a block that it misses. No public contract cites
 -- this file.
-use Rattle.std.specs.Prelude.{◌≡◌, ℕ, ◌<◌}
-use Rattle.round_eval.specs.Entries.{Grows}
+use Rattle.std.specs.Prelude.{◌≡◌, ℕ, ◌<◌, None}
+use Rattle.round_eval.specs.Entries.{Entries, Grows}
 use Rattle.shared_memo.specs.Passes.{known}
 use Rattle.table_fill.specs.declared.cell_maker.CellMaker.{CellMaker}
 use Rattle.lang_check.specs.Plans.{ProgramForIds}
@@ -15,7 +15,7 @@ pub record GoesOn (old new : CellMaker) : Type 0 where
   pub same_plan : new.reader.pass.plan.now ≡ old.reader.pass.plan.now
   pub grows : Grows (known old.reader.pass) (known new.reader.pass)
 
--- if the fault names a block, it is a block of the plan of a lower level
-abbrev pub NamesLowerBlock : ProgramForIds → ℕ → MakeFault → Type 0
-NamesLowerBlock plan level (Missing low number) = (low < level) × IsKey plan low number
-NamesLowerBlock plan level OutOfMemory = Unit {0}
+-- if the fault names a block, it is a block of the plan of a lower level, which is not known
+abbrev pub NamesUnknownBelow : ProgramForIds → Entries → ℕ → MakeFault → Type 0
+NamesUnknownBelow plan entries level (Missing low number) = (low < level) × IsKey plan low number × (entries low number ≡ None)
+NamesUnknownBelow plan entries level OutOfMemory = Unit {0}

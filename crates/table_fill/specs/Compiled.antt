@@ -1,5 +1,5 @@
 -- What a compilation returns: a table, or a fault.
-use Rattle.std.specs.Prelude.{◌≡◌, ℕ, ◌<◌, ◌⊎◌, List, length, Some, Err}
+use Rattle.std.specs.Prelude.{◌≡◌, ℕ, ◌<◌, List, length, Some}
 use Rattle.node_program.specs.GlobalRounds.{channel_at}
 use Rattle.win_index.specs.Arcs.{window_around}
 use Rattle.win_index.specs.Ring.{IsRing}
@@ -8,10 +8,8 @@ use Rattle.channel_tables.specs.Tables.{ChannelTable, channel_of}
 use Rattle.table_fill.specs.ProgramTables.{table_of}
 use Rattle.shared_memo.specs.declared.pass.Pass.{Pass}
 use Rattle.shared_memo.specs.Passes.{known}
-use Rattle.round_eval.specs.declared.fault.WorkFault.TheVariants as work
 use Rattle.table_fill.specs.declared.fault.FillFault.{FillFault}
 use Rattle.table_fill.specs.declared.fault.FillFault.TheVariants.{WorkersOutOfRange, OutOfMemory, Stranger, NoThread}
-use Rattle.shared_memo.specs.Outcomes.{CameTo}
 use Rattle.shared_memo.specs.Filled.{KnowsAll, HasGap}
 
 -- the table of the plan's program, beside a pass that knows all blocks of the plan
@@ -22,10 +20,10 @@ pub record IsCompiled (plan : ProgramForIds) (pass : Pass) (table : ChannelTable
   pub channels : (ring : List ℕ) (place : ℕ) → IsRing plan.ids (length plan.program.steps) ring → place < length ring
       → channel_of table (window_around ring (length plan.program.steps) place) ≡ Some (channel_at plan.program ring place)
 
--- what a fault says of the caller's pass before and after: workers came to a stranger, or the pass found a gap after they
--- had ended; with each other fault it is unchanged
-abbrev pub IsCompileFault : ProgramForIds → ℕ → Pass → Pass → FillFault → Type 0
-IsCompileFault plan workers old new Stranger = (CameTo workers (Err work.Stranger) × (new ≡ old)) ⊎ HasGap plan new
-IsCompileFault plan workers old new WorkersOutOfRange = new ≡ old
-IsCompileFault plan workers old new OutOfMemory = new ≡ old
-IsCompileFault plan workers old new NoThread = new ≡ old
+-- what a fault says of the caller's pass before and after: a cell of the plan in which it, or a worker that it has learned
+-- from, has found no block or a stranger; with each other fault it is unchanged
+abbrev pub IsCompileFault : ProgramForIds → Pass → Pass → FillFault → Type 0
+IsCompileFault plan old new Stranger = HasGap plan new
+IsCompileFault plan old new WorkersOutOfRange = new ≡ old
+IsCompileFault plan old new OutOfMemory = new ≡ old
+IsCompileFault plan old new NoThread = new ≡ old

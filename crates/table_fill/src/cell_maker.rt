@@ -8,7 +8,7 @@ use round_eval::WorkFault;
 use shared_memo::{Installed, Memo, Stranger, Ticket};
 use std::alloc::Global;
 use unroll::{BlockMaker, Code, MakeFault};
-use win_index::{MAX_BLOCKS, window_of_number};
+use win_index::{jobs_have_numbers, window_of_number};
 
 // A worker's reader of a memo, and its maker of blocks of the memo's plan.
 #[derive(Drop)]
@@ -19,14 +19,14 @@ pub(crate) struct CellMaker<'s, 'a> {
 }
 
 impl<'s, 'a> CellMaker<'s, 'a> {
-    ghost use Rattle.std.specs.Prelude.{None, IfOk, IfErr, OnOk, IsSomeAnd, true, false, is_some};
+    ghost use Rattle.std.specs.Prelude.{IfOk, IfErr, OnOk, IsSomeAnd, true, is_some};
     ghost use Rattle.round_eval.specs.declared.fault.WorkFault.TheVariants.{Stranger as StrangerMet};
     ghost use Rattle.shared_memo.specs.declared.memo.Installed.TheVariants.{Fresh};
     ghost use Rattle.shared_memo.specs.Passes.{known, seen, memo_plan};
-    ghost use Rattle.shared_memo.specs.PlanJobs.{IsKey, IsStranger};
+    ghost use Rattle.shared_memo.specs.PlanJobs.{IsKey};
     ghost use Rattle.shared_memo.specs.Tickets.{worker_of};
-    ghost use Rattle.shared_memo.specs.Filled.{LacksBlock, HasGap};
-    ghost use Rattle.table_fill.specs.Cells.{GoesOn, NamesLowerBlock};
+    ghost use Rattle.shared_memo.specs.Filled.{FoundStranger, MetStranger};
+    ghost use Rattle.table_fill.specs.Cells.{GoesOn, NamesUnknownBelow};
 
     // Returns a maker for a worker that knows no block of the memo yet. Fails if memory was refused.
     pub(crate) fn new(
@@ -43,15 +43,14 @@ impl<'s, 'a> CellMaker<'s, 'a> {
         Ok(CellMaker { reader, blocks })
     }
 
-    // Looks at the cell of this level and number, and returns whether its block is known then.
-    // Fails if the cell holds a stranger.
+    // Looks at the cell of this level and number, and returns whether its block is known then. It is
+    // if a block was seen there. Fails if the cell holds a stranger.
     fn finds(&mut self, level: u32, number: u32) -> Result<bool, WorkFault>
         requires { IsKey self.old.reader.pass.plan.now level number }
         ensures goes_on { GoesOn self.old self.new }
         ensures found { IfOk result (λ found. (found ≡ is_some (known self.new.reader.pass level number))
-            × (found ≡ false → seen self.new.reader.pass level number ≡ None)) }
-        ensures stranger { IfErr result (λ fault. (fault ≡ StrangerMet)
-            × IsSomeAnd (seen self.new.reader.pass level number) (IsStranger self.old.reader.pass.plan.now level number)) }
+            × (is_some (seen self.old.reader.pass level number) ≡ true → found ≡ true)) }
+        ensures stranger { IfErr result (λ fault. (fault ≡ StrangerMet) × FoundStranger self.old.reader.pass.plan.now self.new.reader.pass level number) }
     {
         let OwnReader { memo, pass } = &mut self.reader;
         match memo.look(pass, level, number) {
@@ -60,19 +59,16 @@ impl<'s, 'a> CellMaker<'s, 'a> {
         }
     }
 
-    // Looks at the cell of this level and number, which was filled. Fails if it is empty or holds a
-    // stranger.
+    // Looks at the cell of this level and number, in which a block was seen. Fails if it is a stranger.
     fn stands(&mut self, level: u32, number: u32) -> Result<(), WorkFault>
-        requires { IsKey self.old.reader.pass.plan.now level number }
+        requires key { IsKey self.old.reader.pass.plan.now level number }
+        requires seen { is_some (seen self.old.reader.pass level number) ≡ true }
         ensures goes_on { GoesOn self.old self.new }
         ensures known { OnOk result (is_some (known self.new.reader.pass level number) ≡ true) }
-        ensures lacks { IfErr result (λ fault. (fault ≡ StrangerMet) × LacksBlock self.old.reader.pass.plan.now self.new.reader.pass level number) }
+        ensures stranger { IfErr result (λ fault. (fault ≡ StrangerMet) × FoundStranger self.old.reader.pass.plan.now self.new.reader.pass level number) }
     {
-        if self.finds(level, number)? {
-            Ok(())
-        } else {
-            Err(WorkFault::Stranger)
-        }
+        let _known = self.finds(level, number)?;
+        Ok(())
     }
 
     // Makes the block of this level and number and stores it, unless the cell is full by then. Its
@@ -88,7 +84,8 @@ impl<'s, 'a> CellMaker<'s, 'a> {
         ensures goes_on { GoesOn self.old self.new }
         ensures fresh { IfOk result (λ installed. installed ≡ Fresh
             → IsSomeAnd (known self.new.reader.pass level number) (λ block. block.maker ≡ worker_of ticket.now)) }
-        ensures missing { IfErr result (NamesLowerBlock self.old.reader.pass.plan.now level) }
+        ensures seen { OnOk result (is_some (seen self.new.reader.pass level number) ≡ true) }
+        ensures missing { IfErr result (NamesUnknownBelow self.old.reader.pass.plan.now (known self.new.reader.pass) level) }
     {
         window_of_number();
         let CellMaker { reader, blocks } = self;
@@ -102,9 +99,8 @@ impl<'s, 'a> CellMaker<'s, 'a> {
         Ok(reader.memo.keep(&mut reader.pass, block))
     }
 
-    // Fills the cell of this level and number, unless it is full. Missing blocks below are made
-    // first; there are at most `MAX_BLOCKS` of them, so that the last attempt misses none. A stranger
-    // is met only in a cell that is empty or holds one.
+    // Fills the cell of this level and number, unless it is full. Blocks below that are missing are
+    // made first, one before each new attempt. Fails with a stranger only if a cell holds one.
     pub(crate) fn fill(
         &mut self,
         alloc: Global,
@@ -115,22 +111,22 @@ impl<'s, 'a> CellMaker<'s, 'a> {
         requires { IsKey self.old.reader.pass.plan.now level number }
         ensures goes_on { GoesOn self.old self.new }
         ensures known { OnOk result (is_some (known self.new.reader.pass level number) ≡ true) }
-        ensures gap { IfErr result (λ fault. fault ≡ StrangerMet → HasGap self.old.reader.pass.plan.now self.new.reader.pass) }
+        ensures stranger { IfErr result (λ fault. fault ≡ StrangerMet → MetStranger self.old.reader.pass.plan.now self.new.reader.pass) }
     {
+        jobs_have_numbers();
         if self.finds(level, number)? {
             return Ok(());
         }
-        for _attempt in 0..MAX_BLOCKS + 1 {
+        'attempt: loop {
             match self.make(alloc, ticket, level, number) {
                 Ok(Installed::Fresh) => return Ok(()),
-                Ok(Installed::Stood(_)) => break,
+                Ok(Installed::Stood(_)) => return self.stands(level, number),
                 Err(fault) => {
                     let (low, below) = missing_block(fault)?;
                     self.fill(alloc, ticket, low, below)?;
                 }
             }
         }
-        self.stands(level, number)
     }
 }
 

@@ -1,9 +1,10 @@
 //! Why jobs were not filled.
 
 ghost use Rattle.std.specs.Prelude.{◌≡◌};
-ghost use Rattle.table_fill.specs.Faults.{fill_fault_of};
+ghost use Rattle.table_fill.specs.Faults.{fault_of_start, fault_of_work};
 
-use round_eval::{ThreadFault, WorkFault};
+use round_eval::WorkFault;
+use shared_memo::StartFault;
 
 /// Why workers did not fill the jobs.
 #[derive(Clone, Copy, Debug, PartialEq, Eq)]
@@ -18,14 +19,24 @@ pub enum FillFault {
     NoThread,
 }
 
-impl From<ThreadFault> for FillFault {
-    ghost from_gives = { λ met fault. fault ≡ fill_fault_of met };
+impl From<StartFault> for FillFault {
+    ghost from_gives = { λ met fault. fault ≡ fault_of_start met };
 
-    fn from(fault: ThreadFault) -> FillFault {
+    fn from(fault: StartFault) -> FillFault {
         match fault {
-            ThreadFault::Work(WorkFault::OutOfMemory) => FillFault::OutOfMemory,
-            ThreadFault::Work(WorkFault::Stranger) => FillFault::Stranger,
-            ThreadFault::NoThread => FillFault::NoThread,
+            StartFault::OutOfMemory => FillFault::OutOfMemory,
+            StartFault::NoThread => FillFault::NoThread,
+        }
+    }
+}
+
+impl From<WorkFault> for FillFault {
+    ghost from_gives = { λ met fault. fault ≡ fault_of_work met };
+
+    fn from(fault: WorkFault) -> FillFault {
+        match fault {
+            WorkFault::OutOfMemory => FillFault::OutOfMemory,
+            WorkFault::Stranger => FillFault::Stranger,
         }
     }
 }

@@ -1,13 +1,13 @@
 //! The jobs of a memo: workers fill its cells.
 
 ghost use Rattle.std.specs.Prelude.{◌≡◌};
-ghost use Rattle.shared_memo.specs.Passes.{known, memo_plan, IsPassOf};
+ghost use Rattle.shared_memo.specs.Passes.{memo_plan};
 ghost use Rattle.shared_memo.specs.PlanJobs.{job_count};
-ghost use Rattle.shared_memo.specs.Filled.{AreKnown};
+ghost use Rattle.shared_memo.specs.Learning.{IsFilledPass, IsStrangerPass};
 
 use crate::cell_maker::CellMaker;
-use round_eval::{Gate, WorkFault};
-use shared_memo::{Desk, Jobs, Memo, Pass, Ticket};
+use round_eval::Gate;
+use shared_memo::{Desk, JobFault, Jobs, Memo, Pass, Ticket};
 use std::alloc::Global;
 use unroll::Code;
 use win_index::jobs_have_numbers;
@@ -25,9 +25,9 @@ impl<'m, 'a> Jobs for MemoFill<'m, 'a> {
 
     ghost jobs = { λ f. job_count (memo_plan f.memo.now) };
 
-    ghost IsKnown = { λ f pass. IsPassOf f.memo.now pass };
+    ghost HasFilled = { λ f. IsFilledPass f.memo.now };
 
-    ghost KnowsFilled = { λ pass jobs. AreKnown pass.plan.now (known pass) jobs };
+    ghost HasMetStranger = { λ f. IsStrangerPass f.memo.now };
 
     fn count(&self) -> u32 {
         self.memo.plan().shape().jobs()
@@ -39,14 +39,16 @@ impl<'m, 'a> Jobs for MemoFill<'m, 'a> {
         desk: &Desk,
         ticket: &mut Ticket,
         gate: &G,
-    ) -> Result<Pass<'a>, WorkFault> {
+    ) -> Result<Pass<'a>, JobFault<Pass<'a>>> {
         jobs_have_numbers();
         let shape = self.memo.plan().shape();
         let mut cells = CellMaker::new(alloc, self.memo, self.code)?;
         while let Some(job) = desk.draw(ticket) {
             gate.entered(ticket.worker(), job);
             let (level, block) = shape.job(job);
-            cells.fill(alloc, ticket, level, block)?;
+            if let Err(fault) = cells.fill(alloc, ticket, level, block) {
+                return Err(JobFault::of(fault, cells.reader.pass));
+            }
         }
         Ok(cells.reader.pass)
     }

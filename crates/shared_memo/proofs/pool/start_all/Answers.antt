@@ -1,11 +1,10 @@
-use Rattle.std.proofs.Common.{rules, ◌≡◌, suc, All, List, ◌∷◌, arith}
+use Rattle.std.proofs.Common.{rules, ◌≡◌}
+use Rattle.std.proofs.lemmas.List.Elements.{All-push}
 use Rattle.shared_memo.specs.Tickets.{worker_of, IsFreshTicketOf}
 use Rattle.shared_memo.proofs.Numbered.{numbered_rest}
+use Rattle.shared_memo.proofs.Workers.{all_first}
 use Rattle.win_index.proofs.Kept.{each_snoc}
 use Rattle.shared_memo.proofs.pool.start_all.Goals as goal
-
-all_first : {X : Type 0} (P : X → Type 0) (x : X) (all xs : List X) → all ≡ x ∷ xs → All P all → P x × All P xs
-all_first P x all xs is h = let own : All P (x ∷ xs) = rw is at h in (own 0 x (omega arith), λ k d below. own (suc k) d (omega arith))
 
 pub loop-ticket-preserved : goal.loop-ticket-preserved
 loop-ticket-preserved g c =
@@ -17,7 +16,9 @@ loop-ticket-preserved g c =
       room = search rules;
       count = search rules;
       rest = rw c.push_reserved.ensures.len numbers.1;
+      jobs = rw c.push_reserved.ensures.items
+          (All-push (λ handle. handle.promise.jobs.value ≡ c.args.jobs.now) c.loop-ticket.handles.items _ inv.jobs (search rules));
       workers = rw c.push_reserved.ensures.items
-          (each_snoc (λ k handle. handle.promise.0 ≡ k) c.loop-ticket.handles.items _ inv.workers
+          (each_snoc (λ k handle. handle.promise.worker ≡ k) c.loop-ticket.handles.items _ inv.workers
           (let number = numbers.0 in search rules));
     }

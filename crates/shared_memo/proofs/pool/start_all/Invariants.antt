@@ -10,5 +10,6 @@ invariant-loop-ticket g l = record {
   room : vec_len l.handles + into_iter_len l.ticket-iterator ≤ vec_capacity l.handles;
   count : vec_len l.handles + into_iter_len l.ticket-iterator ≡ vec_len l.fn.draws.tickets;
   rest : AreNumberedFrom (vec_len l.handles) (into_iter_items l.ticket-iterator) worker_of;
-  workers : AreNumbered l.handles.items (λ handle. handle.promise.0);
+  jobs : All (λ handle. handle.promise.jobs.value ≡ l.jobs) l.handles.items;
+  workers : AreNumbered l.handles.items (λ handle. handle.promise.worker);
 }

@@ -1,7 +1,7 @@
 use Rattle.std.proofs.Common.{◌≡◌, Some, ◌∙◌, ⊎_elim, sym}
 use Rattle.shared_memo.specs.PlanJobs.{job_of}
-use Rattle.shared_memo.specs.Known.{known_of}
-use Rattle.shared_memo.proofs.Sets.{IsAt, cell_at, cells_put, item_here, keeps_put, learns_put, is_installed}
+use Rattle.shared_memo.specs.Known.{known_of, seen_of}
+use Rattle.shared_memo.proofs.Sets.{IsAt, cell_at, cells_put, item_here, item_put, keeps_put, learns_put, is_installed}
 use Rattle.shared_memo.proofs.memo.Memo.keep.Goals.{After-job_at-at}
 use Rattle.shared_memo.proofs.memo.Memo.keep.Goals as goal
 
@@ -40,3 +40,12 @@ pub returns-clause-installed : goal.returns-clause-installed
 returns-clause-installed c =
     rw c.requires.pass.0 (is_installed c.args.self.now.plan.now _ _ c.index_mut.result.now c.put.new.self c.args.block.value c.put.result
     (c.job_at-at.ensures.within.1, c.index_mut.ensures.value) (job_is (goal.at.returns-clause-installed c).After-job_at-at) c.put.ensures.put)
+
+pub returns-clause-seen : goal.returns-clause-seen
+returns-clause-seen c =
+    rw (
+      c.requires.pass.0,
+      job_is (goal.at.returns-clause-seen c).After-job_at-at,
+      item_put seen_of c.args.pass.now.entries.items c.job_at-at.result c.put.new.self c.job_at-at.ensures.within.1,
+    )
+    c.put.ensures.seen

@@ -10,7 +10,7 @@ use Rattle.round_eval.specs.Entries.{Entries}
 use Rattle.unroll.specs.MakeFaults.{IsMakeFault}
 use Rattle.unroll.specs.declared.fault.MakeFault.{MakeFault}
 use Rattle.unroll.specs.declared.fault.MakeFault.TheVariants.{Missing, OutOfMemory}
-use Rattle.table_fill.specs.Cells.{NamesLowerBlock}
+use Rattle.table_fill.specs.Cells.{NamesUnknownBelow}
 use Rattle.win_index.specs.declared.limits.TheConstants.{BLOCK_WINDOWS}
 use Rattle.shared_memo.specs.Passes.{known}
 use Rattle.table_fill.specs.declared.own_reader.OwnReader.{OwnReader}
@@ -24,13 +24,13 @@ below_is_block m level number low c window below =
     let lt = slice_get_within (windows k m) below.number list there in
     omega (arith, below.block_is, lt)
 
--- a block that is missing for a block of a level is one of a lower level
+-- a block that is missing for a block of a level is one of a lower level, which is not known
 missing_is_block :
     {S : Type 0} → WindowOfNumber → (plan : ProgramForIds) (entries : S → Entries) (old new : S) (level number : ℕ) (fault : MakeFault)
-    → level ≤ length plan.program.steps → IsMakeFault entries old new plan.ids level number fault → NamesLowerBlock plan level fault
+    → level ≤ length plan.program.steps → IsMakeFault entries old new plan.ids level number fault → NamesUnknownBelow plan (entries new) level fault
 missing_is_block window plan entries old new level number (Missing low c) le is =
     let one = is.0.one_lower in
-    (omega (arith, one), (omega (arith, one, le), below_is_block plan.ids level number low c window is.0))
+    (omega (arith, one), (omega (arith, one, le), below_is_block plan.ids level number low c window is.0), is.1)
 missing_is_block window plan entries old new level number OutOfMemory le is = tt
 
 pub returns-in-Err-clause-missing : goal.returns-in-Err-clause-missing

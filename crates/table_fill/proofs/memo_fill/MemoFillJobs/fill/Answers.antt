@@ -54,12 +54,11 @@ loop-job-preserved g c =
       filled = rw all known_all;
     }
 
-pub returns-clause-known : goal.returns-clause-known
-returns-clause-known g c =
+pub returns-clause-filled : goal.returns-clause-filled
+returns-clause-filled g c =
     let inv = c.loop-job.invariant in
     let entries : Entries = known c.loop-job.cells.reader.pass in
     let same : drawn c.draw.new.ticket ≡ drawn c.loop-job.ticket = search rules in (
       rw inv.same_memo at c.loop-job.cells.reader.pass_of,
-      subst (λ jobs. AreKnown c.loop-job.cells.reader.pass.plan.now entries jobs) (sym same)
-          (subst (λ plan. AreKnown plan entries (drawn c.loop-job.ticket)) (sym inv.same_plan) inv.filled),
+      subst (λ jobs. AreKnown c.args.self.now.memo.now.plan.now entries jobs) (sym same) inv.filled,
     )
