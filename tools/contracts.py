@@ -15,8 +15,23 @@ OPERATOR = re.compile(r"◌?([^◌\s]+)◌?")
 HEAD = re.compile(r"^(?:pub )?(?:abbrev |unfoldable |record |data )?(?:pub )?(?:record |data )?([^\s:(]+|◌[^\s]+◌)(?=[\s:(])")
 
 
+# Texts that stand in place of files, for the self-test of tools/inventory.
+CHANGED = {}
+
+
+def read(path):
+    """The text of a file."""
+    return CHANGED[path] if path in CHANGED else path.read_text(encoding="utf-8")
+
+
+def forget():
+    """Forgets what was read, after a change of CHANGED."""
+    for it in (crate_names, definitions_in, exported, public, public_types):
+        it.cache_clear()
+
+
 def text_of(path):
-    return (ROOT / path).read_text(encoding="utf-8")
+    return read(ROOT / path)
 
 
 @functools.cache
@@ -69,7 +84,7 @@ def cited(text, brought):
 def definitions_in(crate, file):
     """The definitions of a file of specs/, each with its text, and what the file's imports bring."""
     path = ROOT / f"crates/{crate}/specs/{file}.antt"
-    lines = path.read_text(encoding="utf-8").split("\n") if path.exists() else []
+    lines = read(path).split("\n") if path.exists() else []
     texts, name = {}, None
     for line in lines:
         if line.startswith(("use ", "pub use ", "pub mod ", "mod ")):
@@ -128,7 +143,7 @@ def closure(starts):
 def exported(crate):
     """The modules of a crate that are public, and the names that its first file hands on from the others."""
     first = next((ROOT / f"crates/{crate}/src/{it}.rt" for it in ("lib", "main") if (ROOT / f"crates/{crate}/src/{it}.rt").exists()))
-    text = first.read_text(encoding="utf-8")
+    text = read(first)
     modules = set(re.findall(r"^pub mod (\w+);", text, re.MULTILINE))
     names = set()
     for found in re.findall(r"^pub use ([^;]+);", text, re.MULTILINE):
@@ -179,13 +194,14 @@ def doc_before(text, start):
 
 class Call:
     """A public function, with its file, the trait that it implements, the paragraphs of its doc comment, whether it can wait, the clauses
-    of its contract, each a kind, a name and a text, and what the imports in its scope bring."""
+    of its contract, each a kind, a name and a text, the type that it returns, and what the imports in its scope bring."""
 
     def __init__(self, path, owner, of_trait, name, header, brought, doc):
         self.crate, self.owner, self.name, self.brought = path.parent.parent.name, owner, name, brought
         self.path, self.of_trait, self.doc = path, of_trait, doc
         found = re.split(r"\n\s*((?:requires|ensures)\*?) ?", header)
         self.can_wait = re.search(r"\bWait\b", found[0]) is not None
+        self.returned = found[0].rpartition("->")[2].strip()
         self.clauses = []
         for kind, text in zip(found[1::2], found[2::2]):
             named, _, body = text.partition("{")
@@ -205,11 +221,11 @@ def public(crate):
     files = sorted((ROOT / f"crates/{crate}/src").glob("*.rt"))
     types = {}
     for path in files:
-        for found in re.finditer(r"^pub (?:struct|enum|trait) (\w+)", path.read_text(encoding="utf-8"), re.MULTILINE):
+        for found in re.finditer(r"^pub (?:struct|enum|trait) (\w+)", read(path), re.MULTILINE):
             if is_public(crate, path.stem, found[1]):
                 types[found[1]] = path.stem
     for path in files:
-        text = path.read_text(encoding="utf-8")
+        text = read(path)
         top = imports(line for line in text.split("\n") if not line.startswith(" "))
         scope = []
         for block in blocks(text):
@@ -253,7 +269,7 @@ def public_types(crate):
     """The public types and traits of a crate."""
     found = []
     for path in sorted((ROOT / f"crates/{crate}/src").glob("*.rt")):
-        text = path.read_text(encoding="utf-8")
+        text = read(path)
         for it in re.finditer(r"^pub (struct|enum|trait) (\w+)", text, re.MULTILINE):
             if is_public(crate, path.stem, it[2]):
                 found.append(Type(path, it[1], it[2], text, it.start()))
