@@ -1,4 +1,4 @@
--- The fault that takes precedence, and the one that the caller gets. No public contract cites this file.
+-- The fault that takes precedence, and the one that the caller gets.
 use Rattle.std.specs.Prelude.{Option, None, Some}
 use Rattle.round_eval.specs.declared.fault.WorkFault.TheVariants as work
 use Rattle.round_eval.specs.declared.fault.ThreadFault.{ThreadFault}
