@@ -1,4 +1,5 @@
--- What a text is that is given in place of another one, told from its first line.
+-- What a text is that is given in place of another one, told from its first line. This is advice: no report and no status
+-- depends on it, and the definitions follow the code.
 use Rattle.std.specs.Prelude.{ℕ, zero, suc, ◌+◌, ◌-◌, ◌==◌, nat_le, Bool, true, false, not, ◌&&◌, ◌||◌, List, [], ◌∷◌, map, length, take, drop, Option, None, Some, codes, bytes_eq, if◌then◌else◌}
 use Rattle.std.specs.List.{list_all, list_any, prefix_len, before_first, after_first, starts_with, ends_with}
 use Rattle.std.specs.Option.{option_or}

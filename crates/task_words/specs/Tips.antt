@@ -1,4 +1,5 @@
--- What refused words of the command line were probably meant to be.
+-- What refused words of the command line were probably meant to be. This is advice: no task and no status depends on it,
+-- and the definitions follow the code.
 use Rattle.std.specs.Prelude.{ℕ, ◌+◌, ◌==◌, nat_le, Bool, false, ◌&&◌, ◌||◌, not, Option, Some, None, List, [], ◌∷◌, length, take, drop, true, codes, bytes_eq, if◌then◌else◌}
 use Rattle.std.specs.List.{list_any, prefix_len, ends_with}
 use Rattle.std.specs.Option.{option_or}
