@@ -1,5 +1,7 @@
-"""Mistakes that were written down before their notes were known, each with the words that a note on its cause and its
-cure has to have. The words count where the note speaks, not where it repeats the text at fault.
+"""Mistakes, each with the words that a note on its cause and its cure has to have. The words count where the note speaks, not
+where it repeats the text at fault. The first rows were written before their notes were read; later ones came with the notes
+that they ask for, or have words of a note that was there, and rows were changed or left out after their notes were read. So
+they keep notes as they are, and do not measure how many are good (tests/classes.py).
 """
 
 import re
