@@ -1,6 +1,6 @@
 """What the advice of a note says of a program text, as a condition on the text: each piece of advice has a row, and where it is given
 its condition has to hold. Rows without a condition are sentences on the language that hold of each text, given where they are apt.
-"""
+The conditions are written here, from the rules of the language."""
 
 import re
 

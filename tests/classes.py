@@ -1,5 +1,5 @@
 """Mistakes of each class, with words that a note on them has to have: one of several alternatives, in any case. They were fixed by a
-person who had read no note, before any run.
+person who had read no note, before any run: none of them is the program's output.
 """
 
 from programs import CV1

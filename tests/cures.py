@@ -1,5 +1,5 @@
 """The advice on mistakes other than slips, done: rows as those of tests/done.py, and the program texts with such
-advice. Bytes over 127 are one character each.
+advice. Bytes over 127 are one character each. No answer is stored: a person wrote what to do, and the text has to go on.
 """
 
 import html

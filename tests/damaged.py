@@ -1,5 +1,5 @@
-"""Table texts that are damaged at one or two places, with what a reader that is written here from docs/LANGUAGE.md finds: a row has the
-words, the input, the standard output and the exit status of `migrate`."""
+"""Table texts that are damaged at one or two places: a row has the words, the input, the standard output and the exit status of
+`migrate`. The expected values are those of a second implementation, a reader that is written here from docs/LANGUAGE.md."""
 
 import re
 from itertools import permutations

@@ -1,7 +1,8 @@
 """What the advice of a note says of a program text, done: advice that names a text to write or to leave out has a row
 with the texts that come of it. It helps if one of these is a program, or has its first fault behind the word of the old
 one, or at this word where something else is expected now. Where a token was left out, written twice or changed, other
-tokens have to stand before the new fault than before the old one, else nothing was gained.
+tokens have to stand before the new fault than before the old one, else nothing was gained. No answer is stored: a person
+wrote what to do, and the program's second answer is compared with its first.
 """
 
 import re

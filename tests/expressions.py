@@ -1,4 +1,5 @@
-"""Expressions: a row has the words, a program with an expression, the standard output and the exit status."""
+"""Expressions: a row has the words, a program with an expression, the standard output and the exit status. The values and the bounds
+follow from docs/LANGUAGE.md; the tables are computed here."""
 
 from itertools import permutations
 

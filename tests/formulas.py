@@ -1,5 +1,6 @@
 """Formulas that a table satisfies exactly where it keeps a separation, by their definition: a row has the words, the input, the
-standard output and the exit status."""
+standard output and the exit status. The texts are those of a second implementation, which is here; the faults follow from
+docs/LANGUAGE.md."""
 
 from itertools import permutations
 from math import perm

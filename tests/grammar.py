@@ -1,4 +1,5 @@
-"""The grammar of program texts, read from the left: what can follow the tokens before a place."""
+"""The grammar of program texts, read from the left: what can follow the tokens before a place. It is a second implementation,
+for tests/slips.py."""
 
 import re
 

@@ -1,6 +1,6 @@
-"""Verdicts on 2,000 pseudo-random tables of all shapes up to 9 identifiers, and on wider ones at neighbours, compared with a walk
-over all tuples. Channels are often equal modulo 64, as the judge's masks see them. A row has the words, the input, the standard
-output and the exit status."""
+"""Verdicts on 2,000 pseudo-random tables of all shapes up to 9 identifiers, and on wider ones at neighbours. Channels are often equal
+modulo 64, as the judge's masks see them. A row has the words, the input, the standard output and the exit status. The expected values
+are those of a second implementation, a walk over all tuples."""
 
 from functools import cache
 from itertools import permutations

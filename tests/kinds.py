@@ -1,4 +1,5 @@
-"""Texts that are given in place of another one, each with what the notes of all readers are to say of it."""
+"""Texts that are given in place of another one, each with what the notes of all readers are to say of it. These are parts of the
+program's own output, read by a person."""
 
 from itertools import product
 

@@ -1,4 +1,4 @@
-"""Mistakes that were thought of before the notes on them were written, each with the note on its cause and its cure."""
+"""Mistakes, each with the note on its cause and its cure. The notes are the program's own output, read by a person."""
 
 from programs import CV1
 

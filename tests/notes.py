@@ -1,4 +1,5 @@
-"""Common mistakes of newcomers, each with the note on its cause, which is on the standard error."""
+"""Common mistakes of newcomers, each with the note on its cause, which is on the standard error. The notes are the program's own
+output, read by a person."""
 
 from programs import CV1, ID0, ID0_OF_4, LDB, SHIFT4
 

@@ -1,4 +1,4 @@
-"""Program texts of the rows. Those of the folder programs/ are read from there."""
+"""Program texts of the rows, without expected values. Those of the folder programs/ are read from there."""
 
 from pathlib import Path
 

@@ -1,5 +1,6 @@
-"""Refutations of small formulas, right ones and damaged ones, with what a checker that is written here from docs/LANGUAGE.md finds, and
-those of examples/least: a row has the words, the input, the standard output and the exit status."""
+"""Refutations of small formulas, right ones and damaged ones, and those of examples/least: a row has the words, the input, the standard
+output and the exit status. The expected values are those of a second implementation, a checker that is written here from
+docs/LANGUAGE.md. What is in examples/least was found by other programs (docs/LEAST.md), and has to be accepted."""
 
 import lzma
 import re

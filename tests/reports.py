@@ -1,4 +1,5 @@
-"""Reports on programs: a row has the words, the input, the standard output and the exit status."""
+"""Reports on programs: a row has the words, the input, the standard output and the exit status. The expected values follow from
+docs/LANGUAGE.md; those of the long rings and of a program of three rounds are computed here."""
 
 from programs import (
     CV1,

@@ -1,5 +1,5 @@
-"""Tables of every shape with few windows, beside a walk of each window in Python: a row has the words, the input, the standard output
-and the exit status."""
+"""Tables of every shape with few windows: a row has the words, the input, the standard output and the exit status. The expected values
+are those of a second implementation, a walk of each window."""
 
 from itertools import permutations
 from math import perm

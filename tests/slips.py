@@ -1,7 +1,7 @@
 """Slips that a program can have: a token left out, written twice, exchanged with the next one, written with other capitals, or without
 the blank after it; a line left out, written twice, or exchanged with the next one. Of each it is known what can follow before the
-fault, and what was done. Advice is right if its condition (tests/advice.py) holds of the text, and, where a token was left out, written twice
-or changed, if it names the slip or holds of every text with this fault.
+fault, by the second implementation of tests/grammar.py, and what was done. Advice is right if its condition (tests/advice.py) holds of
+the text, and, where a token was left out, written twice or changed, if it names the slip or holds of every text with this fault.
 """
 
 import re

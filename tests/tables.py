@@ -1,4 +1,6 @@
-"""Tables of programs and reports on table texts: a row has the words, the input, the standard output and the exit status."""
+"""Tables of programs and reports on table texts: a row has the words, the input, the standard output and the exit status. The expected
+values follow from docs/LANGUAGE.md; the channels of random tables are looked up here. Rows of answers that have to be alike compare
+the program with itself."""
 
 from itertools import permutations
 from random import Random

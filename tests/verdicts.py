@@ -1,5 +1,5 @@
-"""Verdicts on tables and programs, most of them compared with a walk over all tuples: a row has the words, the input, the
-standard output and the exit status."""
+"""Verdicts on tables and programs: a row has the words, the input, the standard output and the exit status. Most expected values are
+those of a second implementation, a walk over all tuples; the others follow from docs/LANGUAGE.md."""
 
 from itertools import islice, permutations
 from math import perm

@@ -1,4 +1,6 @@
-"""Words of the command line: help texts, words that are refused, and words that are the same command."""
+"""Words of the command line: help texts, words that are refused, and words that are the same command. The texts of help, of refusals,
+tips and advice are the program's own output, read by a person; the exit statuses follow from the rules. Words that are the same command
+compare the program with itself."""
 
 from programs import CV1, cv1_of
 
