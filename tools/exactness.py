@@ -41,7 +41,7 @@ sys.dont_write_bytecode = True
 import contracts
 from terms import Bound, Call, Field, Joined, Name, Parser, Parts, Unreadable, applied, children, matched, names_in, plain, put, rebuilt
 
-# The words of std that unfold, as rattle/core/specs/Result.antt and Option.antt of the kit define them.
+# The words of std that unfold, as rattle/core/specs/Result.antt and Option.antt of the kit define them, `IsOk` and the like by cases.
 STANDARD = """
 MatchResult : Result T E → P → Q → Kind
 MatchResult (Ok x) P Q = P x
@@ -95,7 +95,7 @@ def no_scope(word, behind):
     return None, False
 
 
-def scope_of(brought, local={}):
+def scope_of(brought, local):
     """What the names of a text stand for, by what was brought and by its own file."""
 
     def scope(word, behind):
@@ -128,22 +128,17 @@ def clauses_of(text):
 
 
 def read_cases(text, scope):
+    """A definition by cases: a line with its type, if there is one, and a line for each case."""
     types, cases = (), []
-    for part in clauses_of(text):
-        left, equals, _ = split_at(part, "=")
-        if equals:
+    for part in clauses_of(re.sub(r"--[^\n]*", "", text)):
+        if " =" in part:
             parser = Parser(part, scope)
             parser.take()
-            patterns = tuple(iter(lambda: pattern(parser), None))
+            patterns = patterns_before(parser, "=")
             cases.append((patterns, parser.whole()))
         else:
             types = argument_types(Parser(part.partition(":")[2], scope).whole())
     return Definition(types, tuple(cases))
-
-
-def split_at(text, mark):
-    """A text before and behind a mark that stands alone."""
-    return re.sub(r"--[^\n]*", "", text).partition(f" {mark}")
 
 
 def argument_types(term):
@@ -161,17 +156,23 @@ def argument_types(term):
     return tuple(types)
 
 
+def patterns_before(parser, mark):
+    """The patterns before a token, which is taken too; what stands in braces is left out."""
+    found = []
+    while parser.next() != mark:
+        if parser.next() == "{":
+            parser.skip_braces()
+        else:
+            found.append(pattern(parser))
+    parser.take()
+    return tuple(found)
+
+
 def pattern(parser):
-    """The next pattern before `=`, which is taken: a variable, or a variant of patterns."""
+    """The next pattern: a variable, or a variant of patterns."""
     token = parser.take()
-    if token == "=":
-        return None
-    if token == "{":
-        while parser.take() != "}":
-            pass
-        return pattern(parser)
     if token == "(":
-        inner = tuple(iter(lambda: pattern(parser) if parser.next() != ")" else parser.take() and None, None))
+        inner = patterns_before(parser, ")")
         return Call(inner[0], inner[1:]) if inner[1:] else inner[0]
     if (parser.next() or "").startswith(".") and parser.next()[1:2].isupper():
         return Name(parser.take()[1:])
@@ -183,6 +184,7 @@ def pattern(parser):
 
 
 def read_record(text, scope):
+    """A record: its parameters, and what its fields are."""
     head, _, body = text.partition(" where\n")
     parser = Parser(head, scope)
     while not parser.is_group() and parser.next() != ":":
@@ -238,6 +240,7 @@ def is_variant_name(word):
 
 
 def head_of(term):
+    """The function of a call, or the term."""
     return term.function if isinstance(term, Call) else term
 
 
@@ -246,6 +249,7 @@ def arguments_of(term):
 
 
 def is_variant(term):
+    """Whether a term, or a pattern, is a variant of an enum, of a Result, of an Option or of a Bool."""
     head = head_of(term)
     return isinstance(head, Name) and head.home is None and is_variant_name(head.word)
 
@@ -295,20 +299,24 @@ def within(row, variant, count):
 
 
 def conj(*parts):
+    """That all parts hold."""
     left = [it for it in parts if it is not True]
     return False if False in left else left[0] if len(left) == 1 else ("and", *left) if left else True
 
 
 def disj(*parts):
+    """That some part holds."""
     left = [it for it in parts if it is not False]
     return True if True in left else left[0] if len(left) == 1 else ("or", *left) if left else False
 
 
 def negation(part):
+    """That a part does not hold."""
     return not part if isinstance(part, bool) else part[1] if part[0] == "not" else ("not", part)
 
 
 def iff(one, other):
+    """That both hold or neither."""
     return conj(disj(negation(one), other), disj(one, negation(other)))
 
 
@@ -316,6 +324,7 @@ JOINED = ("and", "or", "not")
 
 
 def atoms_of(formula):
+    """The atoms of a formula."""
     if isinstance(formula, bool):
         return []
     if formula[0] not in JOINED:
@@ -335,6 +344,7 @@ def valued(formula, atom, value):
 
 
 def first_atom(formula):
+    """An atom of a formula."""
     while formula[0] in JOINED:
         formula = formula[1]
     return formula
@@ -353,6 +363,7 @@ def is_possible(formula):
 
 
 def is_literal(formula):
+    """Whether a formula is an atom or not an atom."""
     return not isinstance(formula, bool) and (formula[0] not in JOINED or formula[0] == "not" and formula[1][0] not in JOINED)
 
 
@@ -382,6 +393,7 @@ class Meaning:
         return ("fact", plain(term)) if found is None else found
 
     def joined(self, term, inside):
+        """The same of terms between which an operator stands."""
         operator, parts = term.operator, term.parts
         if operator in ("≡", "≢"):
             found = self.same(*parts)
@@ -407,6 +419,7 @@ class Meaning:
         return conj(self.has_variant(one, word), *map(self.same, parts_of(one, word, len(held)), held))
 
     def has_variant(self, term, word):
+        """That a term is this variant."""
         return head_of(term).word == word if is_variant(term) else ("is", plain(term), word)
 
     def unfolded(self, head, arguments, inside):
@@ -431,6 +444,7 @@ class Meaning:
         return conj(*(self.fact(put(part, values), inside) for part in body.parts))
 
     def cases(self, found, arguments, inside):
+        """What the first case says whose patterns the arguments have."""
         said, before = [], []
         for patterns, body in found.cases:
             values = {}
@@ -753,7 +767,7 @@ def clause_of(call, name):
 
 
 def read_clause(text, call):
-    return Parser(text.strip().removesuffix("}"), scope_of(call.brought)).whole()
+    return Parser(text.strip().removesuffix("}"), scope_of(call.brought, {})).whole()
 
 
 def field_of(term, name):

@@ -74,12 +74,22 @@ variables = itertools.count()
 
 
 def tokens_of(text):
-    """The tokens of a text; a field begins with a dot that nothing stands before or behind."""
+    """The tokens of a text. A dot and the word right behind it are one token, a field."""
     return [it[1] for it in TOKEN.finditer(text) if it[1]]
 
 
 class Parser:
-    """Reads terms from tokens. `scope` says what definition of the tree a name, or a name behind another one and a dot, stands for."""
+    """Reads terms from tokens. `scope` says what definition of the tree a name, or a name behind another one and a dot, stands for.
+
+    term: `λ x. term`, `let x = term in term`, `(x : term) → term`, or equivalence [`→` term]
+    equivalence: sum [`↔` sum]
+    sum: product {`⊎` product}
+    product: factor {`×` factor}
+    factor: `(x : term) ×` product, `¬` factor, or sized [relation sized]
+    sized: application {arithmetic application}
+    application: primary {primary}
+    primary: a name, a number, a text, `(term, ..)`, `record ..`, or `if ..`; behind it fields
+    """
 
     def __init__(self, text, scope):
         self.tokens, self.at, self.scope, self.bound = tokens_of(text), 0, scope, {}
