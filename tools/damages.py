@@ -8,6 +8,7 @@ import sys
 
 sys.dont_write_bytecode = True
 import contracts
+import definitions
 import exactness
 
 DAMAGES = [
@@ -140,7 +141,7 @@ def planted(path, old, new):
 def forget():
     """Forgets what was read of the texts."""
     contracts.forget()
-    exactness.forget()
+    definitions.forget()
 
 
 def test(checks, lines):
