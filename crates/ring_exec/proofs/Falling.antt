@@ -4,7 +4,8 @@ use Rattle.std.specs.Prelude.{IfOk, MatchResult}
 use Rattle.std.proofs.lemmas.Option.{same_Some, slice_get_within}
 use Rattle.win_index.proofs.Kept.{each_snoc, slice_get-append_left, slice_get-append_right}
 use Rattle.border_exchange.specs.Segments.{RingSegment}
-use Rattle.round_eval.specs.declared.fault.WorkFault.{WorkFault}
+use Rattle.ring_exec.specs.declared.segment_fault.SegmentFault.{SegmentFault}
+use Rattle.ring_exec.specs.SegmentFaults.{work_fault_of}
 use Rattle.round_eval.specs.declared.fault.ThreadFault.TheVariants.{Work}
 use Rattle.ring_exec.specs.declared.joined.Joined.{Joined}
 use Rattle.ring_exec.specs.declared.progress.Progress.{Progress}
@@ -21,6 +22,13 @@ in_order_front index all rest w is order = (
   order (length rest) w (ap (λ l. slice_get l (length rest)) is ∙ slice_get-append_right rest (w ∷ []) (length rest) 0 (omega arith)),
 )
 
+-- a segment that has only done more rounds has the same index
+pub same_index :
+    (segment : RingSegment) (outcome : Result RingSegment SegmentFault) → IfOk outcome (λ ended. ended ≡ record segment { round = ended.round })
+    → IfOk outcome (λ ended. ended.index ≡ segment.index)
+same_index segment (Ok ended) same = ap (λ (s : RingSegment). s.index) same
+same_index segment (Err fault) same = tt
+
 -- the segments joined so far, with `left` of `all` threads still to be joined
 pub record AreJoined (before : Joined) (all left : ℕ) (now : Joined) : Type 0 where
   pub no_fault : before.fault ≡ None
@@ -30,13 +38,13 @@ pub record AreJoined (before : Joined) (all left : ℕ) (now : Joined) : Type 0 
   pub falling : (k : ℕ) (s : RingSegment) → slice_get more k ≡ Some s → s.index + k + 1 ≡ all
 
 -- what `Joined::add` says of an outcome
-abbrev pub IsAdded : Joined → Joined → Result RingSegment WorkFault → Type 0
+abbrev pub IsAdded : Joined → Joined → Result RingSegment SegmentFault → Type 0
 IsAdded before after outcome =
     MatchResult outcome (λ segment. (after.fault ≡ before.fault) × (after.segments.items ≡ before.segments.items ++ segment ∷ []))
-    (λ fault. (after.fault ≡ Some (blamed before.fault (Work fault))) × (after.segments ≡ before.segments))
+    (λ fault. (after.fault ≡ Some (blamed before.fault (Work (work_fault_of fault)))) × (after.segments ≡ before.segments))
 
 pub one_joined :
-    (before now after : Joined) (all left : ℕ) (outcome : Result RingSegment WorkFault) → IsAdded now after outcome
+    (before now after : Joined) (all left : ℕ) (outcome : Result RingSegment SegmentFault) → IsAdded now after outcome
     → IfOk outcome (λ segment. segment.index ≡ left) → (now.fault ≡ None → AreJoined before all (left + 1) now) → after.fault ≡ None
     → AreJoined before all left after
 one_joined before now after all left (Ok s) added index so_far none =
@@ -61,7 +69,7 @@ falling_after s more index falling (suc k) t is = let later = falling k t is in 
 
 -- the last segment runs before the threads of the others are joined
 pub last_joined :
-    (before now after : Joined) (n : ℕ) (outcome : Result RingSegment WorkFault) → IsAdded before now outcome
+    (before now after : Joined) (n : ℕ) (outcome : Result RingSegment SegmentFault) → IsAdded before now outcome
     → IfOk outcome (λ segment. segment.index ≡ n) → HasMore now n after → HasMore before (n + 1) after
 last_joined before now after n (Ok s) added index more none =
     let rest = more none in

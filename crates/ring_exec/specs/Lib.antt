@@ -5,5 +5,6 @@ pub mod Faults
 pub mod Outcomes
 pub mod Runs
 pub mod Seats
+pub mod SegmentFaults
 pub mod Sides
 pub mod Stops

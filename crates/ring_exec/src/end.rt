@@ -1,47 +1,38 @@
 //! The ends of the borders between neighbouring segments.
-ghost use Rattle.std.specs.Prelude.{◌≡◌, ◌≢◌, ◌+◌, ◌<◌, IfOk, IfErr, OnOk};
+ghost use Rattle.std.specs.Prelude.{◌≡◌, ◌≢◌, ◌+◌, ◌<◌, Ok, IfOk, IfErr, IsErrAnd, OnOk, MatchResult};
 ghost use Rattle.border_exchange.specs.SeatState.{IsNext};
+ghost use Rattle.border_exchange.specs.declared.fault.PutFault.TheVariants.{Misplaced};
 ghost use Rattle.border_exchange.specs.declared.Side.TheVariants.{Rightward, Leftward};
 ghost use Rattle.node_program.specs.declared.limits.TheConstants.{MAX_ROUNDS};
 ghost use Rattle.ring_exec.specs.Borders.{AreBlanksOf};
 ghost use Rattle.ring_exec.specs.Sides.{opposite};
-ghost use Rattle.ring_exec.specs.Stops.{stop_of};
-ghost use Rattle.round_eval.specs.declared.fault.WorkFault.TheVariants.{Stranger};
+ghost use Rattle.ring_exec.specs.Stops.{IsEndStop};
 
 use crate::border_name::{Blanks, BorderName, LeftLedger, RightLedger};
-use border_exchange::{Border, Dated, PutFault, Seat, Side, Strange};
+use border_exchange::{Border, Dated, PutFault, Seat, Side};
 use node_program::OutOfMemory;
-use round_eval::WorkFault;
 use std::alloc::Global;
 use std::sync::{Arc, Wait};
 
-// Why a segment stops before its last round.
-#[derive(Drop)]
-pub(crate) enum RunStop {
-    // One of its borders is closed.
+// Why a segment stops at one of its borders.
+#[derive(Clone, Copy, Drop)]
+pub(crate) enum EndStop {
+    // The border is closed.
     BorderClosed,
-    // The segment's own fault.
-    Fault(WorkFault),
+    // Memory for a message was refused.
+    OutOfMemory,
 }
 
-// Returns why a segment stops whose message was not put.
-fn stop_of(fault: PutFault) -> RunStop
-    ensures { result ≡ stop_of fault }
+// Returns why a segment stops if its message, which was not misplaced, was not put.
+fn stopped<M: Drop>(put: Result<(), (M, PutFault)>) -> Result<(), EndStop>
+    requires { IfErr put (λ back. back.1 ≢ Misplaced) }
+    ensures { MatchResult put (λ done. result ≡ Ok done) (λ back. IsErrAnd result (IsEndStop back.1)) }
 {
-    match fault {
-        PutFault::Closed => RunStop::BorderClosed,
-        PutFault::Misplaced => RunStop::Fault(WorkFault::Stranger),
-        PutFault::OutOfMemory => RunStop::Fault(WorkFault::OutOfMemory),
-    }
-}
-
-impl From<Strange> for RunStop {
-    ghost use Rattle.ring_exec.specs.declared.end.RunStop.TheVariants.{Fault};
-
-    ghost from_gives = { λ _ stop. stop ≡ Fault Stranger };
-
-    fn from(_strange: Strange) -> RunStop {
-        RunStop::Fault(WorkFault::Stranger)
+    match put {
+        Ok(()) => Ok(()),
+        Err((_message, PutFault::Closed)) => Err(EndStop::BorderClosed),
+        Err((_message, PutFault::Misplaced)) => unreachable!(),
+        Err((_message, PutFault::OutOfMemory)) => Err(EndStop::OutOfMemory),
     }
 }
 
@@ -53,29 +44,25 @@ pub(crate) struct End<M: Dated, N: BorderName> {
 }
 
 impl<M: Dated + Copy, N: BorderName> End<M, N> {
-    ghost use Rattle.ring_exec.specs.declared.end.RunStop.TheVariants.{BorderClosed, Fault};
+    ghost use Rattle.ring_exec.specs.declared.end.EndStop.TheVariants.{BorderClosed};
 
     // Puts the next message of its seat.
-    pub(crate) fn put<R: Wait>(&mut self, rt: &R, message: M) -> Result<(), RunStop>
+    pub(crate) fn put<R: Wait>(&mut self, rt: &R, message: M) -> Result<(), EndStop>
         requires next { IsNext M.side_of M.round_of self.old.seat message }
         requires few { self.old.seat.puts < MAX_ROUNDS }
         ensures put { OnOk result (self.new.seat ≡ record self.old.seat { puts = self.old.seat.puts + 1 }) }
-        ensures expected { IfErr result (λ stop. stop ≢ Fault Stranger) }
     {
-        match self.border.put(rt, &mut self.seat, message) {
-            Ok(()) => Ok(()),
-            Err((_message, fault)) => Err(stop_of(fault)),
-        }
+        stopped(self.border.put(rt, &mut self.seat, message))
     }
 
     // Takes the neighbour's message of this round, and waits for it.
-    pub(crate) fn take<R: Wait>(&self, rt: &R, round: u32) -> Result<M, RunStop>
+    pub(crate) fn take<R: Wait>(&self, rt: &R, round: u32) -> Result<M, EndStop>
         ensures message { IfOk result (λ m. (M.side_of m ≡ opposite self.now.seat.side) × (M.round_of m ≡ round)) }
         ensures closed { IfErr result (λ stop. stop ≡ BorderClosed) }
     {
         self.border
             .take(rt, opposite(self.seat.side()), round)
-            .ok_or(RunStop::BorderClosed)
+            .ok_or(EndStop::BorderClosed)
     }
 
     // Closes the border for both neighbours.

@@ -12,6 +12,7 @@ mod message_run;
 mod progress;
 mod relay;
 mod runner;
+mod segment_fault;
 
 pub use border_exchange::{MAX_SEGMENTS, Msg, Segment, Strange};
 pub use fault::RunFault;

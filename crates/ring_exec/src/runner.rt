@@ -1,23 +1,25 @@
 //! A segment that runs between its two borders.
-ghost use Rattle.std.specs.Prelude.{◌≡◌, ◌≢◌, ◌+◌, ◌<◌, ◌↔◌, IfErr, IfOk, IsOk, MatchResult, OnOk, length};
+ghost use Rattle.std.specs.Prelude.{◌≡◌, ◌+◌, ◌<◌, ◌↔◌, IfErr, IfOk, IsOk, MatchResult, OnOk, length};
 ghost use Rattle.border_exchange.specs.declared.Side.TheVariants.{Rightward, Leftward};
 ghost use Rattle.border_exchange.specs.Headings.{heading_of};
 ghost use Rattle.border_exchange.specs.Needs as needs;
 ghost use Rattle.ring_exec.specs.Seats.{AreOfRound, AreSeatsOf, HasRoundToDo};
-ghost use Rattle.ring_exec.specs.declared.end.RunStop.TheVariants.{BorderClosed, Fault};
-ghost use Rattle.round_eval.specs.declared.fault.WorkFault.TheVariants.{Stranger};
+ghost use Rattle.ring_exec.specs.SegmentFaults.{IsFaultOf, IsOutcome, IsStopOf};
+ghost use Rattle.ring_exec.specs.declared.end.EndStop.TheVariants.{BorderClosed};
+ghost use Rattle.ring_exec.specs.declared.segment_fault.RunStop.TheVariants.{Strange as StrangeTaken};
 
 use crate::border_name::BorderName;
-use crate::end::{End, RunStop};
-use border_exchange::{Dated, Msg, Segment};
-use round_eval::{Gate, WorkFault};
+use crate::end::{End, EndStop};
+use crate::segment_fault::{Mismatch, RunStop, SegmentFault};
+use border_exchange::{Dated, Msg, Segment, Strange};
+use round_eval::Gate;
 use std::alloc::Global;
 use std::sync::Wait;
 use std::thread::{Promise, PromisedHandle};
 
 // The outcome of a segment's thread: the segment, after the last round unless a border was closed
-// before.
-pub(crate) type SegmentOutcome<'a> = Result<Segment<'a>, WorkFault>;
+// before, or its fault.
+pub(crate) type SegmentOutcome<'a> = Result<Segment<'a>, SegmentFault<'a>>;
 
 // The promise that a thread returns the segment with this index, unless it has a fault.
 #[derive(Clone, Copy)]
@@ -62,7 +64,8 @@ impl<'s, 'a, R: Wait, G: Gate, A: BorderName, B: BorderName> Runner<
     // Runs the segment to its last round, or until it stops; then closes both borders.
     pub(crate) fn run(self) -> SegmentOutcome<'a>
         requires { AreSeatsOf self.segment self.left.seat self.right.seat }
-        ensures { IfOk result (λ segment. segment.index ≡ self.entry.segment.index) }
+        ensures segment { IfOk result (λ segment. segment ≡ record self.entry.segment { round = segment.round }) }
+        ensures fault { IfErr result (IsFaultOf self.entry.segment) }
     {
         let Runner {
             shared,
@@ -74,10 +77,7 @@ impl<'s, 'a, R: Wait, G: Gate, A: BorderName, B: BorderName> Runner<
         let stopped = run_rounds(shared, index, &mut segment, &mut left, &mut right);
         drop(left);
         drop(right);
-        match stopped {
-            Ok(()) => Ok(segment),
-            Err(stop) => outcome_of(segment, stop),
-        }
+        outcome_of(segment, stopped)
     }
 }
 
@@ -88,10 +88,11 @@ fn run_rounds<'a, R: Wait, G: Gate, A: BorderName, B: BorderName>(
     segment: &mut Segment<'a>,
     left: &mut End<Msg<'a>, A>,
     right: &mut End<Msg<'a>, B>,
-) -> Result<(), RunStop>
+) -> Result<(), RunStop<'a>>
     requires { AreSeatsOf segment.old left.old.seat right.old.seat }
     ensures same { segment.new ≡ record segment.old { round = segment.new.round } }
     ensures done { OnOk result (segment.new.round ≡ length segment.new.plan.program.steps) }
+    ensures stop { IfErr result (IsStopOf segment.new) }
 {
     while segment.round() < segment.rounds() {
         shared.gate.entered(index, segment.round());
@@ -104,14 +105,20 @@ fn run_rounds<'a, R: Wait, G: Gate, A: BorderName, B: BorderName>(
     Ok(())
 }
 
-// Returns the outcome of a segment that stops. A closed border is no fault of the segment.
-fn outcome_of<'a>(segment: Segment<'a>, stop: RunStop) -> SegmentOutcome<'a>
-    ensures closed { IfOk result (λ stopped. (stop ≡ BorderClosed) × (stopped ≡ segment.entry)) }
-    ensures fault { IfErr result (λ fault. stop ≡ Fault fault) }
+// Returns the outcome of a segment that has done its last round or stopped before. A closed border is
+// no fault of the segment.
+fn outcome_of<'a>(segment: Segment<'a>, stopped: Result<(), RunStop<'a>>) -> SegmentOutcome<'a>
+    requires { IfErr stopped (IsStopOf segment) }
+    ensures { IsOutcome segment.entry stopped.entry result }
 {
-    match stop {
-        RunStop::BorderClosed => Ok(segment),
-        RunStop::Fault(fault) => Err(fault),
+    match stopped {
+        Ok(()) | Err(RunStop::BorderClosed) => Ok(segment),
+        Err(RunStop::OutOfMemory) => Err(SegmentFault::OutOfMemory),
+        Err(RunStop::Strange(from_left, from_right)) => Err(SegmentFault::Stranger(Mismatch {
+            segment,
+            from_left,
+            from_right,
+        })),
     }
 }
 
@@ -121,11 +128,12 @@ fn next_round<'a, R: Wait, A: BorderName, B: BorderName>(
     segment: &mut Segment<'a>,
     left: &mut End<Msg<'a>, A>,
     right: &mut End<Msg<'a>, B>,
-) -> Result<(), RunStop>
+) -> Result<(), RunStop<'a>>
     requires { HasRoundToDo segment.old left.old.seat right.old.seat }
     ensures advanced { MatchResult result (λ _. segment.new ≡ record segment.old { round = segment.old.round + 1 })
         (λ _. segment.new ≡ segment.old) }
     ensures seats { OnOk result (AreSeatsOf segment.new left.new.seat right.new.seat) }
+    ensures stop { IfErr result (IsStopOf segment.old) }
 {
     send(rt, segment, left, right)?;
     let (from_left, from_right) = receive(rt, segment.round(), left, right)?;
@@ -138,10 +146,9 @@ fn send<'a, R: Wait, A: BorderName, B: BorderName>(
     segment: &Segment<'a>,
     left: &mut End<Msg<'a>, A>,
     right: &mut End<Msg<'a>, B>,
-) -> Result<(), RunStop>
+) -> Result<(), EndStop>
     requires { HasRoundToDo segment.now left.old.seat right.old.seat }
     ensures seats { OnOk result (AreSeatsOf (record segment.now { round = segment.now.round + 1 }) left.new.seat right.new.seat) }
-    ensures expected { IfErr result (λ stop. stop ≢ Fault Stranger) }
 {
     let (rightward, leftward) = segment.outgoing();
     right.put(rt, rightward)?;
@@ -154,7 +161,7 @@ fn receive<'a, R: Wait, A: BorderName, B: BorderName>(
     round: u32,
     left: &End<Msg<'a>, A>,
     right: &End<Msg<'a>, B>,
-) -> Result<(Msg<'a>, Msg<'a>), RunStop>
+) -> Result<(Msg<'a>, Msg<'a>), EndStop>
     requires sides { (left.now.seat.side ≡ Leftward) × (right.now.seat.side ≡ Rightward) }
     ensures messages { IfOk result (λ m. AreOfRound round (heading_of m.0) (heading_of m.1)) }
     ensures closed { IfErr result (λ stop. stop ≡ BorderClosed) }
@@ -169,13 +176,15 @@ fn advance<'a>(
     segment: &mut Segment<'a>,
     from_left: Msg<'a>,
     from_right: Msg<'a>,
-) -> Result<(), RunStop>
+) -> Result<(), RunStop<'a>>
     requires more { segment.old.round < length segment.old.plan.program.steps }
     requires messages { AreOfRound segment.old.round (heading_of from_left) (heading_of from_right) }
     ensures exactly { IsOk result ↔ ((heading_of from_left.entry ≡ needs.from_left segment.old) × (heading_of from_right.entry ≡ needs.from_right segment.old)) }
     ensures advanced { OnOk result (segment.new ≡ record segment.old { round = segment.old.round + 1 }) }
-    ensures stranger { IfErr result (λ stop. (stop ≡ Fault Stranger) × (segment.new ≡ segment.old)) }
+    ensures strange { IfErr result (λ stop. (stop ≡ StrangeTaken from_left.entry from_right.entry) × (segment.new ≡ segment.old)) }
 {
-    segment.advance(from_left, from_right)?;
-    Ok(())
+    match segment.advance(from_left, from_right) {
+        Ok(()) => Ok(()),
+        Err(Strange) => Err(RunStop::Strange(from_left, from_right)),
+    }
 }
