@@ -3,10 +3,10 @@
 ghost use Rattle.std.specs.Prelude.{◌≡◌, ◌<◌, false, length, IfOk};
 ghost use Rattle.std.specs.Io.{ReadsAtMost, WritesAtMost};
 ghost use Rattle.std.specs.Io.KnownBytes.{ReadConsumes, WriteAppends};
-ghost use Rattle.devices.specs.Watched.{device_of, failure_of, has_failed, calls_of, IsCall};
+ghost use Rattle.devices.specs.Watched.{device_of, failure_of, has_failed, calls_of, outcome_of, IsCall, IsNoted};
 
 use crate::fault::EngineFault;
-use std::io::{ErrorKind, Read, Write};
+use std::io::{self, ErrorKind, Read, Write};
 
 /// A reader or a writer that counts its reads and writes, and notes the failure of one of them.
 #[derive(Drop)]
@@ -63,6 +63,34 @@ impl<D> Watched<D> {
         } = self;
         device
     }
+
+    // Counts a call that offered these bytes to the device, and notes the kind of its failure, if the
+    // device's answer is one. Returns the number of bytes of the answer, or this fault.
+    fn noted(
+        &mut self,
+        answer: io::Result<usize>,
+        offered: &[u8],
+        fault: EngineFault,
+    ) -> Result<usize, EngineFault>
+        ensures { IsNoted (outcome_of offered.now answer) fault self.old self.new result }
+    {
+        let outcome = outcome_of(answer, offered);
+        self.calls = self.calls.saturating_add(1);
+        self.failure = outcome.err();
+        outcome.map_err(|_kind| fault)
+    }
+}
+
+// Returns the number of bytes that a device answers to a call that offered it these bytes, or the
+// kind of its failure: that of its error, or `WriteZero` if it took none of the bytes.
+fn outcome_of(answer: io::Result<usize>, offered: &[u8]) -> Result<usize, ErrorKind>
+    ensures { result ≡ outcome_of offered.now answer }
+{
+    match answer {
+        Ok(0) if !offered.is_empty() => Err(ErrorKind::WriteZero),
+        Ok(count) => Ok(count),
+        Err(error) => Err(error.kind()),
+    }
 }
 
 impl<R: Read> Watched<R> {
@@ -77,14 +105,8 @@ impl<R: Read> Watched<R> {
             (R.remaining (device_of self.new)) result buffer.new }
         ensures call { IsCall EngineFault.Read self.old self.new result }
     {
-        self.calls = self.calls.saturating_add(1);
-        match self.device.read(buffer) {
-            Ok(count) => Ok(count),
-            Err(error) => {
-                self.failure = Some(error.kind());
-                Err(EngineFault::Read)
-            }
-        }
+        let answer = self.device.read(buffer);
+        self.noted(answer, &[], EngineFault::Read)
     }
 }
 
@@ -102,17 +124,7 @@ impl<W: Write> Watched<W> {
             (W.contents (device_of self.new)) result bytes.now }
         ensures call { IsCall EngineFault.Write self.old self.new result }
     {
-        self.calls = self.calls.saturating_add(1);
-        match self.device.write(bytes) {
-            Ok(taken) if taken > 0 || bytes.is_empty() => Ok(taken),
-            Ok(_) => {
-                self.failure = Some(ErrorKind::WriteZero);
-                Err(EngineFault::Write)
-            }
-            Err(error) => {
-                self.failure = Some(error.kind());
-                Err(EngineFault::Write)
-            }
-        }
+        let answer = self.device.write(bytes);
+        self.noted(answer, bytes, EngineFault::Write)
     }
 }

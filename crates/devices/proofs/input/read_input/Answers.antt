@@ -1,4 +1,4 @@
-use Rattle.std.proofs.Common.{◌≡◌, ◌≤◌, ◌∙◌, false, length, arith, rules}
+use Rattle.std.proofs.Common.{◌≡◌, ◌≤◌, ◌∙◌, ap, is_some, false, length, arith, rules}
 use Rattle.std.proofs.KnownBytes.{Consumes-trans}
 use Rattle.std.proofs.lemmas.Grind.{common_steps}
 use Rattle.std.proofs.lemmas.List.{take-append-le}
@@ -46,7 +46,7 @@ returns-clause-failed g c =
     let working : has_failed c.reads-test.reader ≡ false = elim c.reads-test.branch [
       | else-reads-test w ↦ rw w.reader-is inv.working
       | then-reads-test+then-len-most w ↦ rw w.reader-is inv.working
-      | then-reads-test+else-len-most+in_ok-count+then-count-eq0 w ↦ rw w.reader-is (w.in_ok-count.ensures.call.noted ∙ inv.working)
+      | then-reads-test+else-len-most+in_ok-count+then-count-eq0 w ↦ rw w.reader-is (ap is_some w.in_ok-count.ensures.call.noted ∙ inv.working)
     ] in
     record { fault_is = tt; failed_is = (λ none. absurd (cc), λ failed. absurd (cc)) }
 
