@@ -33,27 +33,6 @@ fn is_number(word: &[u8]) -> bool
     word.iter().all(|byte| is_digit(*byte))
 }
 
-// The names of the operations, and their tokens.
-const OPERATIONS: [(&str, Token); 17] = [
-    ("not", Token::One(UnOp::Not)),
-    ("and", Token::Two(BinOp::And)),
-    ("or", Token::Two(BinOp::Or)),
-    ("xor", Token::Two(BinOp::Xor)),
-    ("shl", Token::Two(BinOp::Shl)),
-    ("shr", Token::Two(BinOp::Shr)),
-    ("add", Token::Two(BinOp::Add)),
-    ("sub", Token::Two(BinOp::Sub)),
-    ("min", Token::Two(BinOp::Min)),
-    ("max", Token::Two(BinOp::Max)),
-    ("ldb", Token::Two(BinOp::Ldb)),
-    ("bit", Token::Two(BinOp::Bit)),
-    ("eq", Token::Two(BinOp::Eq)),
-    ("ne", Token::Two(BinOp::Ne)),
-    ("lt", Token::Two(BinOp::Lt)),
-    ("le", Token::Two(BinOp::Le)),
-    ("if", Token::If),
-];
-
 // The other words, and their tokens.
 const KEYWORDS: [(&str, Token); 12] = [
     ("rounds", Token::Rounds),
@@ -82,11 +61,50 @@ fn token_in(rows: &[(&str, Token)], word: &[u8]) -> Option<Token>
     None
 }
 
+// The token of each operation's name, one line each.
+macro_rules! tokens {
+    (
+        $word:expr;
+        one { $($one:ident => $one_name:literal,)* }
+        two { $($two:ident => $two_name:literal,)* }
+        choose => $choose_name:literal
+    ) => {
+        match $word {
+            $($one_name => Some(Token::One(UnOp::$one)),)*
+            $($two_name => Some(Token::Two(BinOp::$two)),)*
+            $choose_name => Some(Token::If),
+            _ => None,
+        }
+    };
+}
+
 // Returns the token of the operation with this name.
 fn operation(word: &[u8]) -> Option<Token>
     ensures { result ≡ named operations word.now }
 {
-    token_in(&OPERATIONS, word)
+    tokens! { word;
+        one {
+            Not => b"not",
+        }
+        two {
+            And => b"and",
+            Or => b"or",
+            Xor => b"xor",
+            Shl => b"shl",
+            Shr => b"shr",
+            Add => b"add",
+            Sub => b"sub",
+            Min => b"min",
+            Max => b"max",
+            Ldb => b"ldb",
+            Bit => b"bit",
+            Eq => b"eq",
+            Ne => b"ne",
+            Lt => b"lt",
+            Le => b"le",
+        }
+        choose => b"if"
+    }
 }
 
 // Returns the token of any other fixed word.
