@@ -1,5 +1,5 @@
 -- The forms of a line: a comment, a deletion, or an addition, which may be after an exchange.
-use Rattle.std.specs.Prelude.{◌==◌, ℕ, Bool, true, false, List, [], ◌∷◌, Option, None, Some, option_map, if◌then◌else◌}
+use Rattle.std.specs.Prelude.{◌==◌, ℕ, Bool, true, List, [], ◌∷◌, Option, None, Some, option_map, if◌then◌else◌}
 use Rattle.table_formula.specs.declared.literal.Literal.{Literal}
 use Rattle.table_formula.specs.declared.exchange.Exchange.{Exchange}
 use Rattle.table_formula.specs.declared.exchange.Exchange.TheVariants as exchange

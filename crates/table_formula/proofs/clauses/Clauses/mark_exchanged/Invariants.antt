@@ -1,5 +1,4 @@
 use Rattle.std.proofs.Common.{◌≡◌, map, take, drop, true}
-use Rattle.std.specs.List.{list_all}
 use Rattle.table_formula.specs.Clauses.{has_literal}
 use Rattle.table_formula.specs.Marked.{is_marked, variables_of}
 use Rattle.table_formula.specs.declared.literal.Literal.{Literal as Lit}
