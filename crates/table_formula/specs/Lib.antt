@@ -23,6 +23,7 @@ pub mod FirstFaults
 pub mod RefutationNotes
 pub mod Parts
 pub mod Forms
+pub mod Reader
 pub mod Added
 pub mod Stored
 pub mod Marked

@@ -12,6 +12,13 @@ pub enum RefuteError {
     OutOfMemory,
 }
 
+/// The first fault of a text, and the number of its line, counted from 1.
+#[derive(Clone, Copy)]
+pub(crate) struct FirstFault {
+    pub(crate) line: u64,
+    pub(crate) fault: LineFault,
+}
+
 /// What is wrong with a line of a text.
 #[derive(Clone, Copy, Debug, PartialEq, Eq)]
 pub enum LineFault {

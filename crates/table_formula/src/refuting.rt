@@ -1,18 +1,20 @@
 //! Checks a text line by line.
-ghost use Rattle.std.specs.Prelude.{◌≡◌, ℕ, ◌≤◌, List, None, Some, length, IfOk, IfErr, OnOk};
+ghost use Rattle.std.specs.Prelude.{◌≡◌, ℕ, List, IfOk, IfErr, OnOk, OnErr};
 ghost use Rattle.table_formula.specs.Problems.{IsImpossible};
 ghost use Rattle.table_formula.specs.Derivations.{adds_empty};
 ghost use Rattle.table_formula.specs.Refutations.{IsRefutation, IsFault};
-ghost use Rattle.table_formula.specs.FirstFaults.{fault_in};
+ghost use Rattle.table_formula.specs.FirstFaults.{first_fault as fault_from, error_of, IsToCome};
 ghost use Rattle.table_formula.specs.Forms.{line_of};
+ghost use Rattle.table_formula.specs.Checked.{problem_of, derivation_of};
+ghost use Rattle.table_formula.specs.Reader.{lines_left, lines_read};
 
 use crate::checker::Checker;
-use crate::fault::{LineFault, RefuteError};
-use crate::forms::{LineForm, read_line};
+use crate::fault::{FirstFault, LineFault, RefuteError};
+use crate::forms::LineForm;
 use crate::formula::Formula;
 use crate::limits::LONGEST_REFUTATION;
 use crate::literal::Literal;
-use crate::parts::Parts;
+use crate::reader::Reader;
 use crate::refutation_laws::refutations_are_sound;
 use std::alloc::{AllocError, Global};
 
@@ -49,48 +51,34 @@ pub fn refute(alloc: Global, formula: &Formula, text: &[u8]) -> Result<(), Refut
         return Err(RefuteError::TooLong);
     }
     refutations_are_sound();
-    let fault = first_fault(alloc, formula, text)?;
-    verdict_of(fault)
-}
-
-// Returns the result of `refute` where this is the first fault of the text, if it has one.
-fn verdict_of(fault: Option<RefuteError>) -> Result<(), RefuteError>
-    ensures ok { OnOk result (fault ≡ None) }
-    ensures fault { IfErr result (λ told. fault ≡ Some told) }
-{
-    match fault {
+    let mut checker = Checker::new(alloc, formula)?;
+    let mut lines = Reader::new(alloc, text);
+    match first_fault(&mut checker, &mut lines)? {
         None => Ok(()),
-        Some(fault) => Err(fault),
+        Some(FirstFault { line, fault }) => Err(RefuteError::At { line, fault }),
     }
 }
 
-// Returns the first fault of the lines of a text up to the one that adds the empty clause.
-fn first_fault(
-    alloc: Global,
-    formula: &Formula,
-    text: &[u8],
-) -> Result<Option<RefuteError>, AllocError>
-    requires { length text.now ≤ LONGEST_REFUTATION }
-    ensures { IfOk result (λ fault. fault ≡ fault_in formula.now text.now) }
+// Returns the first fault of the lines that are left, up to the one that adds the empty clause. If
+// memory is refused, it is the fault of a line that was not read.
+fn first_fault(checker: &mut Checker, lines: &mut Reader) -> Result<Option<FirstFault>, AllocError>
+    ensures found { IfOk result (λ found. error_of found
+        ≡ fault_from (problem_of checker.old) (derivation_of checker.old) (lines_read lines.old) (lines_left lines.old)) }
+    ensures refused { OnErr result (IsToCome (problem_of checker.old) (lines_read lines.new) (lines_left lines.new)
+        (fault_from (problem_of checker.old) (derivation_of checker.old) (lines_read lines.old) (lines_left lines.old))) }
 {
-    let mut checker = Checker::new(alloc, formula)?;
-    let mut clause = Vec::new(alloc);
-    let mut numbers = Vec::new(alloc);
-    let mut lines = Parts::new(text, b'\n');
-    let mut count: u64 = 0;
-    while let Some(line) = lines.next() {
-        count += 1;
-        let form = read_line(line, &mut clause, &mut numbers)?;
-        if let Some(fault) = checker.fault_of_line(form, &clause, &numbers) {
-            return Ok(Some(RefuteError::At { line: count, fault }));
+    while let Some(form) = lines.next()? {
+        if let Some(fault) = checker.fault_of_line(form, &lines.clause, &lines.numbers) {
+            let line = lines.count();
+            return Ok(Some(FirstFault { line, fault }));
         }
-        if adds_empty_clause(form, &clause) {
+        if adds_empty_clause(form, &lines.clause) {
             return Ok(None);
         }
-        checker.step(form, &clause, &numbers)?;
+        checker.step(form, &lines.clause, &lines.numbers)?;
     }
-    Ok(Some(RefuteError::At {
-        line: count,
+    Ok(Some(FirstFault {
+        line: lines.count(),
         fault: LineFault::NoEmptyClause,
     }))
 }

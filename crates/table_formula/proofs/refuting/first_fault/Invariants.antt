@@ -1,15 +1,15 @@
-use Rattle.std.proofs.Common.{◌≡◌, ◌+◌, ◌≤◌, length}
-use Rattle.table_formula.specs.FirstFaults.{first_fault, fault_in}
-use Rattle.table_formula.specs.Parts.{remaining_parts}
+use Rattle.std.proofs.Common.{◌≡◌, length}
+use Rattle.table_formula.specs.FirstFaults.{first_fault}
+use Rattle.table_formula.specs.Reader.{lines_left, lines_read}
 use Rattle.table_formula.specs.Checked.{problem_of, derivation_of}
 use Rattle.table_formula.proofs.refuting.first_fault.Given as goal
 
-abbrev pub invariant-loop-line : goal.invariant-loop-line
-invariant-loop-line l = record {
-  problem : problem_of l.checker ≡ l.formula;
-  fault : first_fault l.formula (derivation_of l.checker) l.count (remaining_parts l.lines) ≡ fault_in l.formula l.text;
-  lines : l.count + length (remaining_parts l.lines) ≤ length l.text + 1;
+abbrev pub invariant-loop-form : goal.invariant-loop-form
+invariant-loop-form l = record {
+  problem : problem_of l.checker ≡ problem_of l.initial.checker;
+  fault : first_fault (problem_of l.initial.checker) (derivation_of l.checker) (lines_read l.lines) (lines_left l.lines)
+      ≡ first_fault (problem_of l.initial.checker) (derivation_of l.initial.checker) (lines_read l.initial.lines) (lines_left l.initial.lines);
 }
 
-abbrev pub decreases-loop-line : goal.decreases-loop-line
-decreases-loop-line l = length (remaining_parts l.lines)
+abbrev pub decreases-loop-form : goal.decreases-loop-form
+decreases-loop-form l = length (lines_left l.lines)
