@@ -1,5 +1,5 @@
 -- The first fault of lines, as the program finds it. No public contract cites this file.
-use Rattle.std.specs.Prelude.{◌≡◌, ℕ, ◌+◌, Bool, List, [], ◌∷◌, Option, None, Some, if◌then◌else◌}
+use Rattle.std.specs.Prelude.{ℕ, ◌+◌, Bool, List, [], ◌∷◌, Option, None, Some, if◌then◌else◌}
 use Rattle.table_formula.specs.Problems.{Problem}
 use Rattle.table_formula.specs.declared.fault.FirstFault.{FirstFault}
 use Rattle.table_formula.specs.declared.fault.LineFault.{LineFault}
@@ -21,10 +21,6 @@ first_fault p d count [] = Some (At count NoEmptyClause)
 first_fault p d count (line ∷ lines) =
     fault_or (line_fault p d (line_in line)) (adds_empty (line_in line)) (count + 1)
     (first_fault p (after_line d (line_in line)) (count + 1) lines)
-
--- the lines before these were right: this fault is the first one of these lines, after this number of lines and from some derivation on
-abbrev pub IsToCome : Problem → ℕ → List (List ℕ) → Option RefuteError → Type 0
-IsToCome p count lines fault = (d : Derivation) × (first_fault p d count lines ≡ fault)
 
 -- a fault that was found, as the error of the text
 abbrev pub error_of : Option FirstFault → Option RefuteError

@@ -1,5 +1,5 @@
 -- What a line says, as the program keeps it. No public contract cites this file.
-use Rattle.std.specs.Prelude.{ℕ, List, Option, None, Some}
+use Rattle.std.specs.Prelude.{ℕ, Bool, true, false, List, Option, None, Some}
 use Rattle.table_formula.specs.declared.literal.Literal.{Literal}
 use Rattle.table_formula.specs.declared.forms.LineForm.{LineForm}
 use Rattle.table_formula.specs.declared.forms.LineForm.TheVariants as form
@@ -11,3 +11,8 @@ line_of form.Malformed clause numbers = None
 line_of form.Comment clause numbers = Some Comment
 line_of form.Deletion clause numbers = Some (Deletion numbers)
 line_of (form.Addition exchange number) clause numbers = Some (Addition exchange number clause numbers)
+
+-- whether a line of this form adds a clause
+abbrev pub is_addition : LineForm → Bool
+is_addition (form.Addition exchange number) = true
+is_addition _ = false

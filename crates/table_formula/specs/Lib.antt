@@ -28,5 +28,6 @@ pub mod Added
 pub mod Stored
 pub mod Marked
 pub mod Checked
+pub mod Refused
 pub mod Steps
 pub mod RefutationLaws

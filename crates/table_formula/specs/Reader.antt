@@ -1,9 +1,8 @@
 -- What a reader of lines has read, and what is left. No public contract cites this file.
-use Rattle.std.specs.Prelude.{◌≡◌, ℕ, ◌+◌, List, [], ◌∷◌, Option, None, Some, Result, Ok, Err}
+use Rattle.std.specs.Prelude.{◌≡◌, ◌≢◌, ℕ, ◌+◌, Bool, true, false, List, [], ◌∷◌, Option, Result, Ok, Err}
 use Rattle.std.specs.declared.alloc.AllocError.{AllocError}
-use Rattle.table_formula.specs.declared.forms.LineForm.{LineForm}
 use Rattle.table_formula.specs.declared.reader.Reader.{Reader}
-use Rattle.table_formula.specs.Lines.{line_in}
+use Rattle.table_formula.specs.Lines.{Line, line_in}
 use Rattle.table_formula.specs.Forms.{line_of}
 use Rattle.table_formula.specs.Parts.{remaining_parts}
 
@@ -15,19 +14,23 @@ lines_left reader = remaining_parts reader.left
 abbrev pub lines_read : Reader → ℕ
 lines_read reader = reader.count
 
+-- what the last line says that was read
+abbrev pub line_read : Reader → Option Line
+line_read reader = line_of reader.form reader.clause.items reader.numbers.items
+
 -- the same lines are left, after as many
 pub record StaysThere (old new : Reader) : Type 0 where
   pub left : lines_left new ≡ lines_left old
   pub read : lines_read new ≡ lines_read old
 
--- this line was read: it says what its form, its clause and its numbers say
-pub record ReadsLine (old new : Reader) (line : List ℕ) (form : LineForm) : Type 0 where
+-- the next line was read, which is this one
+pub record ReadsLine (old new : Reader) (line : List ℕ) : Type 0 where
   pub left : lines_left old ≡ line ∷ lines_left new
   pub read : lines_read new ≡ lines_read old + 1
-  pub says : line_in line ≡ line_of form new.clause.items new.numbers.items
+  pub says : line_in line ≡ line_read new
 
--- the next line was read; or there is none, or memory was refused, and the reader stays where it is
-abbrev pub ReadsNext : Reader → Reader → Result (Option LineForm) AllocError → Type 0
-ReadsNext old new (Ok None) = (lines_left old ≡ []) × StaysThere old new
-ReadsNext old new (Ok (Some form)) = (line : List ℕ) × ReadsLine old new line form
-ReadsNext old new (Err refused) = StaysThere old new
+-- the next line was read; or the reader stays where it is, since there is none, or since memory was refused to read it
+abbrev pub ReadsNext : Reader → Reader → Result Bool AllocError → Type 0
+ReadsNext old new (Ok true) = (line : List ℕ) × ReadsLine old new line
+ReadsNext old new (Ok false) = (lines_left old ≡ []) × StaysThere old new
+ReadsNext old new (Err refused) = (lines_left old ≢ []) × StaysThere old new

@@ -30,11 +30,11 @@ pub(crate) struct Checker<'f> {
 }
 
 impl<'f> Checker<'f> {
-    ghost use Rattle.std.specs.Prelude.{◌<◌, None, IsTrue, IfOk, IfErr, OnOk};
+    ghost use Rattle.std.specs.Prelude.{◌<◌, true, None, IsTrue, IfOk, IfErr, OnOk, OnErr};
     ghost use Rattle.table_formula.specs.Hints.{outcome_of};
     ghost use Rattle.table_formula.specs.Marked.{is_marked};
     ghost use Rattle.table_formula.specs.Derivations.{opening, hints_fault, is_known, step_fault, line_fault, with_clause, after_line};
-    ghost use Rattle.table_formula.specs.Forms.{line_of};
+    ghost use Rattle.table_formula.specs.Forms.{line_of, is_addition};
     ghost use Rattle.table_formula.specs.Stored.{clause_of};
     ghost use Rattle.table_formula.specs.Checked.{problem_of, derivation_of};
 
@@ -78,7 +78,8 @@ impl<'f> Checker<'f> {
         }
     }
 
-    /// Makes the step of a line that is right. Fails if memory was refused.
+    /// Makes the step of a line that is right. Fails if memory was refused for a clause, which is not
+    /// added then.
     pub(crate) fn step(
         &mut self,
         form: LineForm,
@@ -88,6 +89,8 @@ impl<'f> Checker<'f> {
         requires { line_fault (problem_of self.old) (derivation_of self.old) (line_of form clause.now numbers.now) ≡ None }
         ensures problem { problem_of self.new ≡ problem_of self.old }
         ensures after { OnOk result (derivation_of self.new ≡ after_line (derivation_of self.old) (line_of form clause.now numbers.now)) }
+        ensures refused { OnErr result (is_addition form ≡ true) }
+        ensures kept { OnErr result (derivation_of self.new ≡ derivation_of self.old) }
     {
         match form {
             LineForm::Malformed | LineForm::Comment => Ok(()),
@@ -146,6 +149,7 @@ impl<'f> Checker<'f> {
         requires known { IsTrue (is_known (problem_of self.old) clause.now) }
         ensures problem { problem_of self.new ≡ problem_of self.old }
         ensures after { OnOk result (derivation_of self.new ≡ with_clause (derivation_of self.old) number clause.now) }
+        ensures kept { OnErr result (derivation_of self.new ≡ derivation_of self.old) }
     {
         let clause = Vec::from_slice(self.alloc, clause)?;
         self.clauses.insert(number, clause)?;

@@ -24,7 +24,7 @@ pub(crate) struct Clauses<'f> {
 }
 
 impl<'f> Clauses<'f> {
-    ghost use Rattle.std.specs.Prelude.{ℕ, ◌==◌, ◌<◌, ◌≤◌, None, Some, IfOk, IfSome, OnOk, All, IsTrue, map, option_map, if◌then◌else◌};
+    ghost use Rattle.std.specs.Prelude.{ℕ, ◌==◌, ◌<◌, ◌≤◌, None, Some, IfOk, IfSome, OnOk, OnErr, All, IsTrue, map, option_map, if◌then◌else◌};
     ghost use Rattle.std.specs.List.{list_any};
     ghost use Rattle.table_formula.specs.Hints.{left_of, remaining_of};
     ghost use Rattle.table_formula.specs.Marked.{is_marked, variables_of, IsOneBelow};
@@ -139,6 +139,7 @@ impl<'f> Clauses<'f> {
         requires known { All (λ l. l.variable < variable_count self.old.formula.now) clause.items }
         ensures formula { self.new.formula.now ≡ self.old.formula.now }
         ensures clauses { OnOk result ((n : ℕ) → clause_of self.new n ≡ (if n == number then Some clause.items else clause_of self.old n)) }
+        ensures kept { OnErr result ((n : ℕ) → clause_of self.new n ≡ clause_of self.old n) }
     {
         insert_clause(&mut self.added, number, clause)
     }

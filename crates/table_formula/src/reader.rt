@@ -8,12 +8,13 @@ use crate::literal::Literal;
 use crate::parts::Parts;
 use std::alloc::{AllocError, Global};
 
-/// The lines of a text that are left, the number of those before, and what the last of these says
-/// beside its form: its clause, and its hints or deleted numbers.
+/// The lines of a text that are left, the number of those before, and what the last of these says:
+/// its form, its clause, and its hints or deleted numbers.
 #[derive(Drop)]
 pub(crate) struct Reader<'t> {
     left: Parts<'t>,
     count: u64,
+    pub(crate) form: LineForm,
     pub(crate) clause: Vec<Literal>,
     pub(crate) numbers: Vec<u64>,
     ghost countable: { count + length (remaining_parts left) < 2 ^ 64 },
@@ -33,6 +34,7 @@ impl<'t> Reader<'t> {
         Reader {
             left: Parts::new(text, b'\n'),
             count: 0,
+            form: LineForm::Comment,
             clause: Vec::new(alloc),
             numbers: Vec::new(alloc),
         }
@@ -45,18 +47,17 @@ impl<'t> Reader<'t> {
         self.count
     }
 
-    /// Reads the next line, if there is one, and returns its form. If memory is refused, the line is
-    /// still the next one.
-    pub(crate) fn next(&mut self) -> Result<Option<LineForm>, AllocError>
+    /// Reads the next line. Returns whether there is one. If memory is refused, the line is left.
+    pub(crate) fn next(&mut self) -> Result<bool, AllocError>
         ensures { ReadsNext self.old self.new result }
     {
         let mut left = self.left;
         let Some(line) = left.next() else {
-            return Ok(None);
+            return Ok(false);
         };
-        let form = read_line(line, &mut self.clause, &mut self.numbers)?;
+        self.form = read_line(line, &mut self.clause, &mut self.numbers)?;
         self.left = left;
         self.count += 1;
-        Ok(Some(form))
+        Ok(true)
     }
 }

@@ -3,10 +3,11 @@ ghost use Rattle.std.specs.Prelude.{◌≡◌, ℕ, List, IfOk, IfErr, OnOk, OnE
 ghost use Rattle.table_formula.specs.Problems.{IsImpossible};
 ghost use Rattle.table_formula.specs.Derivations.{adds_empty};
 ghost use Rattle.table_formula.specs.Refutations.{IsRefutation, IsFault};
-ghost use Rattle.table_formula.specs.FirstFaults.{first_fault as fault_from, error_of, IsToCome};
+ghost use Rattle.table_formula.specs.FirstFaults.{first_fault as fault_from, error_of};
 ghost use Rattle.table_formula.specs.Forms.{line_of};
 ghost use Rattle.table_formula.specs.Checked.{problem_of, derivation_of};
 ghost use Rattle.table_formula.specs.Reader.{lines_left, lines_read};
+ghost use Rattle.table_formula.specs.Refused.{IsRefused};
 
 use crate::checker::Checker;
 use crate::fault::{FirstFault, LineFault, RefuteError};
@@ -41,7 +42,7 @@ use std::alloc::{AllocError, Global};
 ///
 /// Fails with `TooLong` if the text is longer than `LONGEST_REFUTATION` bytes, else with the first
 /// line that is wrong and its fault, or with `OutOfMemory` if memory was refused.
-#[tactic(auto, using(crate::proofs::Verdicts::right_told, crate::proofs::Verdicts::fault_told))]
+#[tactic(auto, using(crate::proofs::Verdicts::right_told))]
 pub fn refute(alloc: Global, formula: &Formula, text: &[u8]) -> Result<(), RefuteError>
     ensures ok { OnOk result (IsRefutation formula.now text.now) }
     ensures impossible { OnOk result (IsImpossible formula.now) }
@@ -64,18 +65,18 @@ pub fn refute(alloc: Global, formula: &Formula, text: &[u8]) -> Result<(), Refut
 fn first_fault(checker: &mut Checker, lines: &mut Reader) -> Result<Option<FirstFault>, AllocError>
     ensures found { IfOk result (λ found. error_of found
         ≡ fault_from (problem_of checker.old) (derivation_of checker.old) (lines_read lines.old) (lines_left lines.old)) }
-    ensures refused { OnErr result (IsToCome (problem_of checker.old) (lines_read lines.new) (lines_left lines.new)
+    ensures refused { OnErr result (IsRefused (problem_of checker.old) (derivation_of checker.new) lines.new
         (fault_from (problem_of checker.old) (derivation_of checker.old) (lines_read lines.old) (lines_left lines.old))) }
 {
-    while let Some(form) = lines.next()? {
-        if let Some(fault) = checker.fault_of_line(form, &lines.clause, &lines.numbers) {
+    'reads: while lines.next()? {
+        if let Some(fault) = checker.fault_of_line(lines.form, &lines.clause, &lines.numbers) {
             let line = lines.count();
             return Ok(Some(FirstFault { line, fault }));
         }
-        if adds_empty_clause(form, &lines.clause) {
+        if adds_empty_clause(lines.form, &lines.clause) {
             return Ok(None);
         }
-        checker.step(form, &lines.clause, &lines.numbers)?;
+        checker.step(lines.form, &lines.clause, &lines.numbers)?;
     }
     Ok(Some(FirstFault {
         line: lines.count(),
