@@ -1,0 +1,153 @@
+"""A check of the functions that edits change, and what it says of each edit.
+
+An edit is refused if a function that it changes is not proved, for a goal of this function, and all others that were checked are proved. A
+name that the edit took away is no goal, nor is a limit of the prover. That a function calls one that is not proved is no reason either."""
+
+import os
+import re
+import shutil
+import subprocess
+import tempfile
+import time
+from dataclasses import dataclass
+from pathlib import Path
+
+from edit_files import function_at, text_of
+
+PARTS = ("src", "specs", "proofs")
+# What names a thing that the edit took away, and so says little of the contract.
+LOST_NAME = re.compile(r"has no field|is not in scope|has no `|was not admitted|for this file to be the proof of")
+LIMIT = re.compile(r"antt ran out of|outgrew the memory limit|stopped at the step limit")
+PLACED = re.compile(r"(?:note: )?(?:\./)?((?:src|proofs|specs)/\S+?):(\d+):\d+: (.*)")
+ANSWER = re.compile(r"error: `([^`]+)`: ")
+OPEN = re.compile(r"it is not proved that .*\(`([^`]+)`")
+SUM = re.compile(r"only=(\d+) proved=(\d+)")
+LEFT_OPEN = ("not proved", "no proof")
+CALLS_ONE = re.compile(r"no proof: it calls")
+
+
+@dataclass
+class Reason:
+    """Why a function is not proved: a goal, a lost name or a limit, and where that stands."""
+
+    kind: str
+    text: str
+
+
+@dataclass
+class Verdict:
+    """Whether an edit is refused, and the goal or what else the check says."""
+
+    is_refused: bool
+    text: str
+
+
+class Report:
+    """What a check of a crate in a folder printed: what it said of each function, and the reasons."""
+
+    def __init__(self, crate, folder, printed):
+        self.last = printed.rstrip("\n").rpartition("\n")[2]
+        said = re.findall(rf"^fn {crate}::(\S+): (.*)", printed, re.MULTILINE)
+        self.said = {plain_name(name): text for name, text in said}
+        self.reasons = [it for line in printed.split("\n") if (it := reason_in(folder, line))]
+        self.has_verdict = bool(SUM.match(self.last))
+
+    def is_all_proved(self):
+        asked = SUM.match(self.last)
+        return bool(asked) and asked[1] == asked[2]
+
+    def verdict_on(self, edit):
+        if not self.has_verdict:
+            return Verdict(False, f"it does not compile, or the check gave no verdict: {self.last[:200]}")
+        its = edit.functions | edit.proofs
+        reasons = [reason for function, reason in self.reasons if is_any_of(function, its)]
+        goals = [it.text for it in reasons if it.kind == "goal"]
+        said = {name: text for name, text in self.said.items() if is_any_of(name, edit.functions)}
+        if not edit.functions <= said.keys():
+            return Verdict(False, f"not checked: {', '.join(sorted(edit.functions - said.keys()))}")
+        if all(not text.startswith(LEFT_OPEN) for text in said.values()):
+            return Verdict(False, f"still proved: {', '.join(sorted(edit.functions))}")
+        if goals:
+            return Verdict(True, goals[0])
+        return Verdict(False, f"no goal, only a {reasons[0].kind}: {reasons[0].text}" if reasons else "no goal")
+
+    def spoiled(self, edits):
+        """The functions that no edit changes and that are not proved. What only calls such a one has no goal of its own."""
+        changed = {function for edit in edits for function in edit.functions | edit.proofs}
+        named = {function for function, _ in self.reasons}
+        is_open = lambda name, text: name in named or text.startswith(LEFT_OPEN) and not CALLS_ONE.match(text)
+        return sorted(name for name, text in self.said.items() if is_open(name, text) and not is_any_of(name, changed))
+
+
+def plain_name(name):
+    """The path of a function as `function_at` gives it, of a closure that of its function with its own name behind it."""
+    return "::".join(part.lstrip("+") for part in name.split("::") if part != "fn")
+
+
+def is_any_of(name, functions):
+    """Whether a function, or a closure in it, has this name."""
+    return name is not None and any(name == it or name.startswith(f"{it}::") for it in functions)
+
+
+def reason_in(folder, line):
+    """The function that a line of a check is about, and the reason that it gives, if it gives one."""
+    at = PLACED.match(line)
+    if not at:
+        return None
+    file, row, said = at[1], int(at[2]), at[3]
+    answer, is_open = ANSWER.match(said), OPEN.search(said)
+    if not is_open and not said.startswith("error"):
+        return None
+    kind = "goal"
+    if not is_open and LIMIT.search(said):
+        kind = "limit"
+    elif not is_open and (LOST_NAME.search(said) or not answer):
+        kind = "lost name"
+    is_code = file.startswith("src/") and (folder / file).is_file()
+    function = function_at(file, text_of(folder / file), row - 1) if is_code else plain_name("::".join(Path(file).parent.parts[1:]))
+    return function, Reason(kind, f"{file}:{row}: {said.removeprefix('error: ')[:200]}")
+
+
+class Checker:
+    """Checks copies of a crate in a folder of its own, each over what the checks before it left there."""
+
+    def __init__(self, kit, crate, folder):
+        self.kit, self.crate, self.folder = kit, crate, Path(folder)
+        self.processor = 0.0
+
+    def verdicts(self, edits):
+        """The verdicts on these edits, no two of which change one function, by a check of a copy with all."""
+        copy = self.copy()
+        lost = {str(edit): why for edit in edits if (why := edit.apply(copy))}
+        report = self.report(copy, {function for edit in edits for function in edit.functions})
+        spoiled = report.spoiled(edits)
+        found = {str(edit): report.verdict_on(edit) for edit in edits}
+        if spoiled:
+            found = {name: Verdict(False, f"not proved beside it: {', '.join(spoiled)}") if it.is_refused else it for name, it in found.items()}
+        return found | {name: Verdict(False, why) for name, why in lost.items()}
+
+    def is_proved(self, functions):
+        """Whether these functions are proved without edits."""
+        return self.report(self.copy(), functions).is_all_proved()
+
+    def copy(self):
+        copy = Path(tempfile.mkdtemp(dir=self.folder))
+        for part in PARTS:
+            if os.path.isdir(f"{self.crate.folder}/{part}"):
+                shutil.copytree(f"{self.crate.folder}/{part}", copy / part)
+        return copy
+
+    def report(self, copy, functions):
+        """Checks these functions, and those that they call, in a copy, and removes the copy."""
+        only = [word for it in sorted(functions) for word in ("--only", it)]
+        flags = ["--jobs", "1", *only, "--incremental", str(self.folder / "kept")]
+        words = [self.kit.rtlib.RATTLE, "check", *self.crate.words(flags, keeps=False)]
+        with tempfile.TemporaryFile("w+", errors="replace") as printed:
+            process = subprocess.Popen(words, cwd=copy, stdin=subprocess.DEVNULL, stdout=printed, stderr=subprocess.STDOUT)
+            _, status, used = os.wait4(process.pid, 0)
+            process.returncode = os.waitstatus_to_exitcode(status)
+            self.processor += used.ru_utime + used.ru_stime
+            printed.seek(0)
+            report = Report(self.crate.name, copy, printed.read())
+        shutil.rmtree(copy)
+        return report

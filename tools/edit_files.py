@@ -1,0 +1,151 @@
+"""Edits: wrong bodies that the check has to refuse, and the functions that they change.
+
+An edit is a file NAME.edit with lines `file: `, `old: ` and `new: `: a line of a source file, and what stands in its place."""
+
+import re
+from dataclasses import dataclass
+from pathlib import Path
+
+from common import ROOT
+
+# The folders of edits: of those that `rt ci` tries too, and of the others.
+FOLDERS = ["crates/*/must-fail", "tests/edits/*"]
+FUNCTION = re.compile(r"( *)(?:pub(?:\([^)]*\))? +)?(?:const +)?(?:unsafe +)?fn +(\w+)")
+IMPL = re.compile(r"(?:unsafe +)?impl\b(.*)")
+
+
+@dataclass
+class Edit:
+    """An edit: its crate and name, its file, its lines as (file, old, new), and the paths of the functions that it changes. A proof is that
+    of a function, or of a cycle of calls. Both have a None where a line stands in no function."""
+
+    crate: str
+    name: str
+    path: Path
+    lines: list
+    functions: set
+    proofs: set
+
+    def __str__(self):
+        return f"{self.crate}/{self.name}"
+
+    def is_in_functions(self):
+        return None not in self.functions
+
+    def apply(self, folder):
+        """Changes the crate's files in this folder. Returns what is wrong with the edit, if anything is."""
+        texts, was = {}, {}
+        for file, old, new in self.lines:
+            was.setdefault(file, text_of(folder / file))
+            text = texts.get(file, was[file])
+            if text.count(old) != 1:
+                return f"an old text of it is in {file} {text.count(old)} times"
+            texts[file] = text.replace(old, new)
+        if texts == was:
+            return "it changes nothing"
+        for file, text in texts.items():
+            (folder / file).write_text(text, encoding="utf-8")
+        return None
+
+
+def text_of(path):
+    return path.read_text(encoding="utf-8") if path.is_file() else ""
+
+
+def all_edits():
+    """All edits, in the order of their names."""
+    found = []
+    for path in [path for folder in FOLDERS for path in ROOT.glob(f"{folder}/*.edit")]:
+        crate = path.parent.parent.name if path.parent.name == "must-fail" else path.parent.name
+        lines = lines_of(text_of(path))
+        places = [place_of(ROOT / "crates" / crate, file, old) for file, old, _ in lines]
+        found.append(Edit(crate, path.stem, path, lines, {it for it, _ in places}, {it for _, it in places}))
+    return sorted(found, key=str)
+
+
+def lines_of(text):
+    """The file, the old text and the new text of each change that an edit makes."""
+    file, old, found = "", "", []
+    for line in text.split("\n"):
+        if line.startswith("file: "):
+            file = line.removeprefix("file: ").strip()
+        elif line.startswith("old: "):
+            old = line.removeprefix("old: ")
+        elif line.startswith("new:"):
+            found.append((file, old, line.removeprefix("new:").removeprefix(" ")))
+    return found
+
+
+def place_of(folder, file, old):
+    """The function of a crate in which this text stands, and the function or the cycle of calls with whose proof it has its own."""
+    text = text_of(folder / file)
+    if not file.startswith("src/") or text.count(old) != 1:
+        return None, None
+    function = function_at(file, text, text[: text.find(old)].count("\n"))
+    return function, function and proof_of(function, text)
+
+
+def function_at(file, text, line):
+    """The path, below the crate, of the function that holds this line, counted from 0, as a check prints it, or None. The layout of `rt fmt`
+    shows it: a function stands at the margin, or one step within its impl."""
+    lines = text.split("\n")
+    # An attribute, at which some messages stand, belongs to what is below it.
+    while lines[line].lstrip().startswith("#["):
+        line += 1
+    found = next(((at, it) for at in range(line, -1, -1) if (it := FUNCTION.match(lines[at]))), None)
+    # A closing brace between, as far from the margin as the function, ends the function.
+    if not found or f"{found[1][1]}}}" in lines[found[0] + 1 : line]:
+        return None
+    at, function = found
+    parts = [it for it in Path(file).with_suffix("").parts[1:] if it not in ("lib", "main", "mod")]
+    if function[1]:
+        header = next((it for it in (IMPL.match(lines[above]) for above in range(at, -1, -1)) if it), None)
+        if not header:
+            return None
+        parts.append(owner(header[1]))
+    return "::".join([*parts, function[2]])
+
+
+def owner(header):
+    """The part of a function's path that an impl gives: its type, and behind it the trait's name with those of its types."""
+    of_trait, _, of = without_parameters(header.replace("->", "").split("{")[0].split(" where ")[0].strip()).rpartition(" for ")
+    return names_in(of, 0) + names_in(of_trait, 1)
+
+
+def without_parameters(header):
+    """What follows `impl`, without the parameters in angle brackets at its start."""
+    depth = 0
+    for at, it in enumerate(header):
+        depth += (it == "<") - (it == ">")
+        if depth == 0:
+            return header[at + 1 :] if header.startswith("<") else header
+    return header
+
+
+def names_in(text, most):
+    """The names in a type or a trait that stand in at most so many angle brackets, joined, without lifetimes and the modules of paths."""
+    depth, found = 0, ""
+    for it in text:
+        depth += (it == "<") - (it == ">")
+        found += it if depth <= most else ""
+    return re.sub(r"\W", "", re.sub(r"'\w+|\w+::", "", found))
+
+
+def proof_of(function, text):
+    """The path of a function's proof, which the members of a cycle of calls share."""
+    above, _, last = function.rpartition("::")
+    attributes = re.search(rf"((?:^ *(?:#\[|//).*\n)*)^ *(?:pub(?:\([^)]*\))? +)?(?:const +)?(?:unsafe +)?fn +{last}\b", text, re.MULTILINE)
+    cycle = re.search(r"#\[cycle\((\w+)\)\]", attributes[1]) if attributes else None
+    return f"{above}::{cycle[1]}" if cycle else function
+
+
+def passes_of(edits):
+    """Edits in lists, in each of which no two change one function, or two of a cycle of calls."""
+    passes = []
+    for edit in edits:
+        fitting = next((it for it in passes if not any(edit.proofs & other.proofs for other in it)), None)
+        if fitting is None:
+            passes.append([edit])
+        else:
+            fitting.append(edit)
+    return passes
