@@ -1,7 +1,8 @@
 """A check of the functions that edits change, and what it says of each edit.
 
-An edit is refused if a function that it changes is not proved, for a goal of this function, and all others that were checked are proved. A
-name that the edit took away is no goal, nor is a limit of the prover. That a function calls one that is not proved is no reason either."""
+An edit is refused if a function that it changes is not proved, for a goal of this function, and all others that were checked are proved.
+A name that the edit took away is no goal, and where one is lost, a goal for which the search looks in vain may only lack its answer. Nor
+is a limit of the prover a goal, or a call of a function that is not proved."""
 
 import os
 import re
@@ -20,7 +21,8 @@ LOST_NAME = re.compile(r"has no field|is not in scope|has no `|was not admitted|
 LIMIT = re.compile(r"antt ran out of|outgrew the memory limit|stopped at the step limit")
 PLACED = re.compile(r"(?:note: )?(?:\./)?((?:src|proofs|specs)/\S+?):(\d+):\d+: (.*)")
 ANSWER = re.compile(r"error: `([^`]+)`: ")
-OPEN = re.compile(r"it is not proved that .*\(`([^`]+)`")
+OPEN = re.compile(r"it is not proved that |`search` found no proof \(")
+UNANSWERED = "no proof: expected answers in "
 SUM = re.compile(r"only=(\d+) proved=(\d+)")
 LEFT_OPEN = ("not proved", "no proof")
 CALLS_ONE = re.compile(r"no proof: it calls")
@@ -28,7 +30,8 @@ CALLS_ONE = re.compile(r"no proof: it calls")
 
 @dataclass
 class Reason:
-    """Why a function is not proved: a goal, a lost name or a limit, and where that stands."""
+    """Why a function is not proved, and where that stands: a goal with a written answer, one that the search looks for, a lost name, or a
+    limit of the prover."""
 
     kind: str
     text: str
@@ -50,6 +53,7 @@ class Report:
         said = re.findall(rf"^fn {crate}::(\S+): (.*)", printed, re.MULTILINE)
         self.said = {plain_name(name): text for name, text in said}
         self.reasons = [it for line in printed.split("\n") if (it := reason_in(folder, line))]
+        self.reasons += [(name, Reason("searched goal", text)) for name, text in self.said.items() if text.startswith(UNANSWERED)]
         self.has_verdict = bool(SUM.match(self.last))
 
     def is_all_proved(self):
@@ -61,7 +65,8 @@ class Report:
             return Verdict(False, f"it does not compile, or the check gave no verdict: {self.last[:200]}")
         its = edit.functions | edit.proofs
         reasons = [reason for function, reason in self.reasons if is_any_of(function, its)]
-        goals = [it.text for it in reasons if it.kind == "goal"]
+        has_lost = any(it.kind == "lost name" for it in reasons)
+        goals = [it.text for it in reasons if it.kind == "goal" or it.kind == "searched goal" and not has_lost]
         said = {name: text for name, text in self.said.items() if is_any_of(name, edit.functions)}
         if not edit.functions <= said.keys():
             return Verdict(False, f"not checked: {', '.join(sorted(edit.functions - said.keys()))}")
@@ -69,7 +74,8 @@ class Report:
             return Verdict(False, f"still proved: {', '.join(sorted(edit.functions))}")
         if goals:
             return Verdict(True, goals[0])
-        return Verdict(False, f"no goal, only a {reasons[0].kind}: {reasons[0].text}" if reasons else "no goal")
+        no_goal = next((it for it in reasons if it.kind != "searched goal"), None)
+        return Verdict(False, f"no goal, only a {no_goal.kind}: {no_goal.text}" if no_goal else "no goal")
 
     def spoiled(self, edits):
         """The functions that no edit changes and that are not proved. What only calls such a one has no goal of its own."""
@@ -98,7 +104,7 @@ def reason_in(folder, line):
     answer, is_open = ANSWER.match(said), OPEN.search(said)
     if not is_open and not said.startswith("error"):
         return None
-    kind = "goal"
+    kind = "searched goal" if is_open else "goal"
     if not is_open and LIMIT.search(said):
         kind = "limit"
     elif not is_open and (LOST_NAME.search(said) or not answer):
@@ -118,13 +124,17 @@ class Checker:
     def verdicts(self, edits):
         """The verdicts on these edits, no two of which change one function, by a check of a copy with all."""
         copy = self.copy()
-        lost = {str(edit): why for edit in edits if (why := edit.apply(copy))}
+        found = {str(edit): Verdict(False, why) for edit in edits if (why := edit.apply(copy))}
+        edits = [edit for edit in edits if str(edit) not in found]
+        if not edits:
+            return found
         report = self.report(copy, {function for edit in edits for function in edit.functions})
         spoiled = report.spoiled(edits)
-        found = {str(edit): report.verdict_on(edit) for edit in edits}
-        if spoiled:
-            found = {name: Verdict(False, f"not proved beside it: {', '.join(spoiled)}") if it.is_refused else it for name, it in found.items()}
-        return found | {name: Verdict(False, why) for name, why in lost.items()}
+        for edit in edits:
+            verdict = report.verdict_on(edit)
+            is_spoiled = verdict.is_refused and spoiled
+            found[str(edit)] = Verdict(False, f"not proved beside it: {', '.join(spoiled)}") if is_spoiled else verdict
+        return found
 
     def is_proved(self, functions):
         """Whether these functions are proved without edits."""

@@ -1,6 +1,7 @@
 """Edits: wrong bodies that the check has to refuse, and the functions that they change.
 
-An edit is a file NAME.edit with lines `file: `, `old: ` and `new: `: a line of a source file, and what stands in its place."""
+An edit is a file NAME.edit with lines `file: `, `old: ` and `new: `: a line of a source file, and what stands in its place. One that is
+not wrong, or not only a wrong body, has a first line `said: `: what a try has to say of it."""
 
 import re
 from dataclasses import dataclass
@@ -8,20 +9,21 @@ from pathlib import Path
 
 from common import ROOT
 
-# The folders of edits: of those that `rt ci` tries too, and of the others.
-FOLDERS = ["crates/*/must-fail", "tests/edits/*"]
+# The folders of edits: of those that `rt ci` tries too, of the others, and of those that a try is not to take as refused.
+OF_CI, OTHERS, WRONG = "crates/*/must-fail", "tests/edits/*", "tests/wrong_edits/*"
 FUNCTION = re.compile(r"( *)(?:pub(?:\([^)]*\))? +)?(?:const +)?(?:unsafe +)?fn +(\w+)")
 IMPL = re.compile(r"(?:unsafe +)?impl\b(.*)")
 
 
 @dataclass
 class Edit:
-    """An edit: its crate and name, its file, its lines as (file, old, new), and the paths of the functions that it changes. A proof is that
-    of a function, or of a cycle of calls. Both have a None where a line stands in no function."""
+    """An edit: its crate and name, its file and the text in it, its lines as (file, old, new), and the paths of the functions that it
+    changes. A proof is that of a function, or of a cycle of calls. Both have a None where a line stands in no function."""
 
     crate: str
     name: str
     path: Path
+    text: str
     lines: list
     functions: set
     proofs: set
@@ -31,6 +33,10 @@ class Edit:
 
     def is_in_functions(self):
         return None not in self.functions
+
+    def said(self):
+        """What a try has to say of an edit that it is not to take as refused."""
+        return self.text.split("\n")[0].removeprefix("said: ")
 
     def apply(self, folder):
         """Changes the crate's files in this folder. Returns what is wrong with the edit, if anything is."""
@@ -52,15 +58,17 @@ def text_of(path):
     return path.read_text(encoding="utf-8") if path.is_file() else ""
 
 
-def all_edits():
-    """All edits, in the order of their names."""
-    found = []
-    for path in [path for folder in FOLDERS for path in ROOT.glob(f"{folder}/*.edit")]:
-        crate = path.parent.parent.name if path.parent.name == "must-fail" else path.parent.name
-        lines = lines_of(text_of(path))
-        places = [place_of(ROOT / "crates" / crate, file, old) for file, old, _ in lines]
-        found.append(Edit(crate, path.stem, path, lines, {it for it, _ in places}, {it for _, it in places}))
-    return sorted(found, key=str)
+def edits_in(*folders):
+    """The edits of these folders, in the order of their names."""
+    return sorted((edit_of(path) for folder in folders for path in ROOT.glob(f"{folder}/*.edit")), key=str)
+
+
+def edit_of(path):
+    text = text_of(path)
+    crate = path.parent.parent.name if path.parent.name == "must-fail" else path.parent.name
+    lines = lines_of(text)
+    places = [place_of(ROOT / "crates" / crate, file, old) for file, old, _ in lines]
+    return Edit(crate, path.stem, path, text, lines, {it for it, _ in places}, {it for _, it in places})
 
 
 def lines_of(text):
@@ -81,29 +89,45 @@ def place_of(folder, file, old):
     text = text_of(folder / file)
     if not file.startswith("src/") or text.count(old) != 1:
         return None, None
-    function = function_at(file, text, text[: text.find(old)].count("\n"))
-    return function, function and proof_of(function, text)
+    line = text[: text.find(old)].count("\n")
+    function = function_at(file, text, line)
+    return function, function and proof_of(function, text.split("\n"), line)
 
 
 def function_at(file, text, line):
-    """The path, below the crate, of the function that holds this line, counted from 0, as a check prints it, or None. The layout of `rt fmt`
-    shows it: a function stands at the margin, or one step within its impl."""
+    """The path, below the crate, of the function that holds this line, counted from 0, as a check prints it, or None. The layout of
+    `rt fmt` shows it: a function stands at the margin, or one step within its impl."""
     lines = text.split("\n")
     # An attribute, at which some messages stand, belongs to what is below it.
     while lines[line].lstrip().startswith("#["):
         line += 1
-    found = next(((at, it) for at in range(line, -1, -1) if (it := FUNCTION.match(lines[at]))), None)
+    at = last_row(FUNCTION, lines, line)
+    function = FUNCTION.match(lines[at])
     # A closing brace between, as far from the margin as the function, ends the function.
-    if not found or f"{found[1][1]}}}" in lines[found[0] + 1 : line]:
+    if not function or f"{function[1]}}}" in lines[at + 1 : line]:
         return None
-    at, function = found
     parts = [it for it in Path(file).with_suffix("").parts[1:] if it not in ("lib", "main", "mod")]
     if function[1]:
-        header = next((it for it in (IMPL.match(lines[above]) for above in range(at, -1, -1)) if it), None)
+        header = IMPL.match(lines[last_row(IMPL, lines, at)])
         if not header:
             return None
         parts.append(owner(header[1]))
     return "::".join([*parts, function[2]])
+
+
+def last_row(form, lines, line):
+    """The last row up to this one that has this form, or 0."""
+    return next((at for at in range(line, 0, -1) if form.match(lines[at])), 0)
+
+
+def proof_of(function, lines, line):
+    """The path of the proof of a function that holds this line, which the members of a cycle of calls share."""
+    at = last_row(FUNCTION, lines, line)
+    while at and lines[at - 1].lstrip().startswith(("#[", "//")):
+        at -= 1
+        if cycle := re.match(r" *#\[cycle\((\w+)\)\]", lines[at]):
+            return f"{function.rpartition('::')[0]}::{cycle[1]}"
+    return function
 
 
 def owner(header):
@@ -129,14 +153,6 @@ def names_in(text, most):
         depth += (it == "<") - (it == ">")
         found += it if depth <= most else ""
     return re.sub(r"\W", "", re.sub(r"'\w+|\w+::", "", found))
-
-
-def proof_of(function, text):
-    """The path of a function's proof, which the members of a cycle of calls share."""
-    above, _, last = function.rpartition("::")
-    attributes = re.search(rf"((?:^ *(?:#\[|//).*\n)*)^ *(?:pub(?:\([^)]*\))? +)?(?:const +)?(?:unsafe +)?fn +{last}\b", text, re.MULTILINE)
-    cycle = re.search(r"#\[cycle\((\w+)\)\]", attributes[1]) if attributes else None
-    return f"{above}::{cycle[1]}" if cycle else function
 
 
 def passes_of(edits):

@@ -84,7 +84,7 @@ class Refusals:
                     path.unlink()
 
     def path_of(self, edit):
-        parts = (self.judge, self.keys[edit.crate], edit.name, edit.path.read_bytes())
+        parts = (self.judge, self.keys[edit.crate], edit.name, edit.text)
         return CACHE / hashlib.sha256(repr(parts).encode()).hexdigest()
 
     def goal_of(self, edit):
