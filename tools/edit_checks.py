@@ -9,7 +9,6 @@ import re
 import shutil
 import subprocess
 import tempfile
-import time
 from dataclasses import dataclass
 from pathlib import Path
 
@@ -17,23 +16,25 @@ from edit_files import function_at, text_of
 
 PARTS = ("src", "specs", "proofs")
 # What names a thing that the edit took away, and so says little of the contract.
-LOST_NAME = re.compile(r"has no field|is not in scope|has no `|was not admitted|for this file to be the proof of")
+LOST_NAME = re.compile(r"has no field|is not a field of|is not in scope|has no `|was not admitted|for this file to be the proof of")
 LIMIT = re.compile(r"antt ran out of|outgrew the memory limit|stopped at the step limit")
 PLACED = re.compile(r"(?:note: )?(?:\./)?((?:src|proofs|specs)/\S+?):(\d+):\d+: (.*)")
-ANSWER = re.compile(r"error: `([^`]+)`: ")
-OPEN = re.compile(r"it is not proved that |`search` found no proof \(")
+ANSWER = re.compile(r"error: `([^`]+)`: (.*)")
+OPEN = re.compile(r"((?:it is not proved that |`search` found no proof).*)\(`([^`]+)`")
 UNANSWERED = "no proof: expected answers in "
 SUM = re.compile(r"only=(\d+) proved=(\d+)")
 LEFT_OPEN = ("not proved", "no proof")
-CALLS_ONE = re.compile(r"no proof: it calls")
+CALLS_ONE = "no proof: it calls"
+MOST_GOALS = 4
 
 
 @dataclass
 class Reason:
-    """Why a function is not proved, and where that stands: a goal with a written answer, one that the search looks for, a lost name, or a
-    limit of the prover."""
+    """Why a function is not proved: a goal with a written answer, one that the search looks for, a lost name, or a limit of the prover; the
+    goal, where it stands and what is said of it."""
 
     kind: str
+    goal: str
     text: str
 
 
@@ -53,7 +54,7 @@ class Report:
         said = re.findall(rf"^fn {crate}::(\S+): (.*)", printed, re.MULTILINE)
         self.said = {plain_name(name): text for name, text in said}
         self.reasons = [it for line in printed.split("\n") if (it := reason_in(folder, line))]
-        self.reasons += [(name, Reason("searched goal", text)) for name, text in self.said.items() if text.startswith(UNANSWERED)]
+        self.reasons += [(name, Reason("searched goal", "?", text[:160])) for name, text in self.said.items() if text.startswith(UNANSWERED)]
         self.has_verdict = bool(SUM.match(self.last))
 
     def is_all_proved(self):
@@ -66,14 +67,15 @@ class Report:
         its = edit.functions | edit.proofs
         reasons = [reason for function, reason in self.reasons if is_any_of(function, its)]
         has_lost = any(it.kind == "lost name" for it in reasons)
-        goals = [it.text for it in reasons if it.kind == "goal" or it.kind == "searched goal" and not has_lost]
+        goals = [it for it in reasons if it.kind == "goal" or it.kind == "searched goal" and not has_lost]
         said = {name: text for name, text in self.said.items() if is_any_of(name, edit.functions)}
         if not edit.functions <= said.keys():
             return Verdict(False, f"not checked: {', '.join(sorted(edit.functions - said.keys()))}")
         if all(not text.startswith(LEFT_OPEN) for text in said.values()):
             return Verdict(False, f"still proved: {', '.join(sorted(edit.functions))}")
         if goals:
-            return Verdict(True, goals[0])
+            names = dict.fromkeys(it.goal for it in goals)
+            return Verdict(True, f"{', '.join([*names][:MOST_GOALS])}: {goals[0].text}")
         no_goal = next((it for it in reasons if it.kind != "searched goal"), None)
         return Verdict(False, f"no goal, only a {no_goal.kind}: {no_goal.text}" if no_goal else "no goal")
 
@@ -81,7 +83,7 @@ class Report:
         """The functions that no edit changes and that are not proved. What only calls such a one has no goal of its own."""
         changed = {function for edit in edits for function in edit.functions | edit.proofs}
         named = {function for function, _ in self.reasons}
-        is_open = lambda name, text: name in named or text.startswith(LEFT_OPEN) and not CALLS_ONE.match(text)
+        is_open = lambda name, text: name in named or text.startswith(LEFT_OPEN) and not text.startswith(CALLS_ONE)
         return sorted(name for name, text in self.said.items() if is_open(name, text) and not is_any_of(name, changed))
 
 
@@ -98,20 +100,25 @@ def is_any_of(name, functions):
 def reason_in(folder, line):
     """The function that a line of a check is about, and the reason that it gives, if it gives one."""
     at = PLACED.match(line)
-    if not at:
+    reason = reason_of(at[3]) if at else None
+    if not reason:
         return None
-    file, row, said = at[1], int(at[2]), at[3]
-    answer, is_open = ANSWER.match(said), OPEN.search(said)
-    if not is_open and not said.startswith("error"):
-        return None
-    kind = "searched goal" if is_open else "goal"
-    if not is_open and LIMIT.search(said):
-        kind = "limit"
-    elif not is_open and (LOST_NAME.search(said) or not answer):
-        kind = "lost name"
+    file, row = at[1], int(at[2])
     is_code = file.startswith("src/") and (folder / file).is_file()
     function = function_at(file, text_of(folder / file), row - 1) if is_code else plain_name("::".join(Path(file).parent.parts[1:]))
-    return function, Reason(kind, f"{file}:{row}: {said.removeprefix('error: ')[:200]}")
+    return function, Reason(reason.kind, reason.goal, f"{file}:{row}: {reason.text.strip()[:160]}")
+
+
+def reason_of(said):
+    """The reason that a check gives at a place, if it gives one."""
+    if goal := OPEN.search(said):
+        return Reason("searched goal", goal[2], goal[1])
+    if not said.startswith("error"):
+        return None
+    if LIMIT.search(said):
+        return Reason("limit", "", said)
+    goal = ANSWER.match(said)
+    return Reason("lost name", "", said) if not goal or LOST_NAME.search(said) else Reason("goal", *goal.groups())
 
 
 class Checker:
