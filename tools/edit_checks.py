@@ -54,7 +54,7 @@ class Report:
         said = re.findall(rf"^fn {crate}::(\S+): (.*)", printed, re.MULTILINE)
         self.said = {plain_name(name): text for name, text in said}
         self.reasons = [it for line in printed.split("\n") if (it := reason_in(folder, line))]
-        self.reasons += [(name, Reason("searched goal", "?", text[:160])) for name, text in self.said.items() if text.startswith(UNANSWERED)]
+        self.reasons += [(name, Reason("searched goal", "", text[:160])) for name, text in self.said.items() if text.startswith(UNANSWERED)]
         self.has_verdict = bool(SUM.match(self.last))
 
     def is_all_proved(self):
@@ -64,8 +64,7 @@ class Report:
     def verdict_on(self, edit):
         if not self.has_verdict:
             return Verdict(False, f"it does not compile, or the check gave no verdict: {self.last[:200]}")
-        its = edit.functions | edit.proofs
-        reasons = [reason for function, reason in self.reasons if is_any_of(function, its)]
+        reasons = [reason for function, reason in self.reasons if is_any_of(function, edit.sharers)]
         has_lost = any(it.kind == "lost name" for it in reasons)
         goals = [it for it in reasons if it.kind == "goal" or it.kind == "searched goal" and not has_lost]
         said = {name: text for name, text in self.said.items() if is_any_of(name, edit.functions)}
@@ -74,14 +73,14 @@ class Report:
         if all(not text.startswith(LEFT_OPEN) for text in said.values()):
             return Verdict(False, f"still proved: {', '.join(sorted(edit.functions))}")
         if goals:
-            names = dict.fromkeys(it.goal for it in goals)
-            return Verdict(True, f"{', '.join([*names][:MOST_GOALS])}: {goals[0].text}")
+            names = dict.fromkeys(it.goal for it in goals if it.goal)
+            return Verdict(True, f"{', '.join([*names][:MOST_GOALS]) or 'a goal'}: {goals[0].text}")
         no_goal = next((it for it in reasons if it.kind != "searched goal"), None)
         return Verdict(False, f"no goal, only a {no_goal.kind}: {no_goal.text}" if no_goal else "no goal")
 
     def spoiled(self, edits):
         """The functions that no edit changes and that are not proved. What only calls such a one has no goal of its own."""
-        changed = {function for edit in edits for function in edit.functions | edit.proofs}
+        changed = {function for edit in edits for function in edit.sharers}
         named = {function for function, _ in self.reasons}
         is_open = lambda name, text: name in named or text.startswith(LEFT_OPEN) and not text.startswith(CALLS_ONE)
         return sorted(name for name, text in self.said.items() if is_open(name, text) and not is_any_of(name, changed))

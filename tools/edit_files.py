@@ -13,12 +13,13 @@ from common import ROOT
 OF_CI, OTHERS, WRONG = "crates/*/must-fail", "tests/edits/*", "tests/wrong_edits/*"
 FUNCTION = re.compile(r"( *)(?:pub(?:\([^)]*\))? +)?(?:const +)?(?:unsafe +)?fn +(\w+)")
 IMPL = re.compile(r"(?:unsafe +)?impl\b(.*)")
+CYCLE = re.compile(r" *#\[cycle\((\w+)\)\]")
 
 
 @dataclass
 class Edit:
-    """An edit: its crate and name, its file and the text in it, its lines as (file, old, new), and the paths of the functions that it
-    changes. A proof is that of a function, or of a cycle of calls. Both have a None where a line stands in no function."""
+    """An edit: its crate and name, its file and the text in it, its lines as (file, old, new), the paths of the functions that it changes,
+    and of all that share a proof with them. Both have a None where a line stands in no function."""
 
     crate: str
     name: str
@@ -26,7 +27,7 @@ class Edit:
     text: str
     lines: list
     functions: set
-    proofs: set
+    sharers: set
 
     def __str__(self):
         return f"{self.crate}/{self.name}"
@@ -68,7 +69,7 @@ def edit_of(path):
     crate = path.parent.parent.name if path.parent.name == "must-fail" else path.parent.name
     lines = lines_of(text)
     places = [place_of(ROOT / "crates" / crate, file, old) for file, old, _ in lines]
-    return Edit(crate, path.stem, path, text, lines, {it for it, _ in places}, {it for _, it in places})
+    return Edit(crate, path.stem, path, text, lines, {it for it, _ in places}, {it for _, them in places for it in them})
 
 
 def lines_of(text):
@@ -85,13 +86,13 @@ def lines_of(text):
 
 
 def place_of(folder, file, old):
-    """The function of a crate in which this text stands, and the function or the cycle of calls with whose proof it has its own."""
+    """The function of a crate in which this text stands, and those that share a proof with it."""
     text = text_of(folder / file)
     if not file.startswith("src/") or text.count(old) != 1:
-        return None, None
+        return None, {None}
     line = text[: text.find(old)].count("\n")
     function = function_at(file, text, line)
-    return function, function and proof_of(function, text.split("\n"), line)
+    return function, {function, *(in_cycle(file, text, line) if function else [])}
 
 
 def function_at(file, text, line):
@@ -120,14 +121,16 @@ def last_row(form, lines, line):
     return next((at for at in range(line, 0, -1) if form.match(lines[at])), 0)
 
 
-def proof_of(function, lines, line):
-    """The path of the proof of a function that holds this line, which the members of a cycle of calls share."""
+def in_cycle(file, text, line):
+    """The paths of the functions in the cycle of calls of the function that holds this line, if it is in one, and that of their proof."""
+    lines = text.split("\n")
     at = last_row(FUNCTION, lines, line)
     while at and lines[at - 1].lstrip().startswith(("#[", "//")):
         at -= 1
-        if cycle := re.match(r" *#\[cycle\((\w+)\)\]", lines[at]):
-            return f"{function.rpartition('::')[0]}::{cycle[1]}"
-    return function
+        if CYCLE.match(lines[at]):
+            found = [function_at(file, text, row) for row, it in enumerate(lines) if it == lines[at]]
+            return [*found, f"{found[0].rpartition('::')[0]}::{CYCLE.match(lines[at])[1]}"]
+    return []
 
 
 def owner(header):
@@ -156,10 +159,10 @@ def names_in(text, most):
 
 
 def passes_of(edits):
-    """Edits in lists, in each of which no two change one function, or two of a cycle of calls."""
+    """Edits in lists, in each of which no two change one function, or two that share a proof."""
     passes = []
     for edit in edits:
-        fitting = next((it for it in passes if not any(edit.proofs & other.proofs for other in it)), None)
+        fitting = next((it for it in passes if not any(edit.sharers & other.sharers for other in it)), None)
         if fitting is None:
             passes.append([edit])
         else:
