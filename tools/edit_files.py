@@ -1,7 +1,7 @@
 """Edits: wrong bodies that the check has to refuse, and the functions that they change.
 
-An edit is a file NAME.edit with lines `file: `, `old: ` and `new: `: a line of a source file, and what stands in its place. One that is
-not wrong, or not only a wrong body, has a first line `said: `: what a try has to say of it."""
+An edit is a file NAME.edit with lines `file: `, `old: ` and `new: `: a line of a source file, and what stands in its place. Those of
+tests/wrong_edits are no wrong bodies, and begin with a line `said: `: what has to be said of them."""
 
 import re
 from dataclasses import dataclass
@@ -9,7 +9,7 @@ from pathlib import Path
 
 from common import ROOT
 
-# The folders of edits: of those that `rt ci` tries too, of the others, and of those that a try is not to take as refused.
+# The folders of edits: of those that `rt ci` tries too, of the others, and of those that are not to be taken as refused.
 OF_CI, OTHERS, WRONG = "crates/*/must-fail", "tests/edits/*", "tests/wrong_edits/*"
 FUNCTION = re.compile(r"( *)(?:pub(?:\([^)]*\))? +)?(?:const +)?(?:unsafe +)?fn +(\w+)")
 IMPL = re.compile(r"(?:unsafe +)?impl\b(.*)")
@@ -36,7 +36,7 @@ class Edit:
         return None not in self.functions
 
     def said(self):
-        """What a try has to say of an edit that it is not to take as refused."""
+        """What has to be said of an edit that is no wrong body."""
         return self.text.split("\n")[0].removeprefix("said: ")
 
     def apply(self, folder):
