@@ -6,7 +6,7 @@ use Rattle.win_index.proofs.Kept.{each_snoc, slice_get-append_left, slice_get-ap
 use Rattle.border_exchange.specs.Segments.{RingSegment}
 use Rattle.ring_exec.specs.declared.segment_fault.SegmentFault.{SegmentFault}
 use Rattle.ring_exec.specs.SegmentFaults.{work_fault_of}
-use Rattle.round_eval.specs.declared.fault.ThreadFault.TheVariants.{Work}
+use Rattle.ring_exec.specs.declared.fault.ThreadFault.TheVariants.{Work}
 use Rattle.ring_exec.specs.declared.joined.Joined.{Joined}
 use Rattle.ring_exec.specs.declared.progress.Progress.{Progress}
 use Rattle.ring_exec.specs.Courses.{AreWaiting, HasStarted, HasEnded}

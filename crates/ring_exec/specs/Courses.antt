@@ -5,8 +5,8 @@ use Rattle.border_exchange.specs.declared.limits.TheConstants.{MAX_SEGMENTS}
 use Rattle.ring_exec.specs.Faults.{blamed}
 use Rattle.ring_exec.specs.Outcomes.{HasMore}
 use Rattle.round_eval.specs.declared.fault.WorkFault.TheVariants.{OutOfMemory}
-use Rattle.round_eval.specs.declared.fault.ThreadFault.{ThreadFault}
-use Rattle.round_eval.specs.declared.fault.ThreadFault.TheVariants.{Work, NoThread}
+use Rattle.ring_exec.specs.declared.fault.ThreadFault.{ThreadFault}
+use Rattle.ring_exec.specs.declared.fault.ThreadFault.TheVariants.{Work, NoThread}
 use Rattle.ring_exec.specs.declared.joined.Joined.{Joined}
 use Rattle.ring_exec.specs.declared.progress.Progress.{Progress}
 

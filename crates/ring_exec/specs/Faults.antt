@@ -1,8 +1,8 @@
 -- The fault that takes precedence, and the one that the caller gets.
 use Rattle.std.specs.Prelude.{Option, None, Some}
 use Rattle.round_eval.specs.declared.fault.WorkFault.TheVariants as work
-use Rattle.round_eval.specs.declared.fault.ThreadFault.{ThreadFault}
-use Rattle.round_eval.specs.declared.fault.ThreadFault.TheVariants.{Work, NoThread}
+use Rattle.ring_exec.specs.declared.fault.ThreadFault.{ThreadFault}
+use Rattle.ring_exec.specs.declared.fault.ThreadFault.TheVariants.{Work, NoThread}
 use Rattle.ring_exec.specs.declared.fault.RunFault.{RunFault}
 use Rattle.ring_exec.specs.declared.fault.RunFault.TheVariants as run
 

@@ -2,7 +2,7 @@
 ghost use Rattle.std.specs.Prelude.{◌≡◌, ◌≢◌, ◌+◌, ◌≤◌, None, Some, IsNone, IsSome, vec_len, vec_capacity};
 ghost use Rattle.ring_exec.specs.Courses.{HasEnded, HasNextSegment};
 ghost use Rattle.ring_exec.specs.Outcomes.{AreInOrder, HasMore};
-ghost use Rattle.round_eval.specs.declared.fault.ThreadFault.TheVariants.{NoThread};
+ghost use Rattle.ring_exec.specs.declared.fault.ThreadFault.TheVariants.{NoThread};
 
 use crate::border_name::BorderName;
 use crate::end::{Edge, RightEnd};

@@ -2,11 +2,11 @@
 ghost use Rattle.std.specs.Prelude.{◌≡◌, ◌+◌, ◌<◌, ◌≤◌, ◌++◌, [], ◌∷◌, None, Some, IfOk, IfErr, MatchResult, vec_len, vec_capacity};
 ghost use Rattle.ring_exec.specs.Faults.{blamed};
 ghost use Rattle.ring_exec.specs.SegmentFaults.{work_fault_of};
-ghost use Rattle.round_eval.specs.declared.fault.ThreadFault.TheVariants.{Work, NoThread};
+ghost use Rattle.ring_exec.specs.declared.fault.ThreadFault.TheVariants.{Work, NoThread};
 
+use crate::fault::ThreadFault;
 use crate::runner::SegmentOutcome;
 use border_exchange::Segment;
-use round_eval::ThreadFault;
 
 // The segments that ended, from the last to the first, and the fault that takes precedence.
 #[derive(Drop)]

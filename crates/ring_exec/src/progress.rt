@@ -2,12 +2,12 @@
 ghost use Rattle.std.specs.Prelude.{◌≡◌, ◌+◌, ◌≤◌, All, Ok, Err, IfSome, MatchOption, vec_len, vec_capacity};
 ghost use Rattle.ring_exec.specs.Outcomes.{AreInOrder};
 ghost use Rattle.border_exchange.specs.declared.limits.TheConstants.{MAX_SEGMENTS};
-ghost use Rattle.round_eval.specs.declared.fault.ThreadFault.TheVariants.{NoThread};
+ghost use Rattle.ring_exec.specs.declared.fault.ThreadFault.TheVariants.{NoThread};
 
+use crate::fault::ThreadFault;
 use crate::joined::Joined;
 use crate::runner::SegmentThread;
 use border_exchange::Segment;
-use round_eval::ThreadFault;
 
 // How far a run is: the index of the next segment, the segments that are not started, the next one
 // last; the threads of those that are, with room for more; and the outcomes, with room for all.

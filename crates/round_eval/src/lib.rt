@@ -20,7 +20,7 @@ mod window_laws;
 pub use block::{Block, BlockLists};
 pub use block_numbers::{block_len, first_number};
 pub use configuration::{Configuration, Reading};
-pub use fault::{ThreadFault, WorkFault};
+pub use fault::WorkFault;
 pub use gate::{Gate, OpenGate};
 pub use laws::{rows_are_taken, stretches_are_rows};
 pub use node::{channel, messages, sent_to_left, sent_to_right, start_state, step};

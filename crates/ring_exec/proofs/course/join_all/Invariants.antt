@@ -1,5 +1,5 @@
 use Rattle.std.proofs.Common.{◌≡◌, ◌+◌, ◌≤◌, None, Some, vec_len, vec_capacity}
-use Rattle.round_eval.specs.declared.fault.ThreadFault.TheVariants.{NoThread}
+use Rattle.ring_exec.specs.declared.fault.ThreadFault.TheVariants.{NoThread}
 use Rattle.ring_exec.specs.Outcomes.{AreInOrder}
 use Rattle.ring_exec.proofs.Falling.{AreJoined}
 use Rattle.ring_exec.proofs.course.join_all.Given as goal
