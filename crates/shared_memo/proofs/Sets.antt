@@ -1,10 +1,10 @@
 -- What a pass knows after one of its entries changed.
-use Rattle.std.proofs.Common.{◌≡◌, ℕ, ◌+◌, ◌<◌, ◌≤◌, List, map, length, get_or, set, None, Some, inl, inr, ◌⊎◌, ⊎_elim, refl, sym, ap, ◌∙◌, arith, length-set, get_or-set_same, get_or-set_other}
-use Rattle.std.specs.Prelude.{Option}
+use Rattle.std.proofs.Common.{◌≡◌, ℕ, zero, suc, ◌+◌, ◌-◌, ◌<◌, ◌≤◌, List, [], ◌∷◌, ◌++◌, map, take, length, get_or, set, None, Some, inl, inr, ◌⊎◌, ⊎_elim, refl, sym, ap, ◌∙◌, arith, length-set, get_or-set_same, get_or-set_other}
+use Rattle.std.specs.Prelude.{Option, slice_index_or}
 use mathlib.Core.Logic.{dite}
 use native.Mathlib.Decide.{ℕ_discrete}
 use Rattle.std.proofs.lemmas.Bool.{cases_lt}
-use Rattle.std.proofs.lemmas.List.{get_or-map, get_or_past, map-set, length-map}
+use Rattle.std.proofs.lemmas.List.{get_or-map, get_or_past, get_or_append_left, get_or-append_right, map-append, map-set, length-map, take_more}
 use Rattle.std.proofs.Math.Seq.{map-set_same}
 use Rattle.std.proofs.lemmas.Option.{some_pair_parts, same_Some}
 use Rattle.win_index.specs.Laws.{JobsStandAtNumbers}
@@ -148,3 +148,26 @@ found_more es fs at d f e G here there same own before = λ k b lt found.
     (λ this was. own b (sym (item_here look_of fs at f there) ∙ same at ∙ ap G (sym (same_Some k at this)) ∙ found))
     (λ x apart was. ⊎_elim (λ (below : k < at). was below) (λ (le : at ≤ k). absurd (apart (let is : k ≡ at = omega arith in ap Some is))) (cases_lt k at))
     (λ below. before k b below found)
+
+-- what f gives for each job, after an entry was appended of which it gives nothing
+pub none_more :
+    {X : Type 0} (f : Entry → Option X) (es : List Entry) (e : Entry) → f e ≡ None → ((k : ℕ) → slice_index_or (map f es) k None ≡ None)
+    → (k : ℕ) → slice_index_or (map f (es ++ e ∷ [])) k None ≡ None
+none_more f es e none before = λ k.
+    rw (map-append f es (e ∷ [])) (⊎_elim (λ (below : k < length es).
+    get_or_append_left (map f es) (f e ∷ []) None k (omega (arith, below, length-map es f)) ∙ before k)
+    (λ (from : length es ≤ k). get_or-append_right (map f es) (f e ∷ []) (length es) k None (length-map es f) from ∙ one (k - length es))
+    (cases_lt k (length es)))
+  where
+    one : (j : ℕ) → slice_index_or (f e ∷ []) j None ≡ None
+    one zero = none
+    one (suc j) = refl
+
+-- the cells of the entries, after one of the next cell was appended
+pub cells_more :
+    (es : List Entry) (e : Entry) (cells : List Cell) (at : ℕ) (x : Cell) → cells_of es ≡ map cell_name (take at cells) → at < length cells
+    → x ≡ get_or cells at x → e.note.cell ≡ cell_name x → cells_of (es ++ e ∷ []) ≡ map cell_name (take (at + 1) cells)
+cells_more es e cells at x before within here own =
+    let next : take (at + 1) cells ≡ take at cells ++ x ∷ [] = take_more cells at x within ∙ ap (λ y. take at cells ++ y ∷ []) (sym here) in
+    map-append (λ (y : Entry). y.note.cell) es (e ∷ []) ∙ ap (λ l. l ++ e.note.cell ∷ []) before
+    ∙ ap (λ name. map cell_name (take at cells) ++ name ∷ []) own ∙ sym (map-append cell_name (take at cells) (x ∷ [])) ∙ ap (map cell_name) (sym next)
