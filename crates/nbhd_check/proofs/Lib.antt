@@ -1,4 +1,6 @@
 pub mod Cells
+pub mod BitSets
+pub mod PatternWords
 pub mod Ends
 pub mod HeldCounts
 pub mod Included
@@ -11,4 +13,8 @@ pub mod Steps
 pub mod Runs
 pub mod RunSteps
 pub mod SecondRuns
+pub mod MiddleSteps
+pub mod BeforeSteps
+pub mod PatternSteps
+pub mod SingleSteps
 pub mod ThirdFamilies

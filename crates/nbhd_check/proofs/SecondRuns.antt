@@ -45,7 +45,7 @@ shifted_front (y ∷ list) x long distinct free =
     shifted list y x distinct (lacks_drop 1 x (y ∷ list) free) (λ e. lacks_differs (y ∷ list) x free 0 0 (omega arith) (sym e))
 
 -- where the second windows after one window of a run are
-second_at : (t : ChannelTable) (runs : SecondRuns) (place : ℕ) (window : List ℕ) → SecondRunsOf t runs → place < wide t
+pub second_at : (t : ChannelTable) (runs : SecondRuns) (place : ℕ) (window : List ℕ) → SecondRunsOf t runs → place < wide t
     → slice_get (windows_of t) (runs.run * wide t + place) ≡ Some window
     → (slice_get (windows (2 * t.rounds) t.ids) (second_run runs place) ≡ Some (drop 1 window))
     × (second_gap runs place ≡ rank (drop 1 window) (get_or window 0 0))
@@ -77,12 +77,16 @@ pub record AtPlace (t : ChannelTable) (runs : SecondRuns) (place : ℕ) : Type 0
   pub starts : IsRunStart (2 * t.rounds) t.ids (drop 1 window) (second_run runs place * wide t)
   pub full : length t.entries ≡ length (windows_of t)
 
-pub at_place : (t : ChannelTable) (runs : SecondRuns) (place : ℕ)
-    → length t.entries ≡ length (windows_of t) → SecondRunsOf t runs → place < wide t → AtPlace t runs place
-at_place t runs place full are inside =
+-- the same by the window's identifiers
+pub at_place_by : (t : ChannelTable) (runs : SecondRuns) (place : ℕ) → length t.entries ≡ length (windows_of t) → 1 ≤ t.rounds
+    → runs.run * wide t + wide t ≤ length (windows_of t) → place < wide t
+    → ((window : List ℕ) → slice_get (windows_of t) (runs.run * wide t + place) ≡ Some window
+    → (slice_get (windows (2 * t.rounds) t.ids) (second_run runs place) ≡ Some (drop 1 window))
+    × (second_gap runs place ≡ rank (drop 1 window) (get_or window 0 0)))
+    → AtPlace t runs place
+at_place_by t runs place full rounds run_in inside of_window =
     let k : ℕ = 2 * t.rounds in
     let n : ℕ = runs.run * wide t + place in
-    let run_in = run_within t runs.run are.front full are.front_at in
     let window = get_or (windows_of t) n [] in
     let item = slice_get-get_or (windows_of t) n [] (omega arith) in
     let is = windows_all (k + 1) t.ids n window item in
@@ -90,7 +94,7 @@ at_place t runs place full are inside =
     let turn : k + 1 ≡ 1 + k = omega arith in
     let rest = window_drop k t.ids 1 window (subst (λ l. IsWindow l t.ids window) turn is) in
     let y : ℕ = get_or window 0 0 in
-    let own = second_at t runs place window are inside item in
+    let own = of_window window item in
     let gap_at = unused_at (drop 1 window) t.ids y (is.below 0 0 (omega arith)) (first_is_free window is.distinct) in
     let next : ℕ = second_run runs place in
     let next_in = run_within t next (drop 1 window) full own.0 in
@@ -105,6 +109,12 @@ at_place t runs place full are inside =
       starts = run_start_is k t.ids next (next * wide t) (drop 1 window) own.0 refl;
       full = full;
     }
+
+pub at_place : (t : ChannelTable) (runs : SecondRuns) (place : ℕ)
+    → length t.entries ≡ length (windows_of t) → SecondRunsOf t runs → place < wide t → AtPlace t runs place
+at_place t runs place full are inside =
+    let run_in = run_within t runs.run are.front full are.front_at in
+    at_place_by t runs place full are.some (omega arith) inside (λ window item. second_at t runs place window are inside item)
 
 -- no tuple that begins with the window is bad if no channel of that run is close, except at the gap
 pub free_at : (t : ChannelTable) (runs : SecondRuns) (place distance : ℕ) → AtPlace t runs place

@@ -1,9 +1,15 @@
 -- The definitions that the contracts cite: runs of windows, masks of channels, pairs and counts, the search at distance
--- two, and the judge's verdict.
+-- two, and the verdicts of the judge.
 pub mod Runs
 pub mod Masks
+pub mod Words
+pub mod PatternBits
+pub mod MiddleRuns
+pub mod ChannelsBefore
+pub mod PatternSearch
 pub mod Pairs
 pub mod Counts
 pub mod FarSearch
 pub mod Searches
 pub mod Verdicts
+pub mod ProblemVerdicts

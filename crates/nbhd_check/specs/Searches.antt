@@ -1,23 +1,27 @@
 -- The searches of the judge, unit by unit: a unit is a run, but for counts the windows whose third windows are in one
--- family.
+-- family, and for patterns the windows whose second windows are in one run.
 use Rattle.std.specs.Prelude.{◌≡◌, ℕ, ◌+◌, ◌*◌, ◌<◌, ◌≤◌, List, length, drop, slice_get, Some}
+use Rattle.win_index.specs.Windows.{windows}
 use Rattle.channel_tables.specs.Tables.{ChannelTable, windows_of}
 use Rattle.nbhd_check.specs.Counts.{shared_lists}
+use Rattle.nbhd_check.specs.PatternSearch.{BeginsForbidden}
 use Rattle.nbhd_check.specs.Runs.{BeginsBadTuple, BeginsFarTuple, wide}
 use Rattle.nbhd_check.specs.declared.search.Search.{Search}
-use Rattle.nbhd_check.specs.declared.search.Search.TheVariants.{Near, FarMasks, FarCounts}
+use Rattle.nbhd_check.specs.declared.search.Search.TheVariants.{Near, FarMasks, FarCounts, Patterns}
 
 -- the table of the search
 abbrev pub searched : Search → ChannelTable
 searched (Near s) = s.now.table.now
 searched (FarMasks s) = s.now.table.now
 searched (FarCounts s) = s.table.now
+searched (Patterns s) = s.now.table.now
 
 -- the window is bad in the search's sense
 abbrev pub IsBad : Search → List ℕ → Type 0
 IsBad (Near s) = BeginsBadTuple s.now.table.now (record { near = s.now.distance; far = 0 })
 IsBad (FarMasks s) = BeginsFarTuple s.now.table.now s.now.distance
 IsBad (FarCounts s) = BeginsFarTuple s.table.now s.distance
+IsBad (Patterns s) = BeginsForbidden s.now.table.now s.now.problem.now
 
 -- a window with this number is in the run with this number
 abbrev pub IsInRun : ChannelTable → ℕ → ℕ → Type 0
@@ -28,12 +32,14 @@ abbrev pub IsInUnit : Search → ℕ → ℕ → List ℕ → Type 0
 IsInUnit (Near s) unit number window = IsInRun s.now.table.now unit number
 IsInUnit (FarMasks s) unit number window = IsInRun s.now.table.now unit number
 IsInUnit (FarCounts s) unit number window = slice_get (shared_lists s.table.now) unit ≡ Some (drop 2 window)
+IsInUnit (Patterns s) unit number window = slice_get (windows (2 * s.now.table.now.rounds) s.now.table.now.ids) unit ≡ Some (drop 1 window)
 
 -- the search has at least so many units
 abbrev pub HasUnits : Search → ℕ → Type 0
 HasUnits (Near s) count = count * wide s.now.table.now ≤ length (windows_of s.now.table.now)
 HasUnits (FarMasks s) count = count * wide s.now.table.now ≤ length (windows_of s.now.table.now)
 HasUnits (FarCounts s) count = count ≤ length (shared_lists s.table.now)
+HasUnits (Patterns s) count = count * wide s.now.table.now ≤ length (windows_of s.now.table.now)
 
 -- none of the windows below `least` in a unit from low on and below high is bad
 abbrev pub AreFreeIn : Search → ℕ → ℕ → ℕ → Type 0

@@ -61,8 +61,8 @@ fn count_without_bits(channels: &[u16], masks: &[u64]) -> usize
     channels.len()
 }
 
-// Returns whether the mask has the bit of this channel.
-fn has_bit(mask: u64, channel: u16) -> bool
+/// Returns whether the mask has the bit of this channel.
+pub(crate) fn has_bit(mask: u64, channel: u16) -> bool
     ensures { IsTrue result ↔ HasBit mask channel }
 {
     mask >> (channel % 64) & 1 == 1

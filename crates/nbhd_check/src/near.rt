@@ -84,21 +84,21 @@ pub(crate) struct NearSearch<'a> {
     ghost cover: { AreMasks table.now.entries (wide table.now) distance masks.items },
 }
 
-// Where the second windows after the windows of a run are: those after the window at place `i` of
-// the run are run `first + i`, or run `first + i + 1` if `i` is not below the gap. The window that
-// would end in the first identifier of the run is at place `gap - 1` or `gap` there.
+/// Where the second windows after the windows of a run are: those after the window at place `i` of
+/// the run are run `first + i`, or run `first + i + 1` if `i` is not below the gap. The window that
+/// would end in the first identifier of the run is at place `gap - 1` or `gap` there.
 #[derive(Clone, Copy)]
 pub(crate) struct SecondRuns {
-    run: usize,
-    first: usize,
-    gap: usize,
+    pub(crate) run: usize,
+    pub(crate) first: usize,
+    pub(crate) gap: usize,
 }
 
 impl SecondRuns {
     ghost use Rattle.nbhd_check.specs.Runs.{second_run, second_gap};
 
-    // Returns the run of the second windows after the window at this place.
-    fn run_at(self, place: usize) -> usize
+    /// Returns the run of the second windows after the window at this place.
+    pub(crate) fn run_at(self, place: usize) -> usize
         requires { self.first + place < 2 ^ 32 }
         ensures { result ≡ second_run self place }
     {
@@ -117,8 +117,8 @@ impl SecondRuns {
         if place < self.gap { self.gap } else { each }
     }
 
-    // Returns the place in that run of the window that is none of them.
-    fn gap_at(self, place: usize) -> usize
+    /// Returns the place in that run of the window that is none of them.
+    pub(crate) fn gap_at(self, place: usize) -> usize
         ensures { result ≡ second_gap self place }
     {
         if place < self.gap {
@@ -219,9 +219,9 @@ impl<'a> NearSearch<'a> {
     }
 }
 
-// Returns where the second windows after the windows of a run are. `window` is the first window of
-// the run.
-fn second_runs(table: &Table, window: &[u32], run: usize) -> SecondRuns
+/// Returns where the second windows after the windows of a run are. `window` is the first window of
+/// the run.
+pub(crate) fn second_runs(table: &Table, window: &[u32], run: usize) -> SecondRuns
     requires some { 1 ≤ table.now.rounds }
     requires window { slice_get (windows_of table.now) (run * wide table.now) ≡ Some window.now }
     ensures runs { SecondRunsOf table.now result }
@@ -238,8 +238,8 @@ fn second_runs(table: &Table, window: &[u32], run: usize) -> SecondRuns
     }
 }
 
-// Returns the channels of a run.
-fn channels_of(table: &Table, run: usize) -> &[u16]
+/// Returns the channels of a run.
+pub(crate) fn channels_of(table: &Table, run: usize) -> &[u16]
     requires { run * wide table.now + wide table.now ≤ length table.now.entries }
     ensures { result.now ≡ take (wide table.now) (drop (run * wide table.now) table.now.entries) }
 {

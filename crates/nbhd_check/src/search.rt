@@ -8,13 +8,15 @@ use crate::far_counts::FarCounts;
 use crate::far_masks::FarMasks;
 use crate::near::NearSearch;
 use crate::parallel::{least_of_parts, part_count};
+use crate::patterns::PatternSearch;
 use crate::run_search::{first_in_runs, windows_per_run};
 use channel_tables::Table;
 use std::sync::atomic::AtomicU32;
 use std::thread::Threads;
 
 /// A search for the windows of a table that are bad in some sense, unit by unit. A unit is a run, but
-/// for counts the windows whose third windows are in one family.
+/// for counts the windows whose third windows are in one family, and for patterns the windows whose
+/// second windows are in one run.
 #[derive(Clone, Copy)]
 pub(crate) enum Search<'s, 'a> {
     /// By masks of second windows, and these windows.
@@ -23,6 +25,8 @@ pub(crate) enum Search<'s, 'a> {
     FarMasks(&'s FarMasks<'a>),
     /// By counts of third windows.
     FarCounts(FarCounts<'a>),
+    /// By words of first and third windows.
+    Patterns(&'s PatternSearch<'a>),
 }
 
 impl<'s, 'a> Search<'s, 'a> {
@@ -38,6 +42,7 @@ impl<'s, 'a> Search<'s, 'a> {
             Search::Near(search) => runs_of(search.table, most),
             Search::FarMasks(search) => runs_of(search.table, most),
             Search::FarCounts(search) => search.families(),
+            Search::Patterns(search) => search.runs(),
         }
     }
 
@@ -52,6 +57,7 @@ impl<'s, 'a> Search<'s, 'a> {
             Search::Near(search) => first_in_runs(search, low, high, best),
             Search::FarMasks(search) => first_in_runs(search, low, high, best),
             Search::FarCounts(search) => search.free_in_families(low, high, best),
+            Search::Patterns(search) => search.free_in_runs(low, high, best),
         }
     }
 }

@@ -32,3 +32,8 @@ pub returns-in-FarCounts : goal.returns-in-FarCounts
 returns-in-FarCounts c =
     subst (λ own. AreFreeIn own c.free_in_families.result c.args.low c.args.high) (sym c.in-FarCounts.is)
     (λ unit number window low high is below item. c.free_in_families.ensures number window below item (unit, low, high, is))
+
+pub returns-in-Patterns : goal.returns-in-Patterns
+returns-in-Patterns c =
+    subst (λ own. AreFreeIn own c.free_in_runs.result c.args.low c.args.high) (sym c.in-Patterns.is)
+    (λ unit number window low high is below item. c.free_in_runs.ensures unit low high number window below item is)

@@ -5,6 +5,7 @@ use Rattle.nbhd_check.specs.declared.search.Search.{Search}
 use Rattle.nbhd_check.specs.Runs.{wide}
 use Rattle.nbhd_check.specs.Searches.{searched, IsInRun, IsInUnit}
 use Rattle.nbhd_check.proofs.FarFree.{family_of}
+use Rattle.nbhd_check.proofs.PatternSteps.{run_after}
 use Rattle.nbhd_check.proofs.search.Search.units.Goals as goal
 
 -- the run of a window with this number
@@ -39,3 +40,9 @@ returns-in-FarCounts-clause-all c =
     (λ number window below item.
     let family = family_of t own.some.0 number window item in
     (family.0, rw c.families.ensures.value family.1, family.2))
+
+pub returns-in-Patterns-clause-all : goal.returns-in-Patterns-clause-all
+returns-in-Patterns-clause-all c =
+    let own = c.in-Patterns.search.now in
+    subst (λ s. All s c.args.most c.runs.result) (sym c.in-Patterns.is)
+    (λ number window below item. run_after own.table.now c.runs.result number window own.table_is c.runs.ensures.all item)
