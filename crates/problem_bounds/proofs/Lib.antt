@@ -1,0 +1,2 @@
+-- Colours that solutions give.
+pub mod Colours

@@ -1,0 +1,2 @@
+-- How many identifiers the tables of two problems can have.
+pub mod Laws
