@@ -40,7 +40,7 @@ const FAULTS: [(&str, u64, LineFault); 13] = [
 fn verdict_on(alloc: Global, text: &str) -> Option<Result<(), RefuteError>> {
     let shape = Shape::new(2, 0).ok()?;
     let separation = Separation { near: 1, far: 0 };
-    let formula = Formula::new(alloc, shape, 1, separation).ok()?;
+    let formula = Formula::new(alloc, shape, 1, separation, &[]).ok()?;
     Some(refute(alloc, &formula, text.as_bytes()))
 }
 

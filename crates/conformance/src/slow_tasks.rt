@@ -9,11 +9,13 @@ use plan_print::fault::EngineFault;
 use plan_print::status::Status;
 use plan_print::task::Task;
 use plan_print::watched::Watched;
+use ring_problems::Demand;
 use std::alloc::Global;
 use std::io::ErrorKind;
 use std::sync::Wait;
 use std::test::Fail;
 use std::thread::Threads;
+use table_formula::Separation;
 use test_programs::{CV1, ID0};
 
 /// The report of the run.
@@ -38,6 +40,7 @@ impl Command {
     /// Returns the command's task.
     fn task(self, alloc: Global) -> Option<Task> {
         let (workers, rounds, near, far) = (1, 0, 1, 0);
+        let demand = Demand::Apart(Separation { near, far });
         Some(match self {
             Command::Check => Task::Check { ids: 8 },
             Command::Run => Task::Run {
@@ -55,15 +58,13 @@ impl Command {
                 ids: 2,
                 rounds,
                 channels: 2,
-                near,
-                far,
+                demand,
             },
             Command::Refute => Task::Refute {
                 ids: 2,
                 rounds,
                 channels: 1,
-                near,
-                far,
+                demand,
             },
         })
     }

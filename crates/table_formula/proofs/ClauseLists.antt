@@ -4,7 +4,7 @@ use Rattle.std.specs.List.{list_any, range_with_len, flat_map, filter}
 use Rattle.std.specs.Int.{abs_diff}
 use Rattle.table_formula.specs.declared.literal.Literal.{Literal}
 use Rattle.table_formula.specs.Problems.{Problem}
-use Rattle.table_formula.specs.Formula.{windows_of, tuples_of, is_close, close_to, conflicts_of, some_channel, not_both, not_too_close, formula}
+use Rattle.table_formula.specs.Formula.{windows_of, tuples_of, is_close, close_to, conflicts_of, some_channel, not_both, not_too_close, pattern_clauses, apart_formula, formula}
 use Rattle.std.proofs.lemmas.List.{flat_map_more, length-map}
 use Rattle.std.proofs.lemmas.List.FromFn.{length-map-range_with_len, filter_of_map_range_with_len_more, length-range_with_len, get_or-range_with_len}
 use Rattle.std.proofs.lemmas.List.Elements.{All-nil, All-cons, All-head, All-tail, All-append}
@@ -104,11 +104,11 @@ pub length_flat : {X Y : Type 0} (f : X → List Y) (n : ℕ) → ((x : X) → l
 length_flat f n each [] = omega arith
 length_flat f n each (x ∷ xs) = omega (arith, length-append (f x) (flat_map f xs), each x, length_flat f n each xs)
 
--- the number of clauses
-pub formula_length : (p : Problem) →
-    length (formula p) ≡ length (windows_of p) + length (tuples_of p) * length (conflicts_of p)
-unfolding formula
-formula_length p =
+-- the number of clauses of a separation
+pub apart_length : (p : Problem) →
+    length (apart_formula p) ≡ length (windows_of p) + length (tuples_of p) * length (conflicts_of p)
+unfolding apart_formula
+apart_length p =
     omega (
       arith,
       length-append (map (some_channel p) (range_with_len 0 (length (windows_of p))))
@@ -117,3 +117,11 @@ formula_length p =
       length_flat (not_too_close p) (length (conflicts_of p))
           (λ tuple. length-map (conflicts_of p) (not_both p tuple)) (tuples_of p),
     )
+
+-- the clauses of the separation, and those of the patterns
+pub formula_parts : (p : Problem) → formula p ≡ apart_formula p ++ pattern_clauses p
+unfolding formula
+formula_parts p = refl
+
+pub formula_length : (p : Problem) → length (formula p) ≡ length (apart_formula p) + length (pattern_clauses p)
+formula_length p = ap length (formula_parts p) ∙ length-append (apart_formula p) (pattern_clauses p)

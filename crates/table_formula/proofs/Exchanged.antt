@@ -1,7 +1,7 @@
 -- Tables with two identifiers or two channels exchanged.
-use Rattle.std.proofs.Common.{◌≡◌, ◌==◌, ℕ, ◌+◌, ◌*◌, ◌/◌, ◌%◌, ◌<◌, ◌≤◌, Bool, true, false, ◌&&◌, cond, ltb, leb, List, [], ◌∷◌, map, length, take, drop, get_or, slice_get, Option, Some, IsSome, option_map, unwrap_or, refl, sym, ap, ◌∙◌, subst, ⊎_elim, inl, inr, arith, zero-add}
+use Rattle.std.proofs.Common.{◌≡◌, ◌==◌, ℕ, ◌+◌, ◌*◌, ◌/◌, ◌%◌, ◌<◌, ◌≤◌, Bool, true, false, ◌&&◌, cond, List, [], ◌∷◌, map, length, take, drop, get_or, slice_get, Option, Some, IsSome, option_map, unwrap_or, refl, sym, ap, ◌∙◌, subst, ⊎_elim, inl, inr, arith, zero-add}
 use Rattle.std.specs.List.{range_with_len}
-use Rattle.std.proofs.lemmas.Bool.{eq-eqb, ltb-true, leb-true}
+use Rattle.std.proofs.lemmas.Bool.{eq-eqb}
 use Rattle.std.proofs.lemmas.Bool.Decides.{eqb_tells, nat_tests}
 use Rattle.std.specs.Int.{abs_diff}
 use Rattle.std.proofs.lemmas.List.{length-map, take-map, drop-map, get_or-map}
@@ -14,22 +14,21 @@ use Rattle.win_index.specs.Laws.{NumberOfWindow, WindowOfNumber, WindowsHaveNumb
 use Rattle.win_index.specs.Windows.{windows, number_of, IsWindow}
 use Rattle.channel_tables.specs.Tables.{ChannelTable, IsTable, channel_of}
 use Rattle.channel_tables.specs.declared.separation.Separation.{Separation}
-use Rattle.channel_tables.specs.Apart.{extra, AreClose, IsBad, IsApart, IsApartEverywhere}
+use Rattle.channel_tables.specs.Apart.{extra, AreClose, IsBad, IsApart}
 use Rattle.channel_tables.specs.Laws.{TuplesSuffice}
 use Rattle.table_formula.specs.Clauses.{is_same_value, is_true_literal}
 use Rattle.table_formula.specs.declared.literal.Literal.{Literal}
 use Rattle.node_program.specs.declared.limits.TheConstants.{MAX_CHANNELS}
 use Rattle.table_formula.specs.declared.exchange.Exchange.{Exchange}
-use Rattle.table_formula.specs.declared.exchange.Exchange.TheVariants.{Identifiers, Channels, Mirror}
+use Rattle.table_formula.specs.declared.exchange.Exchange.TheVariants.{Identifiers}
 use Rattle.table_formula.specs.Problems.{Problem, IsSolution}
 use Rattle.table_formula.specs.Formula.{windows_of, variable_of, variable_count, values_of}
 use Rattle.table_formula.specs.Exchanges.{can_exchange, exchanged, mirrored, exchanged_window, exchanged_literal}
-use Rattle.table_formula.specs.Laws.{ExchangesKeepSolutions}
 use Rattle.table_formula.proofs.ClauseLists.{all_below, some_value}
-use Rattle.table_formula.proofs.Satisfied.{problem_of, same_problem, value_at}
+use Rattle.table_formula.proofs.Satisfied.{problem_of, value_at}
 use Rattle.table_formula.proofs.Models.{two_of_far}
 
-and_true : (a b : Bool) → (a && b) ≡ true → (a ≡ true) × (b ≡ true)
+pub and_true : (a b : Bool) → (a && b) ≡ true → (a ≡ true) × (b ≡ true)
 and_true true b h = (refl, h)
 and_true false b h = cc
 
@@ -106,27 +105,27 @@ module _ (a b : ℕ) where
   }
 
   -- a part of a longer list
-  part_stays : (r step : ℕ) (xs : List ℕ) → map (exchanged a b) (part_at r step xs) ≡ part_at r step (map (exchanged a b) xs)
+  pub part_stays : (r step : ℕ) (xs : List ℕ) → map (exchanged a b) (part_at r step xs) ≡ part_at r step (map (exchanged a b) xs)
   part_stays r step xs =
       sym (take-map (exchanged a b) (2 * r + 1) (drop step xs))
       ∙ ap (take (2 * r + 1)) (sym (drop-map (exchanged a b) step xs))
 
 -- channels below a number that a function brings closer than a distance are so close before
-abbrev IsNoCloser : (ℕ → ℕ) → ℕ → ℕ → Type 0
+abbrev pub IsNoCloser : (ℕ → ℕ) → ℕ → ℕ → Type 0
 IsNoCloser f channels distance = (c d : ℕ) → c < channels → d < channels → abs_diff (f c) (f d) < distance → abs_diff c d < distance
 
 -- an exchange keeps which channels differ
-exchange_no_closer : (a b channels distance : ℕ) → distance ≤ 1 → IsNoCloser (exchanged a b) channels distance
+pub exchange_no_closer : (a b channels distance : ℕ) → distance ≤ 1 → IsNoCloser (exchanged a b) channels distance
 exchange_no_closer a b channels distance one c d c_below d_below close =
     let there : exchanged a b c ≡ exchanged a b d = omega (arith, one, close) in
     let here : c ≡ d = injective a b c d there in
     omega (arith, here, close)
 
 -- the mirror keeps all distances
-mirror_no_closer : (channels distance : ℕ) → IsNoCloser (mirrored channels) channels distance
+pub mirror_no_closer : (channels distance : ℕ) → IsNoCloser (mirrored channels) channels distance
 mirror_no_closer channels distance c d c_below d_below close = omega arith
 
-mirror_same : (channels c d : ℕ) → c < channels → d < channels → (mirrored channels c == mirrored channels d) ≡ (c == d)
+pub mirror_same : (channels c d : ℕ) → c < channels → d < channels → (mirrored channels c == mirrored channels d) ≡ (c == d)
 mirror_same channels c d c_below d_below = grind (arith, nat_tests)
 
 module _ (suffice : TuplesSuffice) (is_ring : TuplesAreRings) (has_window : RingsHaveWindows)
@@ -155,10 +154,10 @@ module _ (suffice : TuplesSuffice) (is_ring : TuplesAreRings) (has_window : Ring
 
   -- the table with two identifiers exchanged
   module _ (t : ChannelTable) (channels : ℕ) (s : Separation) (a b : ℕ) (a_below : a < t.ids) (b_below : b < t.ids) where
-    abbrev p : Problem
+    abbrev pub p : Problem
     p = problem_of t channels s
 
-    abbrev size : ℕ
+    abbrev pub size : ℕ
     size = length (windows_of p)
 
     abbrev turned : ℕ → List ℕ
@@ -186,16 +185,16 @@ module _ (suffice : TuplesSuffice) (is_ring : TuplesAreRings) (has_window : Ring
         (number_at (2 * t.rounds + 1) t.ids w list (slice_get-get_or (windows_of p) w [] lt))
 
     -- its entries
-    abbrev entry : ℕ → ℕ
+    abbrev pub entry : ℕ → ℕ
     entry w = get_or t.entries (exchanged_window p a b w) 0
 
-    abbrev u : ChannelTable
+    abbrev pub u : ChannelTable
     u = record { ids = t.ids; rounds = t.rounds; channels = t.channels; entries = map entry (range_with_len 0 size) }
 
     entry_is : (w : ℕ) → w < size → get_or u.entries w 0 ≡ entry w
     entry_is w lt = get_or-map-range_with_len entry 0 size w w 0 lt (zero-add w)
 
-    u_table : IsTable t → IsTable u
+    pub u_table : IsTable t → IsTable u
     u_table table =
         let same : length u.entries ≡ size = length-map-range_with_len entry 0 size in
         record {
@@ -217,7 +216,7 @@ module _ (suffice : TuplesSuffice) (is_ring : TuplesAreRings) (has_window : Ring
         }
 
     -- its channel at a window
-    channel_is : (list : List ℕ) → IsWindow (2 * t.rounds + 1) t.ids list →
+    pub channel_is : (list : List ℕ) → IsWindow (2 * t.rounds + 1) t.ids list →
         channel_of u list ≡ channel_of t (map (exchanged a b) list)
     channel_is list window =
         let k : ℕ = 2 * t.rounds + 1 in
@@ -256,7 +255,7 @@ module _ (suffice : TuplesSuffice) (is_ring : TuplesAreRings) (has_window : Ring
         inr (close_is 2 s.far tuple (two_of_far s (part 0) (part 2) close) window close))
         bad
 
-    u_apart : IsApart t s → IsApart u s
+    pub u_apart : IsApart t s → IsApart u s
     u_apart good n e within bad =
         let k : ℕ = 2 * t.rounds + 1 + extra s in
         let tuple : List ℕ = get_or (windows k t.ids) n e in
@@ -267,7 +266,7 @@ module _ (suffice : TuplesSuffice) (is_ring : TuplesAreRings) (has_window : Ring
         good m e (slice_get_within (windows k t.ids) m there placed)
         (subst (IsBad t s) (sym (get_or_from_slice_get (windows k t.ids) m there e placed)) (bad_is tuple window bad))
 
-    literal_is : 0 < channels → (l : Literal) → l.variable < size * channels
+    pub literal_is : 0 < channels → (l : Literal) → l.variable < size * channels
         → is_true_literal (values_of p u) (exchanged_literal p (Identifiers a b) l) ≡ is_true_literal (values_of p t) l
     literal_is some l lt =
         let w : ℕ = l.variable / channels in
@@ -286,10 +285,10 @@ module _ (suffice : TuplesSuffice) (is_ring : TuplesAreRings) (has_window : Ring
     abbrev q : Problem
     q = problem_of t channels s
 
-    abbrev v : ChannelTable
+    abbrev pub v : ChannelTable
     v = record { ids = t.ids; rounds = t.rounds; channels = channels; entries = map f t.entries }
 
-    v_table : IsTable t → t.channels ≤ channels → channels ≤ MAX_CHANNELS → IsTable v
+    pub v_table : IsTable t → t.channels ≤ channels → channels ≤ MAX_CHANNELS → IsTable v
     v_table table few fits =
         let long : length v.entries ≡ length t.entries = length-map t.entries f in
         record {
@@ -311,7 +310,7 @@ module _ (suffice : TuplesSuffice) (is_ring : TuplesAreRings) (has_window : Ring
       own_below : (w : ℕ) → w < length (windows_of q) → get_or t.entries w 0 < channels
       own_below w lt = let below = table.begun.below w 0 (omega (arith, table.size)) in omega arith
 
-      v_entry : (w : ℕ) → w < length (windows_of q) → get_or v.entries w 0 ≡ f (get_or t.entries w 0)
+      pub v_entry : (w : ℕ) → w < length (windows_of q) → get_or v.entries w 0 ≡ f (get_or t.entries w 0)
       v_entry w lt = get_or-map f t.entries w 0 0 (omega (arith, table.size))
 
       abbrev number : List ℕ → ℕ
@@ -356,13 +355,13 @@ module _ (suffice : TuplesSuffice) (is_ring : TuplesAreRings) (has_window : Ring
           (placed 2 (two_of_far s (channel_of v (part 0)) (channel_of v (part 2)) close)) close))
           bad
 
-      v_apart : IsApart t s → IsApart v s
+      pub v_apart : IsApart t s → IsApart v s
       v_apart good n e within bad =
           let k : ℕ = 2 * t.rounds + 1 + extra s in
           good n e within (v_bad (get_or (windows k t.ids) n e) (window_at k t.ids n e within) bad)
 
       -- a variable of the other table says there what it says here after the exchange
-      v_variable : 0 < channels → (variable : ℕ) → variable < length (windows_of q) * channels
+      pub v_variable : 0 < channels → (variable : ℕ) → variable < length (windows_of q) * channels
           → values_of q v (variable_of q (variable / channels) (f (variable % channels))) ≡ values_of q t variable
       v_variable some variable lt =
           let w : ℕ = variable / channels in
@@ -373,66 +372,10 @@ module _ (suffice : TuplesSuffice) (is_ring : TuplesAreRings) (has_window : Ring
           ∙ ap (λ x. x == f c) (v_entry w w_below)
           ∙ same (get_or t.entries w 0) c (own_below w w_below) c_below
 
-      v_solution : IsApartEverywhere t s → channels ≤ MAX_CHANNELS → IsSolution q v
-      v_solution apart fits = record {
-        table = v_table table few fits;
-        ids = refl;
-        rounds = refl;
-        channels = omega arith;
-        apart = (suffice v s).0 (v_apart ((suffice t s).1 apart));
-      }
-
   -- what is to be shown, of a problem of the shape of a table
-  abbrev Keeps : ChannelTable → Problem → Type 0
+  abbrev pub Keeps : ChannelTable → Problem → Type 0
   Keeps t p =
       (x : Exchange) → can_exchange p x ≡ true
       → (u : ChannelTable) × IsSolution p u
       × ((l : Literal) → l.variable < variable_count p
       → is_true_literal (values_of p u) (exchanged_literal p x l) ≡ is_true_literal (values_of p t) l)
-
-  keeps : (t : ChannelTable) (channels : ℕ) (s : Separation) → IsTable t → t.channels ≤ channels → IsApartEverywhere t s →
-      Keeps t (problem_of t channels s)
-  keeps t channels s table few apart (Identifiers a b) can =
-      let both = and_true (ltb a t.ids) (ltb b t.ids) can in
-      let a_below : a < t.ids = ltb-true a t.ids both.0 in
-      let b_below : b < t.ids = ltb-true b t.ids both.1 in
-      let some : 0 < channels = omega (arith, table.begun.some_channels) in (
-        u t channels s a b a_below b_below,
-        record {
-          table = u_table t channels s a b a_below b_below table;
-          ids = refl;
-          rounds = refl;
-          channels = few;
-          apart = (suffice (u t channels s a b a_below b_below) s).0 (u_apart t channels s a b a_below b_below ((suffice t s).1 apart));
-        },
-        literal_is t channels s a b a_below b_below some,
-      )
-  keeps t channels s table few apart (Channels a b) can =
-      let first = and_true (ltb a channels) _ can in
-      let second = and_true (ltb b channels) _ first.1 in
-      let third = and_true (leb channels MAX_CHANNELS) _ second.1 in
-      let fourth = and_true (leb s.near 1) (leb s.far 1) third.1 in
-      let a_below : a < channels = ltb-true a channels first.0 in
-      let b_below : b < channels = ltb-true b channels second.0 in
-      let some : 0 < channels = omega (arith, table.begun.some_channels) in
-      let stays : (c : ℕ) → c < channels → exchanged a b c < channels = λ c lt. stays_below a b channels c a_below b_below lt in
-      let same : (c d : ℕ) → c < channels → d < channels → (exchanged a b c == exchanged a b d) ≡ (c == d) = λ c d _ _. same_after a b c d in
-      let near = exchange_no_closer a b channels s.near (leb-true s.near 1 fourth.0) in
-      let far = exchange_no_closer a b channels s.far (leb-true s.far 1 fourth.1) in (
-        v t channels s (exchanged a b) stays same near far,
-        v_solution t channels s (exchanged a b) stays same near far table few apart (leb-true channels MAX_CHANNELS third.0),
-        λ l lt. ap (λ x. is_same_value x l.is_positive) (v_variable t channels s (exchanged a b) stays same near far table few some l.variable lt),
-      )
-  keeps t channels s table few apart Mirror can =
-      let some : 0 < channels = omega (arith, table.begun.some_channels) in
-      let stays : (c : ℕ) → c < channels → mirrored channels c < channels = λ c lt. omega arith in
-      let near = mirror_no_closer channels s.near in
-      let far = mirror_no_closer channels s.far in (
-        v t channels s (mirrored channels) stays (mirror_same channels) near far,
-        v_solution t channels s (mirrored channels) stays (mirror_same channels) near far table few apart (leb-true channels MAX_CHANNELS can),
-        λ l lt. ap (λ x. is_same_value x l.is_positive) (v_variable t channels s (mirrored channels) stays (mirror_same channels) near far table few some l.variable lt),
-      )
-
-  pub kept : ExchangesKeepSolutions
-  kept p t x can solution =
-      subst (Keeps t) (same_problem p t solution) (keeps t p.channels p.separation solution.table solution.channels solution.apart) x can

@@ -1,9 +1,7 @@
 pub mod Truth
 pub mod ClauseLists
 pub mod CloseChannels
-pub mod Longest
 pub mod Sizes
-pub mod ClauseLengths
 pub mod Satisfied
 pub mod Numbered
 pub mod Models
@@ -20,3 +18,6 @@ pub mod Numbers
 pub mod ItemLists
 pub mod HintSteps
 pub mod NotePieces
+pub mod PatternClauses
+pub mod PatternTruth
+pub mod ExchangedPatterns

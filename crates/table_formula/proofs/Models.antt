@@ -16,26 +16,26 @@ use Rattle.channel_tables.specs.Laws.{TuplesSuffice}
 use Rattle.table_formula.specs.Clauses.{is_same_value, is_true_literal, Holds}
 use Rattle.table_formula.specs.declared.conflict.Conflict.{Conflict}
 use Rattle.table_formula.specs.Problems.{Problem}
-use Rattle.table_formula.specs.Formula.{windows_of, tuples_of, variable_of, has_channel, some_channel, is_close, close_to, close_pairs, conflicts_of, window_in, not_both, not_too_close, formula}
-use Rattle.table_formula.specs.Laws.{HasTables, ModelsGiveSolutions}
+use Rattle.table_formula.specs.Formula.{windows_of, tuples_of, variable_of, has_channel, some_channel, is_close, close_to, close_pairs, conflicts_of, window_in, not_both, not_too_close, apart_formula}
+use Rattle.table_formula.specs.Laws.{HasTables}
 use Rattle.table_formula.proofs.ClauseLists.{all_below, some_value, any_map}
 use Rattle.table_formula.proofs.Satisfied.{part_channel}
 
 -- the elements of parts of a list
-all_front : {X : Type 0} (P : X → Type 0) (xs ys : List X) → All P (xs ++ ys) → All P xs
+pub all_front : {X : Type 0} (P : X → Type 0) (xs ys : List X) → All P (xs ++ ys) → All P xs
 all_front P [] ys h = All-nil P
 all_front P (x ∷ xs) ys h = All-cons P x xs (All-head P x (xs ++ ys) h) (all_front P xs ys (All-tail P x (xs ++ ys) h))
 
-all_back : {X : Type 0} (P : X → Type 0) (xs ys : List X) → All P (xs ++ ys) → All P ys
+pub all_back : {X : Type 0} (P : X → Type 0) (xs ys : List X) → All P (xs ++ ys) → All P ys
 all_back P [] ys h = h
 all_back P (x ∷ xs) ys h = all_back P xs ys (All-tail P x (xs ++ ys) h)
 
-all_of_map : {X Y : Type 0} (P : Y → Type 0) (f : X → Y) (xs : List X) → All P (map f xs) → All (λ x. P (f x)) xs
+pub all_of_map : {X Y : Type 0} (P : Y → Type 0) (f : X → Y) (xs : List X) → All P (map f xs) → All (λ x. P (f x)) xs
 all_of_map P f [] h = All-nil (λ x. P (f x))
 all_of_map P f (x ∷ xs) h =
     All-cons (λ y. P (f y)) x xs (All-head P (f x) (map f xs) h) (all_of_map P f xs (All-tail P (f x) (map f xs) h))
 
-all_of_flat : {X Y : Type 0} (P : Y → Type 0) (f : X → List Y) (xs : List X) → All P (flat_map f xs) →
+pub all_of_flat : {X Y : Type 0} (P : Y → Type 0) (f : X → List Y) (xs : List X) → All P (flat_map f xs) →
     All (λ x. All P (f x)) xs
 all_of_flat P f [] h = All-nil (λ x. All P (f x))
 all_of_flat P f (x ∷ xs) h = All-cons (λ y. All P (f y)) x xs (all_front P (f x) (flat_map f xs) h)
@@ -73,7 +73,7 @@ close_pair P channels step distance c d h first second close =
     (lt-ltb (abs_diff c d) distance close)
 
 -- the first number of a range that passes
-first_in : (ℕ → Bool) → ℕ → ℕ → ℕ
+pub first_in : (ℕ → Bool) → ℕ → ℕ → ℕ
 first_in q start zero = start
 first_in q start (suc n) = cond (q start) start (first_in q (start + 1) n)
 
@@ -103,10 +103,10 @@ not_both_true true false h x y = cc
 not_both_true false b h x y = cc
 
 -- the table that values describe
-abbrev channel_in : Problem → (ℕ → Bool) → ℕ → ℕ
+abbrev pub channel_in : Problem → (ℕ → Bool) → ℕ → ℕ
 channel_in p values w = first_in (λ c. values (variable_of p w c)) 0 p.channels
 
-abbrev table_of : Problem → (ℕ → Bool) → ChannelTable
+abbrev pub table_of : Problem → (ℕ → Bool) → ChannelTable
 table_of p values =
     record {
       ids = p.ids;
@@ -154,21 +154,21 @@ module _ (suffice : TuplesSuffice) (is_ring : TuplesAreRings) (has_window : Ring
       slice_get_within (windows (2 * t.rounds + 1) t.ids) (unwrap_or number 0) part
       (item_of (2 * t.rounds + 1) t.ids (unwrap_or number 0) part some)
 
-  module _ (p : Problem) (values : ℕ → Bool) (all : All (Holds values) (formula p)) where
+  module _ (p : Problem) (values : ℕ → Bool) (all : All (Holds values) (apart_formula p)) where
     window_clauses : All (Holds values) (map (some_channel p) (range_with_len 0 (length (windows_of p))))
-    unfolding formula
+    unfolding apart_formula
     window_clauses = all_front (Holds values) (map (some_channel p) (range_with_len 0 (length (windows_of p))))
         (flat_map (not_too_close p) (tuples_of p)) all
 
     tuple_clauses : All (λ tuple. All (Holds values) (not_too_close p tuple)) (tuples_of p)
-    unfolding formula
+    unfolding apart_formula
     tuple_clauses =
         all_of_flat (Holds values) (not_too_close p) (tuples_of p)
         (all_back (Holds values) (map (some_channel p) (range_with_len 0 (length (windows_of p))))
         (flat_map (not_too_close p) (tuples_of p)) all)
 
     -- the channel of a window
-    channel_is : (w : ℕ) → w < length (windows_of p) →
+    pub channel_is : (w : ℕ) → w < length (windows_of p) →
         (channel_in p values w < p.channels) × (values (variable_of p w (channel_in p values w)) ≡ true)
     channel_is w lt =
         let holds : Holds values (some_channel p w) =
@@ -182,10 +182,10 @@ module _ (suffice : TuplesSuffice) (is_ring : TuplesAreRings) (has_window : Ring
         let below = found.0 in
         (omega arith, found.1)
 
-    entry_is : (w : ℕ) → w < length (windows_of p) → get_or (table_of p values).entries w 0 ≡ channel_in p values w
+    pub entry_is : (w : ℕ) → w < length (windows_of p) → get_or (table_of p values).entries w 0 ≡ channel_in p values w
     entry_is w lt = get_or-map-range_with_len (channel_in p values) 0 (length (windows_of p)) w w 0 lt (zero-add w)
 
-    is_table : HasTables p → IsTable (table_of p values)
+    pub is_table : HasTables p → IsTable (table_of p values)
     is_table has =
         let size : length (table_of p values).entries ≡ length (windows_of p) =
         length-map-range_with_len (channel_in p values) 0 (length (windows_of p)) in
@@ -232,7 +232,7 @@ module _ (suffice : TuplesSuffice) (is_ring : TuplesAreRings) (has_window : Ring
         (channel_in p values w) hold c.0 d.0 near)
         c.1 d.1
 
-    apart : IsApart (table_of p values) p.separation
+    pub apart : IsApart (table_of p values) p.separation
     unfolding IsBad
     apart k e within bad =
         let t : ChannelTable = table_of p values in
@@ -253,16 +253,3 @@ module _ (suffice : TuplesSuffice) (is_ring : TuplesAreRings) (has_window : Ring
         none_close 2 s.far tuple (two_of_far s (part 0) (part 2) close) window
         (all_back P (close_pairs p.channels 1 s.near) (close_pairs p.channels 2 s.far) hold) close)
         bad
-
-  pub models : ModelsGiveSolutions
-  models p values has all =
-      let t : ChannelTable = table_of p values in (
-        t,
-        record {
-          table = is_table p values all has;
-          ids = refl;
-          rounds = refl;
-          channels = omega arith;
-          apart = (suffice t p.separation).0 (apart p values all);
-        },
-      )

@@ -10,8 +10,8 @@ use Rattle.std.proofs.Math.Seq.{take-suc-set}
 use Rattle.table_formula.specs.declared.literal.Literal.{Literal}
 use Rattle.table_formula.specs.declared.conflict.Conflict.{Conflict}
 use Rattle.table_formula.specs.Problems.{Problem}
-use Rattle.table_formula.specs.Formula.{windows_of, tuples_of, variable_of, has_channel, lacks_channel, some_channel, close_pairs, conflicts_of, window_in, not_both, not_too_close, IsPair, formula}
-use Rattle.table_formula.proofs.ClauseLists.{all_below, formula_length, of_windows, of_tuples, as_many_as_windows}
+use Rattle.table_formula.specs.Formula.{windows_of, tuples_of, variable_of, has_channel, lacks_channel, some_channel, close_pairs, conflicts_of, window_in, not_both, not_too_close, IsPair, apart_formula}
+use Rattle.table_formula.proofs.ClauseLists.{all_below, apart_length, of_windows, of_tuples, as_many_as_windows}
 use Rattle.table_formula.proofs.Satisfied.{IsClose, all_close}
 
 -- the variables are below their number
@@ -28,8 +28,8 @@ some_more p w n = map-range_with_len_more (has_channel p w) 0 n n (zero-add n)
 
 -- the clause of a window
 pub window_clause : (p : Problem) (w : ℕ) → w < length (windows_of p) →
-    slice_get (formula p) w ≡ Some (some_channel p w)
-unfolding formula
+    slice_get (apart_formula p) w ≡ Some (some_channel p w)
+unfolding apart_formula
 window_clause p w lt =
     let front = of_windows p in
     let back = of_tuples p in
@@ -48,7 +48,7 @@ some_within p w lt =
     (range_with_len 0 p.channels) (all_below p.channels))
 
 -- an item of lists of one length
-flat_at : {X Y : Type 0} (f : X → List Y) (n : ℕ) → ((x : X) → length (f x) ≡ n) →
+pub flat_at : {X Y : Type 0} (f : X → List Y) (n : ℕ) → ((x : X) → length (f x) ≡ n) →
     (xs : List X) (i j : ℕ) (e : X) (d : Y) → i < length xs → j < n
     → get_or (flat_map f xs) (i * n + j) d ≡ get_or (f (get_or xs i e)) j d
 flat_at f n each [] i j e d lt below = absurd (omega arith)
@@ -72,8 +72,8 @@ pub pair_clause : (p : Problem) (i j index : ℕ) (tuple : List ℕ) (k : Confli
     j < length (conflicts_of p)
     → index ≡ length (windows_of p) + (i * length (conflicts_of p) + j) → get_or (tuples_of p) i [] ≡ tuple →
     get_or (conflicts_of p) j k ≡ k
-    → index < length (formula p) → slice_get (formula p) index ≡ Some (not_both p tuple k)
-unfolding formula
+    → index < length (apart_formula p) → slice_get (apart_formula p) index ≡ Some (not_both p tuple k)
+unfolding apart_formula
 pair_clause p i j index tuple k i_below j_below is tuple_is k_is within =
     let front = of_windows p in
     let back = of_tuples p in
@@ -123,11 +123,11 @@ two_cells (x ∷ []) a b room = absurd (omega arith)
 two_cells (x ∷ (y ∷ cells)) a b room = refl
 
 -- a formula with more clauses than windows has tuples
-pub some_tuples : (p : Problem) (index : ℕ) → length (windows_of p) + index < length (formula p) →
+pub some_tuples : (p : Problem) (index : ℕ) → length (windows_of p) + index < length (apart_formula p) →
     0 < length (tuples_of p)
 some_tuples p index below =
     let no : ¬ (length (tuples_of p) ≡ 0) =
-    λ e. omega (arith, formula_length p, ap (λ t. t * length (conflicts_of p)) e, below) in
+    λ e. omega (arith, apart_length p, ap (λ t. t * length (conflicts_of p)) e, below) in
     omega arith
 
 -- the index of a clause of a tuple and a pair, cut into the number of the tuple and the index of the pair
@@ -137,14 +137,14 @@ pub record Splits (p : Problem) (index count : ℕ) : Type 0 where
   pub pair : index % count < length (conflicts_of p)
   pub at' : index ≡ index / count * length (conflicts_of p) + index % count
 
-none_left : (t count : ℕ) → count ≡ 0 → t * count ≡ 0
+pub none_left : (t count : ℕ) → count ≡ 0 → t * count ≡ 0
 none_left t count e = ap (λ n. t * n) e ∙ (omega arith)
 
-pub splits : (p : Problem) (index count : ℕ) → length (windows_of p) + index < length (formula p) →
+pub splits : (p : Problem) (index count : ℕ) → length (windows_of p) + index < length (apart_formula p) →
     count ≡ length (conflicts_of p) → Splits p index count
 splits p index count below is =
     let t : ℕ = length (tuples_of p) in
-    let total : index < t * count = omega (arith, formula_length p, ap (λ n. t * n) is) in
+    let total : index < t * count = omega (arith, apart_length p, ap (λ n. t * n) is) in
     let nonzero : 0 < count = let no : ¬ (count ≡ 0) = λ e. omega (arith, none_left t count e, total) in omega arith in
     let whole : index / count * count + index % count ≡ index = div-add-mod' index count in
     let no : ¬ (t ≤ index / count) = λ h. let more : t * count ≤ index / count * count =

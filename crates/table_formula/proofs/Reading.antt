@@ -1,7 +1,7 @@
 -- The text of a formula reads as the formula.
-use Rattle.std.proofs.Common.{◌≡◌, ◌==◌, ℕ, ◌+◌, ◌-◌, ◌*◌, ◌^◌, ◌<◌, Bool, true, false, not, ◌&&◌, ◌||◌, cond, List, [], ◌∷◌, ◌++◌, map, All, length, get_or, drop, take, codes, Option, None, Some, option_map, unwrap_or, ltb, refl, sym, ap, ◌∙◌, arith, rules, append_assoc}
-use Rattle.std.specs.Fmt.{decimal}
-use Rattle.std.specs.List.{range_with_len, flat_map, filter, position_or_len, after_first}
+use Rattle.std.proofs.Common.{◌≡◌, ◌==◌, ℕ, zero, suc, ◌+◌, ◌-◌, ◌*◌, ◌/◌, ◌%◌, ◌^◌, ◌<◌, Bool, true, false, not, ◌&&◌, ◌||◌, cond, List, [], ◌∷◌, ◌++◌, map, All, length, get_or, drop, take, codes, Option, None, Some, option_map, unwrap_or, ltb, refl, sym, ap, ◌∙◌, subst, arith, rules, append_assoc}
+use Rattle.std.specs.Fmt.{decimal, digit_glyph, digits, digits_onto}
+use Rattle.std.specs.List.{range_with_len, flat_map, filter, position_or_len, after_first, join_with_byte}
 use Rattle.std.specs.Str.{all_ascii_digits}
 use Rattle.std.specs.Str.Parse.{digits_value}
 use Rattle.std.proofs.Math.Seq.{take-append_seam, drop-append-add}
@@ -14,13 +14,19 @@ use Rattle.std.proofs.lemmas.Str.Parse.{IsNumeralModel, numerals_by_value, tells
 use Rattle.win_index.specs.Laws.{WindowOfNumber, PrefixesHaveNumbers}
 use Rattle.win_index.specs.Windows.{windows, number_of}
 use Rattle.channel_tables.specs.Apart.{extra}
+use Rattle.ring_problems.specs.declared.pattern.Entry.{Entry}
+use Rattle.ring_problems.specs.declared.pattern.Entry.TheVariants.{Wildcard, Channel}
+use Rattle.ring_problems.specs.declared.pattern.Pattern.{Pattern}
+use Rattle.ring_problems.specs.PatternTexts.{entries, entry_text, pattern_text, patterns_text}
 use Rattle.table_formula.specs.declared.literal.Literal.{Literal}
 use Rattle.table_formula.specs.Problems.{Problem}
-use Rattle.table_formula.specs.Formula.{windows_of, tuples_of, variable_count, some_channel, conflicts_of, not_both, not_too_close, IsPair, formula}
-use Rattle.table_formula.specs.Texts.{literal_text, clause_text, formula_text}
-use Rattle.table_formula.specs.Dimacs.{is_feed, is_space, words_of, number_in, literal_of, literal_in, is_zero, with_literal, clauses_in, ReadsAs}
+use Rattle.table_formula.specs.Formula.{windows_of, tuples_of, variable_count, some_channel, conflicts_of, not_both, not_too_close, IsPair, pattern_clauses, apart_formula, formula}
+use Rattle.table_formula.specs.Texts.{literal_text, clause_text, clauses_text, patterns_line}
+use Rattle.table_formula.specs.Dimacs.{is_feed, is_space, words_of, number_in, literal_of, literal_in, is_zero, with_literal, clauses_in, after_comment, States}
+use Rattle.table_formula.specs.Limits.{IsWithinLimits}
 use Rattle.table_formula.specs.Laws.{FormulaTextIsRead, OneReading}
-use Rattle.table_formula.proofs.ClauseLists.{all_below, all_flat, of_windows, of_tuples}
+use Rattle.table_formula.proofs.ClauseLists.{all_below, all_flat, of_windows, of_tuples, formula_parts}
+use Rattle.table_formula.proofs.PatternClauses.{patterns_within}
 use Rattle.table_formula.proofs.Numbered.{some_within, pair_within, all_pairs}
 
 -- a word stands alone between spaces
@@ -186,7 +192,7 @@ sizes_read m n m_small n_small =
 -- a text with such a first line
 text_read : (text body : List ℕ) (m : ℕ) (clauses : List (List Literal)) → m < 2 ^ 64 → length clauses < 2 ^ 64 →
     text ≡ first_line m (length clauses) ++ 10 ∷ body → clauses_in m (words_of body) ≡ Some clauses →
-    ReadsAs text m clauses
+    States text m clauses
 unfolding first_line
 text_read text body m clauses m_small n_small is body_read =
     let line : List ℕ = first_line m (length clauses) in
@@ -200,6 +206,67 @@ text_read text body m clauses m_small n_small is body_read =
           ((λ i. drop (end i + 1) (is i)) ∙ drop-append-add line (10 ∷ body) 1) ∙ body_read;
     }
 
+-- a decimal number has no line feed
+glyph_plain : (small : Bool) (d : ℕ) → is_feed (cond small (48 + d) (87 + d)) ≡ false
+glyph_plain true d = ne_eqb (48 + d) 10 (λ e. omega arith)
+glyph_plain false d = ne_eqb (87 + d) 10 (λ e. omega arith)
+
+abbrev IsPlain : List ℕ → Type 0
+IsPlain = All (λ b. is_feed b ≡ false)
+
+either : (b : Bool) (xs ys : List ℕ) → IsPlain xs → IsPlain ys → IsPlain (cond b xs ys)
+either true xs ys first second = first
+either false xs ys first second = second
+
+digits_plain : (k n : ℕ) (acc : List ℕ) → IsPlain acc → IsPlain (digits_onto k 10 false n acc)
+digits_plain zero n acc plain = plain
+digits_plain (suc k) n acc plain =
+    let P : ℕ → Type 0 = λ b. is_feed b ≡ false in
+    let more = All-cons P (digit_glyph false (n % 10)) acc (glyph_plain (ltb (n % 10) 10) (n % 10)) plain in
+    either (n / 10 == 0) _ _ more (digits_plain k (n / 10) (digit_glyph false (n % 10) ∷ acc) more)
+
+decimal_plain : (n : ℕ) → IsPlain (decimal n)
+unfolding digits
+decimal_plain n = digits_plain 64 n [] (All-nil (λ b. is_feed b ≡ false))
+
+-- and so have the texts of patterns
+entry_plain : (e : Entry) → IsPlain (entry_text e)
+entry_plain Wildcard = All-cons (λ b. is_feed b ≡ false) 42 [] refl (All-nil (λ b. is_feed b ≡ false))
+entry_plain (Channel c) = decimal_plain c
+
+of_each : {X : Type 0} (P : X → Type 0) (xs : List X) → ((x : X) → P x) → All P xs
+of_each P xs each k d lt = each (get_or xs k d)
+
+joined_plain : (parts : List (List ℕ)) → All IsPlain parts → IsPlain (join_with_byte 44 parts)
+joined_plain [] plain = All-nil (λ b. is_feed b ≡ false)
+joined_plain (part ∷ []) plain = All-head IsPlain part [] plain
+joined_plain (part ∷ other ∷ parts) plain =
+    let P : ℕ → Type 0 = λ b. is_feed b ≡ false in
+    All-append P part (44 ∷ join_with_byte 44 (other ∷ parts)) (All-head IsPlain part (other ∷ parts) plain)
+    (All-cons P 44 (join_with_byte 44 (other ∷ parts)) refl (joined_plain (other ∷ parts) (All-tail IsPlain part (other ∷ parts) plain)))
+
+patterns_plain : (patterns : List Pattern) → IsPlain (patterns_text patterns)
+patterns_plain patterns =
+    let P : ℕ → Type 0 = λ b. is_feed b ≡ false in
+    all_flat P (λ pattern. codes " " ++ pattern_text pattern) patterns (λ k d within.
+    let pattern = get_or patterns k d in
+    All-cons P 32 (pattern_text pattern) refl
+    (joined_plain (map entry_text (entries pattern)) (All-map IsPlain entry_text (entries pattern) (of_each (λ e. IsPlain (entry_text e)) (entries pattern) entry_plain))))
+
+-- the text after the comment
+after_line : (line rest : List ℕ) → IsPlain line → after_first is_feed (line ++ 10 ∷ rest) ≡ rest
+after_line line rest plain = ap (λ n. drop (n + 1) (line ++ 10 ∷ rest)) (line_len line rest plain) ∙ drop-append-add line (10 ∷ rest) 1
+
+without_comment : (patterns : List Pattern) (rest : List ℕ) →
+    after_comment (patterns_line patterns ++ (codes "p " ++ rest)) ≡ codes "p " ++ rest
+without_comment [] rest = refl
+without_comment (x ∷ xs) rest =
+    let P : ℕ → Type 0 = λ b. is_feed b ≡ false in
+    let line : List ℕ = codes "c forbid" ++ patterns_text (x ∷ xs) in
+    let text : patterns_line (x ∷ xs) ++ (codes "p " ++ rest) ≡ line ++ 10 ∷ (codes "p " ++ rest) = simp append_assoc refl in
+    ap (after_first is_feed) text
+    ∙ after_line line (codes "p " ++ rest) (All-append P (codes "c forbid") (patterns_text (x ∷ xs)) (search rules) (patterns_plain (x ∷ xs)))
+
 -- the variables of the clauses of a formula
 module _ (has_prefix : PrefixesHaveNumbers) (window_at : WindowOfNumber) where
   number_below : (k m : ℕ) (window : List ℕ) (o : Option ℕ) → number_of k m window ≡ o → 0 < length (windows k m) →
@@ -207,9 +274,9 @@ module _ (has_prefix : PrefixesHaveNumbers) (window_at : WindowOfNumber) where
   number_below k m window None is some = some
   number_below k m window (Some n) is some = slice_get_within (windows k m) n window (window_at k m n window is)
 
-  all_within : (p : Problem) → All (All (λ (l : Literal). l.variable < variable_count p)) (formula p)
-  unfolding formula
-  all_within p =
+  apart_within : (p : Problem) → All (All (λ (l : Literal). l.variable < variable_count p)) (apart_formula p)
+  unfolding apart_formula
+  apart_within p =
       let P : List Literal → Type 0 = All (λ (l : Literal). l.variable < variable_count p) in
       let windows_count : ℕ = length (windows_of p) in
       All-append P (of_windows p) (of_tuples p)
@@ -225,15 +292,26 @@ module _ (has_prefix : PrefixesHaveNumbers) (window_at : WindowOfNumber) where
       (λ c is. pair_within p tuple c (number_below _ p.ids _ _ refl some) (number_below _ p.ids _ _ refl some) is.first is.second)
       (conflicts_of p) (all_pairs p))))
 
-  pub read : FormulaTextIsRead
+  all_within : (p : Problem) → All (All (λ (l : Literal). l.variable < variable_count p)) (formula p)
+  all_within p =
+      let P : List Literal → Type 0 = All (λ (l : Literal). l.variable < variable_count p) in
+      subst (All P) (sym (formula_parts p)) (All-append P (apart_formula p) (pattern_clauses p) (apart_within p) (patterns_within p))
+
+  states : (p : Problem) → IsWithinLimits p → States (clauses_text p) (variable_count p) (formula p)
   unfolding first_line
-  read p limits =
+  states p limits =
       let small : variable_count p < 2 ^ 64 = omega (arith, limits.few_variables) in
-      text_read (formula_text p) (flat_map clause_text (formula p)) (variable_count p) (formula p) small
+      text_read (clauses_text p) (flat_map clause_text (formula p)) (variable_count p) (formula p) small
       (omega (arith, limits.few_clauses)) (simp append_assoc refl)
       (clauses_read (variable_count p) (formula p) small (all_within p))
 
+  pub read : FormulaTextIsRead
+  read p limits =
+      subst (λ text. States text (variable_count p) (formula p))
+      (sym (without_comment p.forbidden (drop 2 (clauses_text p)))) (states p limits)
+
 pub one_reading : OneReading
 one_reading text m n a b first second =
+    let body = after_comment text in
     let variables : m ≡ n = same_Some m n (ap (λ xs. get_or xs 0 None) (sym first.sizes ∙ second.sizes)) in
-    (variables, same_Some a b (sym first.body ∙ ap (λ v. clauses_in v (words_of (after_first is_feed text))) variables ∙ second.body))
+    (variables, same_Some a b (sym first.body ∙ ap (λ v. clauses_in v (words_of (after_first is_feed body))) variables ∙ second.body))

@@ -16,8 +16,7 @@ use Rattle.channel_tables.specs.Laws.{TuplesSuffice}
 use Rattle.table_formula.specs.Clauses.{is_same_value, is_true_literal, Holds}
 use Rattle.table_formula.specs.declared.conflict.Conflict.{Conflict}
 use Rattle.table_formula.specs.Problems.{Problem, IsSolution}
-use Rattle.table_formula.specs.Formula.{windows_of, tuples_of, variable_of, values_of, has_channel, lacks_channel, some_channel, is_close, close_to, close_pairs, conflicts_of, window_in, not_both, not_too_close, formula}
-use Rattle.table_formula.specs.Laws.{SolutionsSatisfy}
+use Rattle.table_formula.specs.Formula.{windows_of, tuples_of, variable_of, values_of, has_channel, lacks_channel, some_channel, is_close, close_to, close_pairs, conflicts_of, window_in, not_both, not_too_close, apart_formula}
 use Rattle.table_formula.proofs.ClauseLists.{all_flat, all_kept, all_below, some_value, any_map, any_in_range}
 
 -- the value of a variable
@@ -81,18 +80,28 @@ pair_holds p t v w c d c_below d_below other =
     other (eqb-true (get_or t.entries v 0) c (sym (value_at p t v c c_below) ∙ first))
     (eqb-true (get_or t.entries w 0) d (sym (value_at p t w d d_below) ∙ second)))
 
--- the problem of a table's shape
+-- the problem of a table's shape, without patterns
 abbrev pub problem_of : ChannelTable → ℕ → Separation → Problem
-problem_of t channels s = record { ids = t.ids; rounds = t.rounds; channels = channels; separation = s }
+problem_of t channels s = record { ids = t.ids; rounds = t.rounds; channels = channels; separation = s; forbidden = [] }
+
+-- a problem without its patterns
+abbrev pub plain : Problem → Problem
+plain p = record { ids = p.ids; rounds = p.rounds; channels = p.channels; separation = p.separation; forbidden = [] }
 
 -- a table that is asked for has the problem's shape
-pub same_problem : (p : Problem) (t : ChannelTable) → IsSolution p t → problem_of t p.channels p.separation ≡ p
+pub same_problem : (p : Problem) (t : ChannelTable) → IsSolution p t → problem_of t p.channels p.separation ≡ plain p
 same_problem p t solution = λ i. record {
   ids = solution.ids i;
   rounds = solution.rounds i;
   channels = p.channels;
   separation = p.separation;
+  forbidden = [];
 }
+
+-- which has the same clauses of the separation
+pub apart_same : (p : Problem) → apart_formula (plain p) ≡ apart_formula p
+unfolding apart_formula
+apart_same p = refl
 
 module _ (suffice : TuplesSuffice) (is_ring : TuplesAreRings) (has_window : RingsHaveWindows)
     (has_number : WindowsHaveNumbers)
@@ -158,8 +167,8 @@ module _ (suffice : TuplesSuffice) (is_ring : TuplesAreRings) (has_window : Ring
 
   table_holds : (t : ChannelTable) (channels : ℕ) (s : Separation) → IsTable t → t.channels ≤ channels →
       IsApartEverywhere t s
-      → All (Holds (values_of (problem_of t channels s) t)) (formula (problem_of t channels s))
-  unfolding formula
+      → All (Holds (values_of (problem_of t channels s) t)) (apart_formula (problem_of t channels s))
+  unfolding apart_formula
   table_holds t channels s table few apart =
       let p : Problem = problem_of t channels s in
       let good : IsApart t s = (suffice t s).1 apart in
@@ -179,7 +188,8 @@ module _ (suffice : TuplesSuffice) (is_ring : TuplesAreRings) (has_window : Ring
       let window = (has_number (2 * t.rounds + 1 + extra s) t.ids tuple).0 (subst IsSome (sym numbered) refl) in
       tuple_holds t s channels tuple window (good k d within)))
 
-  pub satisfied : SolutionsSatisfy
-  satisfied p t solution =
-      subst (λ (q : Problem). All (Holds (values_of q t)) (formula q)) (same_problem p t solution)
-      (table_holds t p.channels p.separation solution.table solution.channels solution.apart)
+  pub apart_satisfied : (p : Problem) (t : ChannelTable) → IsSolution p t → All (Holds (values_of p t)) (apart_formula p)
+  apart_satisfied p t solution =
+      subst (All (Holds (values_of p t))) (apart_same p)
+      (subst (λ (q : Problem). All (Holds (values_of q t)) (apart_formula q)) (same_problem p t solution)
+      (table_holds t p.channels p.separation solution.table solution.channels solution.apart))

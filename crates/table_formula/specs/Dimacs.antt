@@ -1,8 +1,8 @@
--- How a text in DIMACS is read: which formula it states. In the text variables are numbered from 1. A text with comments
--- is not read here.
+-- How a text in DIMACS is read: which formula it states. In the text variables are numbered from 1. A text with more comments
+-- than one in its first line is not read here.
 use Rattle.std.specs.Prelude.{◌≡◌, ◌==◌, ℕ, ◌-◌, Bool, true, false, ◌&&◌, ◌||◌, List, [], ◌∷◌, Option, None, Some, option_map, codes, drop, filter, length, map, nat_le, nat_lt, take, if◌then◌else◌}
 use Rattle.std.specs.List.{after_first, before_first, slice_split}
-use Rattle.std.specs.Str.{all_ascii_digits}
+use Rattle.std.specs.Str.{all_ascii_digits, bytes_eq}
 use Rattle.std.specs.Str.Parse.{digits_value, starts_with_minus}
 use Rattle.table_formula.specs.declared.literal.Literal.{Literal}
 
@@ -52,9 +52,17 @@ clauses_in variables (word ∷ words) =
     if is_zero (number_in word) then option_map (λ clauses. [] ∷ clauses) (clauses_in variables words)
     else with_literal (literal_in variables word) (clauses_in variables words)
 
--- a text states a formula of this number of variables with these clauses: its first line is `p cnf` with the numbers of
--- variables and of clauses, and the words after that line spell the clauses
-pub record ReadsAs (text : List ℕ) (variables : ℕ) (clauses : List (List Literal)) : Type 0 where
+-- the text after its first line, if that is a comment: it begins with a `c` and a blank
+abbrev pub after_comment : List ℕ → List ℕ
+after_comment text = if bytes_eq (take 2 text) (codes "c ") then after_first is_feed text else text
+
+-- a text without a comment states a formula of this number of variables with these clauses: its first line is `p cnf` with the
+-- numbers of variables and of clauses, and the words after that line spell the clauses
+pub record States (text : List ℕ) (variables : ℕ) (clauses : List (List Literal)) : Type 0 where
   pub format : take 6 text ≡ codes "p cnf "
   pub sizes : map number_in (words_of (drop 6 (before_first is_feed text))) ≡ Some variables ∷ Some (length clauses) ∷ []
   pub body : clauses_in variables (words_of (after_first is_feed text)) ≡ Some clauses
+
+-- a text states a formula, perhaps after a comment
+abbrev pub ReadsAs : List ℕ → ℕ → List (List Literal) → Type 0
+ReadsAs text variables clauses = States (after_comment text) variables clauses

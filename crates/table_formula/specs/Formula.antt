@@ -8,6 +8,11 @@ use Rattle.win_index.specs.Windows.{windows, number_of}
 use Rattle.channel_tables.specs.Tables.{ChannelTable}
 use Rattle.channel_tables.specs.declared.separation.Separation.{Separation}
 use Rattle.channel_tables.specs.Apart.{extra}
+use Rattle.ring_problems.specs.declared.pattern.Entry.{Entry}
+use Rattle.ring_problems.specs.declared.pattern.Entry.TheVariants.{Wildcard, Channel}
+use Rattle.ring_problems.specs.declared.pattern.Pattern.{Pattern}
+use Rattle.ring_problems.specs.Patterns.{is_below}
+use Rattle.ring_problems.specs.TupleLists.{tuples_below}
 use Rattle.table_formula.specs.declared.literal.Literal.{Literal}
 use Rattle.table_formula.specs.declared.conflict.Conflict.{Conflict}
 use Rattle.table_formula.specs.Problems.{Problem}
@@ -88,8 +93,33 @@ abbrev pub not_too_close : Problem → List ℕ → List (List Literal)
 not_too_close p tuple = map (not_both p tuple) (conflicts_of p)
 
 -- a clause for each window, and for each tuple and each forbidden pair
+unfoldable pub apart_formula : Problem → List (List Literal)
+apart_formula p = map (some_channel p) (range_with_len 0 (length (windows_of p))) ++ flat_map (not_too_close p) (tuples_of p)
+
+-- the window from an offset on does not have the channel that an entry of a pattern asks for
+abbrev pub lacks : Problem → List ℕ → ℕ → Entry → List Literal
+lacks p tuple offset Wildcard = []
+lacks p tuple offset (Channel c) = lacks_channel p (window_in p tuple offset) c ∷ []
+
+-- the windows of a tuple do not match a pattern
+abbrev pub no_match : Problem → List ℕ → Pattern → List Literal
+no_match p tuple pattern = lacks p tuple 0 pattern.first ++ (lacks p tuple 1 pattern.second ++ lacks p tuple 2 pattern.third)
+
+-- the forbidden patterns that the channels of such a table can match
+abbrev pub patterns_of : Problem → List Pattern
+patterns_of p = filter (is_below p.channels) p.forbidden
+
+-- the tuples of the patterns
+abbrev pub ring_tuples : Problem → List (List ℕ)
+ring_tuples p = tuples_below p.ids p.rounds p.forbidden
+
+-- a clause for each of these tuples and each such pattern
+abbrev pub pattern_clauses : Problem → List (List Literal)
+pattern_clauses p = flat_map (λ tuple. map (no_match p tuple) (patterns_of p)) (ring_tuples p)
+
+-- the clauses of the separation, and those of the patterns
 unfoldable pub formula : Problem → List (List Literal)
-formula p = map (some_channel p) (range_with_len 0 (length (windows_of p))) ++ flat_map (not_too_close p) (tuples_of p)
+formula p = apart_formula p ++ pattern_clauses p
 
 -- the first `count` of these literals are the clause of the formula with this index, and their variables are the formula's
 pub record BeginsWithClause (p : Problem) (index count : ℕ) (literals : List Literal) : Type 0 where
@@ -97,7 +127,6 @@ pub record BeginsWithClause (p : Problem) (index count : ℕ) (literals : List L
   pub item : slice_get (formula p) index ≡ Some (take count literals)
   pub within : All (λ l. l.variable < variable_count p) (take count literals)
 
--- the number of literals of the longest clause of a list, or 1 if no clause has a literal
-abbrev pub longest_len : List (List Literal) → ℕ
-longest_len [] = 1
-longest_len (clause ∷ clauses) = max (length clause) (longest_len clauses)
+-- so many literals have room for each clause
+abbrev pub clause_room : Problem → ℕ
+clause_room p = max 3 p.channels

@@ -6,6 +6,7 @@ pub mod Clauses
 pub mod Problems
 pub mod Formula
 pub mod Exchanges
+pub mod ChannelMaps
 pub mod Limits
 pub mod FormulaFaults
 pub mod Texts

@@ -1,7 +1,7 @@
 //! Checks the steps of a refutation.
 ghost use Rattle.std.specs.Prelude.{◌≡◌, ◌≤◌, length};
 ghost use Rattle.table_formula.specs.Marked.{variables_of};
-ghost use Rattle.table_formula.specs.Formula.{variable_count, longest_len, formula as clauses_of};
+ghost use Rattle.table_formula.specs.Formula.{variable_count, clause_room, formula as clauses_of};
 
 use crate::clauses::Clauses;
 use crate::exchange::Exchange;
@@ -25,7 +25,7 @@ pub(crate) struct Checker<'f> {
     newest: u64,
     ghost known: { variables ≡ variable_count clauses.formula.now },
     ghost marked: { variables_of marks ≡ variable_count clauses.formula.now },
-    ghost longest: { longest_len (clauses_of clauses.formula.now) ≤ length room.items },
+    ghost room_is: { clause_room clauses.formula.now ≤ length room.items },
     ghost after: { length (clauses_of clauses.formula.now) ≤ newest },
 }
 
@@ -45,7 +45,7 @@ impl<'f> Checker<'f> {
     {
         let variables = formula.variables();
         let marks = Marks::new(alloc, variables)?;
-        let room = vec![in alloc; Literal::new(0, true); formula.longest_clause()]?;
+        let room = vec![in alloc; Literal::new(0, true); formula.clause_room()]?;
         let newest = formula.count();
         let clauses = Clauses::new(alloc, formula)?;
         Ok(Checker {

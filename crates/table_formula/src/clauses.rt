@@ -28,7 +28,7 @@ impl<'f> Clauses<'f> {
     ghost use Rattle.std.specs.List.{list_any};
     ghost use Rattle.table_formula.specs.Hints.{left_of, remaining_of};
     ghost use Rattle.table_formula.specs.Marked.{is_marked, variables_of, IsOneBelow};
-    ghost use Rattle.table_formula.specs.Formula.{longest_len};
+    ghost use Rattle.table_formula.specs.Formula.{clause_room};
     ghost use Rattle.table_formula.specs.Exchanges.{can_exchange, exchanged_literal};
     ghost use Rattle.table_formula.specs.Clauses.{has_literal};
     ghost use Rattle.table_formula.specs.declared.literal.Literal.{Literal as Lit};
@@ -56,7 +56,7 @@ impl<'f> Clauses<'f> {
         room: &mut [Literal],
     ) -> Option<Remaining>
         requires variables { variables_of marks.now ≡ variable_count self.now.formula.now }
-        requires room { longest_len (clauses_of self.now.formula.now) ≤ length room.old }
+        requires room { clause_room self.now.formula.now ≤ length room.old }
         ensures value { result ≡ option_map (λ clause. remaining_of (left_of (is_marked marks.now) clause)) (clause_of self.now number) }
         ensures below { IfSome result (IsOneBelow (variables_of marks.now)) }
         ensures room { length room.new ≡ length room.old }

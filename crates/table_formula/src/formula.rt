@@ -1,8 +1,9 @@
-//! The formula of all tables of a shape that keep a separation.
-ghost use Rattle.std.specs.Prelude.{◌≡◌, ◌+◌, ◌*◌, ◌<◌, ◌≤◌, [], IfOk, IfErr, OnOk, MatchOption, length};
+//! The formula of all tables of a shape that keep a separation and solve a problem of forbidden patterns.
+ghost use Rattle.std.specs.Prelude.{◌≡◌, ◌+◌, ◌*◌, ◌<◌, ◌≤◌, [], IfOk, IfErr, OnOk, MatchOption, filter, length};
 ghost use Rattle.channel_tables.specs.Apart.{extra};
+ghost use Rattle.ring_problems.specs.Patterns.{is_below};
 ghost use Rattle.table_formula.specs.declared.limits.TheConstants.{MAX_CLAUSES};
-ghost use Rattle.table_formula.specs.Formula.{close_in, formula, tuples_of};
+ghost use Rattle.table_formula.specs.Formula.{close_in, apart_formula, formula, patterns_of, tuples_of};
 ghost use Rattle.table_formula.specs.Problems.{problem_of};
 ghost use Rattle.table_formula.specs.Limits.{IsWithinLimits};
 ghost use Rattle.table_formula.specs.FormulaFaults.{IsFormulaFault};
@@ -11,8 +12,10 @@ use crate::conflict::{Conflict, conflict_count, conflicts_in};
 use crate::exchange::{Exchange, exchanged_number, other_of};
 use crate::limits::{MAX_CLAUSES, MAX_VARIABLES};
 use crate::literal::Literal;
+use crate::pattern_exchange::ChannelMap;
 use channel_tables::{Separation, TupleLists};
 use node_program::MAX_CHANNELS;
+use ring_problems::{Entry, Pattern, tuple_count, tuple_extra, write_tuple};
 use std::alloc::{AllocError, Global};
 use std::marker::Model;
 use win_index::{MAX_TUPLE_LEN, Shape};
@@ -29,7 +32,7 @@ pub enum FormulaFault {
 }
 
 /// The formula of a problem: whether there is a table of a shape with at most some number of
-/// channels that keeps a separation. It has at most `MAX_VARIABLES` variables and at most
+/// channels that keeps a separation and on no ring has a forbidden pattern. It has at most `MAX_VARIABLES` variables and at most
 /// `MAX_CLAUSES` clauses. A clause is made when it is asked for, by its index.
 #[derive(Drop)]
 pub struct Formula {
@@ -37,6 +40,9 @@ pub struct Formula {
     channels: u32,
     separation: Separation,
     conflicts: Vec<Conflict>,
+    forbidden: Vec<Pattern>,
+    possible: Vec<Pattern>,
+    apart: u64,
     clauses: u64,
 }
 
@@ -48,38 +54,45 @@ impl Model for Formula {
 
     ghost coded = { problem_code };
 
-    ghost view = { λ f. problem_of f.shape f.channels f.separation };
+    ghost view = { λ f. problem_of f.shape f.channels f.separation f.forbidden.items };
 
-    ghost invariant = { λ f. IsKept (problem_of f.shape f.channels f.separation) f.conflicts.items f.clauses };
+    ghost invariant = { λ f. IsKept (problem_of f.shape f.channels f.separation f.forbidden.items) f.conflicts.items f.possible.items f.apart f.clauses };
 }
 
 impl Formula {
-    ghost use Rattle.std.specs.Prelude.{◌≡◌, ◌+◌, ◌*◌, ◌<◌, ◌≤◌, IfOk, IfErr, OnOk, Some, length, take, true, All, slice_get, slice_index_or};
+    ghost use Rattle.std.specs.Prelude.{◌≡◌, ◌+◌, ◌*◌, ◌<◌, ◌≤◌, ◌++◌, IfOk, IfErr, OnOk, Some, length, take, true, All, slice_get, slice_index_or};
     ghost use Rattle.win_index.specs.declared.limits.TheConstants.{MAX_TUPLE_LEN};
     ghost use Rattle.win_index.specs.Windows.{IsWindow};
     ghost use Rattle.channel_tables.specs.Apart.{extra};
     ghost use Rattle.table_formula.specs.declared.limits.TheConstants.{MAX_CLAUSES, MAX_VARIABLES};
-    ghost use Rattle.table_formula.specs.Formula.{windows_of, tuples_of, variable_of, variable_count, conflicts_of, window_in, some_channel, not_both, IsPair, formula, longest_len, BeginsWithClause};
+    ghost use Rattle.table_formula.specs.Formula.{windows_of, tuples_of, variable_of, variable_count, conflicts_of, window_in, some_channel, not_both, IsPair, apart_formula, lacks, no_match, patterns_of, pattern_clauses, formula, clause_room, BeginsWithClause};
+    ghost use Rattle.ring_problems.specs.Patterns.{is_below, is_channel, is_entry_below, extra as long};
+    ghost use Rattle.ring_problems.specs.TupleLists.{IsTuple};
     ghost use Rattle.table_formula.specs.Exchanges.{can_exchange, exchanged_window, exchanged_literal};
     ghost use Rattle.table_formula.specs.Problems.{problem_of};
     ghost use Rattle.table_formula.specs.Limits.{IsWithinLimits};
     ghost use Rattle.table_formula.specs.FormulaFaults.{IsFormulaFault};
 
     /// Returns the formula of the tables of this shape with at most `channels` channels that keep
-    /// the separation. Fails with `TooManyVariables`, else with `TooManyClauses`, exactly if it is
-    /// not within these limits; else with `OutOfMemory` if memory was refused.
+    /// the separation and on no ring have one of the forbidden patterns. Fails with `TooManyVariables`,
+    /// else with `TooManyClauses`, exactly if it is not within these limits; else with `OutOfMemory` if
+    /// memory was refused.
     pub fn new(
         alloc: Global,
         shape: Shape,
         channels: u32,
         separation: Separation,
+        forbidden: &[Pattern],
     ) -> Result<Formula, FormulaFault>
-        ensures ok { IfOk result (λ f. f ≡ problem_of shape channels separation) }
-        ensures limits { OnOk result (IsWithinLimits (problem_of shape channels separation)) }
-        ensures err { IfErr result (IsFormulaFault (problem_of shape channels separation)) }
+        ensures ok { IfOk result (λ f. f ≡ problem_of shape channels separation forbidden.now) }
+        ensures limits { OnOk result (IsWithinLimits (problem_of shape channels separation forbidden.now)) }
+        ensures err { IfErr result (IsFormulaFault (problem_of shape channels separation forbidden.now)) }
     {
-        let clauses = clauses_of(shape, channels, separation)?;
+        let (apart, clauses) = clauses_of(shape, channels, separation, forbidden)?;
         let Ok(conflicts) = conflicts_for(alloc, shape, channels, separation) else {
+            return Err(FormulaFault::OutOfMemory);
+        };
+        let Ok((forbidden, possible)) = patterns_for(alloc, channels, forbidden) else {
             return Err(FormulaFault::OutOfMemory);
         };
         Ok(Formula {
@@ -87,6 +100,9 @@ impl Formula {
             channels,
             separation,
             conflicts,
+            forbidden,
+            possible,
+            apart,
             clauses,
         })
     }
@@ -107,9 +123,17 @@ impl Formula {
         self.windows() * self.channels
     }
 
+    /// Returns the forbidden patterns.
+    pub(crate) fn forbidden(&self) -> &[Pattern]
+        ensures { result.now ≡ self.now.forbidden }
+    {
+        &self.forbidden
+    }
+
     /// Returns whether tables that are asked for stay so after an exchange: it is one of identifiers
     /// of the shape; or of channels, and the separation only tells which channels differ; or the
-    /// mirror. Of channels there must be at most `MAX_CHANNELS`.
+    /// mirror. Of channels there must be at most `MAX_CHANNELS`, and by other channels the forbidden
+    /// patterns that the tables can match must map to themselves.
     pub fn can_exchange(&self, exchange: Exchange) -> bool
         ensures { result ≡ can_exchange self.now exchange }
     {
@@ -125,8 +149,12 @@ impl Formula {
                     && self.channels <= MAX_CHANNELS
                     && self.separation.near <= 1
                     && self.separation.far <= 1
+                    && ChannelMap::Exchange(first as u32, second as u32).keeps(&self.possible)
             }
-            Exchange::Mirror => self.channels <= MAX_CHANNELS,
+            Exchange::Mirror => {
+                self.channels <= MAX_CHANNELS
+                    && ChannelMap::Mirror(self.channels).keeps(&self.possible)
+            }
         }
     }
 
@@ -165,24 +193,35 @@ impl Formula {
         exchanged_number(self.shape, number, first, second)
     }
 
-    /// Returns the number of literals of the longest clause, at least 1.
-    #[tactic(auto, using(crate::proofs::Longest::longest_with, crate::proofs::Longest::longest_without))]
-    pub fn longest_clause(&self) -> usize
-        ensures { result ≡ longest_len (formula self.now) }
+    /// Returns how many literals have room for each clause.
+    pub fn clause_room(&self) -> usize
+        ensures { result ≡ clause_room self.now }
     {
-        if self.clauses > u64::from(self.windows()) {
-            return 2.max(self.channels) as usize;
-        }
-        1.max(self.channels) as usize
+        3.max(self.channels) as usize
     }
 
     /// Writes the clause with this index in the formula to the first cells of `out`, and returns
     /// the number of its literals. The other cells can be overwritten too.
     pub fn write_clause(&self, index: u64, out: &mut [Literal]) -> usize
         requires index { index < length (formula self.now) }
-        requires room { longest_len (formula self.now) ≤ length out.old }
+        requires room { clause_room self.now ≤ length out.old }
         ensures len { length out.new ≡ length out.old }
         ensures written { BeginsWithClause self.now index result out.new }
+    {
+        if index < self.apart {
+            self.write_apart(index, out)
+        } else {
+            self.write_of_pattern(index - self.apart, out)
+        }
+    }
+
+    // Writes the clause with this index among those of the separation.
+    fn write_apart(&self, index: u64, out: &mut [Literal]) -> usize
+        requires index { index < length (apart_formula self.now) }
+        requires room { clause_room self.now ≤ length out.old }
+        ensures fits { result ≤ length out.old }
+        ensures item { slice_get (apart_formula self.now) index ≡ Some (take result out.new) }
+        ensures within { All (λ l. l.variable < variable_count self.now) (take result out.new) }
     {
         let windows = u64::from(self.windows());
         if index < windows {
@@ -190,6 +229,74 @@ impl Formula {
         } else {
             self.write_pair(index - windows, out)
         }
+    }
+
+    // Writes the clause of a tuple and a pattern that has this index among those clauses.
+    fn write_of_pattern(&self, index: u64, out: &mut [Literal]) -> usize
+        requires below { index < length (pattern_clauses self.now) }
+        requires room { 3 ≤ length out.old }
+        ensures fits { result ≤ 3 }
+        ensures item { slice_get (pattern_clauses self.now) index ≡ Some (take result out.new) }
+    {
+        let count = self.possible.len() as u64;
+        let len = 2 * self.shape.rounds() as usize + 1 + tuple_extra(&self.forbidden) as usize;
+        let mut cells = [0; MAX_TUPLE_LEN];
+        let tuple = &mut cells[..len];
+        write_tuple(self.shape, &self.forbidden, index / count, tuple);
+        self.write_no_match(tuple, self.possible[(index % count) as usize], out)
+    }
+
+    // Writes the clause of a tuple and a pattern.
+    fn write_no_match(&self, tuple: &[u32], pattern: Pattern, out: &mut [Literal]) -> usize
+        requires tuple { IsTuple self.now.ids self.now.rounds self.now.forbidden tuple.now }
+        requires below { is_below self.now.channels pattern ≡ true }
+        requires third { is_channel pattern.third ≡ true → 2 ≤ long self.now.forbidden }
+        requires room { 3 ≤ length out.old }
+        ensures fits { result ≤ 3 }
+        ensures items { take result out.new ≡ no_match self.now tuple.now pattern }
+    {
+        let used = self.write_lacks(tuple, 0, pattern.first, 0, out);
+        let used = self.write_lacks(tuple, 1, pattern.second, used, out);
+        self.write_lacks(tuple, 2, pattern.third, used, out)
+    }
+
+    // Writes, after the first `used` cells, that the window at this offset in a tuple does not have the
+    // channel that an entry asks for, if it asks for one.
+    fn write_lacks(
+        &self,
+        tuple: &[u32],
+        offset: usize,
+        entry: Entry,
+        used: usize,
+        out: &mut [Literal],
+    ) -> usize
+        requires tuple { IsTuple self.now.ids self.now.rounds self.now.forbidden tuple.now }
+        requires below { is_entry_below self.now.channels entry ≡ true }
+        requires offset { is_channel entry ≡ true → offset ≤ long self.now.forbidden }
+        requires room { used < length out.old }
+        ensures items { take result out.new ≡ take used out.old ++ lacks self.now tuple.now offset entry }
+        ensures more { result ≤ used + 1 }
+        ensures len { length out.new ≡ length out.old }
+    {
+        match entry {
+            Entry::Wildcard => used,
+            Entry::Channel(channel) => {
+                out[used] = self.literal(self.part_at(tuple, offset), channel, false);
+                used + 1
+            }
+        }
+    }
+
+    // Returns the number of the window from an offset on in a tuple of the patterns.
+    fn part_at(&self, tuple: &[u32], offset: usize) -> u32
+        requires tuple { IsTuple self.now.ids self.now.rounds self.now.forbidden tuple.now }
+        requires offset { offset ≤ long self.now.forbidden }
+        ensures value { result ≡ window_in self.now tuple.now offset }
+        ensures below { result < length (windows_of self.now) }
+    {
+        let len = 2 * self.shape.rounds() as usize + 1;
+        self.shape
+            .window_number(self.shape.rounds(), &tuple[offset..offset + len])
     }
 
     // Returns the number of windows.
@@ -215,10 +322,10 @@ impl Formula {
 
     // Writes the clause of a tuple and a pair of channels that has this index among those clauses.
     fn write_pair(&self, index: u64, out: &mut [Literal]) -> usize
-        requires below { length (windows_of self.now) + index < length (formula self.now) }
+        requires below { length (windows_of self.now) + index < length (apart_formula self.now) }
         requires room { 2 ≤ length out.old }
         ensures count { result ≡ 2 }
-        ensures item { slice_get (formula self.now) (length (windows_of self.now) + index) ≡ Some (take 2 out.new) }
+        ensures item { slice_get (apart_formula self.now) (length (windows_of self.now) + index) ≡ Some (take 2 out.new) }
         ensures within { All (λ l. l.variable < variable_count self.now) (take 2 out.new) }
     {
         let count = self.conflict_count();
@@ -310,11 +417,18 @@ impl Formula {
     }
 }
 
-// Returns the number of clauses of a formula, or its fault if it is not within the limits.
-fn clauses_of(shape: Shape, channels: u32, separation: Separation) -> Result<u64, FormulaFault>
-    ensures ok { IfOk result (λ clauses. clauses ≡ length (formula (problem_of shape channels separation))) }
-    ensures limits { OnOk result (IsWithinLimits (problem_of shape channels separation)) }
-    ensures err { IfErr result (IsFormulaFault (problem_of shape channels separation)) }
+// Returns the number of clauses of the separation and that of all clauses of a formula, or its fault if
+// it is not within the limits.
+fn clauses_of(
+    shape: Shape,
+    channels: u32,
+    separation: Separation,
+    forbidden: &[Pattern],
+) -> Result<(u64, u64), FormulaFault>
+    ensures ok { IfOk result (λ counts. (counts.0 ≡ length (apart_formula (problem_of shape channels separation forbidden.now)))
+        × (counts.1 ≡ length (formula (problem_of shape channels separation forbidden.now)))) }
+    ensures limits { OnOk result (IsWithinLimits (problem_of shape channels separation forbidden.now)) }
+    ensures err { IfErr result (IsFormulaFault (problem_of shape channels separation forbidden.now)) }
 {
     let windows = u64::from(shape.count(shape.rounds()));
     if windows * u64::from(channels) > MAX_VARIABLES {
@@ -322,13 +436,18 @@ fn clauses_of(shape: Shape, channels: u32, separation: Separation) -> Result<u64
     }
     let tuples = TupleLists { shape, separation }.count();
     let pairs = conflict_count(channels, separation);
-    let Some(clauses) = clause_count(windows, tuples, pairs) else {
+    let Some(apart) = clause_count(windows, tuples, pairs) else {
         return Err(FormulaFault::TooManyClauses);
     };
-    Ok(clauses)
+    let rings = tuple_count(shape, forbidden);
+    let possible = possible_count(channels, forbidden);
+    let Some(clauses) = clause_count(apart, rings, possible) else {
+        return Err(FormulaFault::TooManyClauses);
+    };
+    Ok((apart, clauses))
 }
 
-// Returns the number of clauses of a formula, or `None` if it is over `MAX_CLAUSES`.
+// Returns how many clauses there are with those of each tuple, or `None` if these are over `MAX_CLAUSES`.
 fn clause_count(windows: u64, tuples: u64, conflicts: u64) -> Option<u64>
     ensures { MatchOption result (MAX_CLAUSES < windows + tuples * conflicts)
         (λ count. (count ≡ windows + tuples * conflicts) × (count ≤ MAX_CLAUSES)) }
@@ -348,14 +467,45 @@ fn conflicts_for(
     channels: u32,
     separation: Separation,
 ) -> Result<Vec<Conflict>, AllocError>
-    requires { IsWithinLimits (problem_of shape channels separation) }
-    ensures some { 0 < length (tuples_of (problem_of shape channels separation)) →
+    requires { length (apart_formula (problem_of shape channels separation [])) ≤ MAX_CLAUSES }
+    ensures some { 0 < length (tuples_of (problem_of shape channels separation [])) →
         IfOk result (λ pairs. pairs.items ≡ close_in channels separation) }
-    ensures none { length (tuples_of (problem_of shape channels separation)) ≡ 0 → IfOk result (λ pairs. pairs.items ≡ []) }
+    ensures none { length (tuples_of (problem_of shape channels separation [])) ≡ 0 → IfOk result (λ pairs. pairs.items ≡ []) }
 {
     let lists = TupleLists { shape, separation };
     if lists.count() == 0 {
         return Ok(Vec::new(alloc));
     }
     conflicts_in(alloc, channels, separation)
+}
+
+// Returns the number of patterns that channels below `channels` can match.
+fn possible_count(channels: u32, patterns: &[Pattern]) -> u64
+    ensures value { result ≡ length (filter (is_below channels) patterns.now) }
+    ensures few { result ≤ length patterns.now }
+{
+    let mut count = 0;
+    for pattern in patterns {
+        if pattern.is_below(channels) {
+            count += 1;
+        }
+    }
+    count
+}
+
+// Returns the patterns, and those that channels below `channels` can match.
+fn patterns_for(
+    alloc: Global,
+    channels: u32,
+    patterns: &[Pattern],
+) -> Result<(Vec<Pattern>, Vec<Pattern>), AllocError>
+    ensures { IfOk result (λ both. (both.0.items ≡ patterns.now) × (both.1.items ≡ filter (is_below channels) patterns.now)) }
+{
+    let mut possible = Vec::new(alloc);
+    for pattern in patterns {
+        if pattern.is_below(channels) {
+            possible.push(*pattern)?;
+        }
+    }
+    Ok((patterns.to_vec(alloc)?, possible))
 }

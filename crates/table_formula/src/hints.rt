@@ -2,7 +2,7 @@
 ghost use Rattle.std.specs.Prelude.{◌≡◌, ◌≤◌, length, if◌then◌else◌};
 ghost use Rattle.table_formula.specs.Hints.{outcome_of};
 ghost use Rattle.table_formula.specs.Marked.{is_marked, variables_of};
-ghost use Rattle.table_formula.specs.Formula.{variable_count, longest_len, formula as clauses_of};
+ghost use Rattle.table_formula.specs.Formula.{variable_count, clause_room, formula as clauses_of};
 ghost use Rattle.table_formula.specs.Stored.{clause_of};
 
 use crate::clauses::Clauses;
@@ -20,7 +20,7 @@ pub(crate) fn outcome_of_hints(
     hints: &[u64],
 ) -> Outcome
     requires variables { variables_of marks.old ≡ variable_count clauses.now.formula.now }
-    requires room { longest_len (clauses_of clauses.now.formula.now) ≤ length room.old }
+    requires room { clause_room clauses.now.formula.now ≤ length room.old }
     ensures value { result ≡ outcome_of (clause_of clauses.now) (is_marked marks.old) hints.now }
     ensures variables { variables_of marks.new ≡ variables_of marks.old }
     ensures room { length room.new ≡ length room.old }

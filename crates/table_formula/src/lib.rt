@@ -18,6 +18,7 @@ mod marks;
 mod numbers_and_literals;
 mod outcome;
 mod parts;
+mod pattern_exchange;
 mod reader;
 mod refutation_advice;
 mod refutation_laws;

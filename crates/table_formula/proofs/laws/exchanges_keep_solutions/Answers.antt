@@ -1,4 +1,4 @@
-use Rattle.table_formula.proofs.Exchanged.{kept}
+use Rattle.table_formula.proofs.ExchangedPatterns.{kept}
 use Rattle.table_formula.proofs.laws.exchanges_keep_solutions.Goals as goal
 
 pub returns : goal.returns

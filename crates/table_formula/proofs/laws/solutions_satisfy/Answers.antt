@@ -1,4 +1,4 @@
-use Rattle.table_formula.proofs.Satisfied.{satisfied}
+use Rattle.table_formula.proofs.PatternTruth.{satisfied}
 use Rattle.table_formula.proofs.laws.solutions_satisfy.Goals as goal
 
 pub returns : goal.returns

@@ -6,7 +6,7 @@ use Rattle.devices.proofs.Known.{on_err}
 use Rattle.devices.proofs.WrittenChunks.{sends_all, tells_more, tells_moved, tells_front}
 use Rattle.table_formula.specs.declared.literal.Literal.{Literal}
 use Rattle.table_formula.specs.Formula.{formula}
-use Rattle.table_formula.specs.Texts.{clause_text, head_text, formula_text}
+use Rattle.table_formula.specs.Texts.{clause_text, head_text, clauses_text}
 use Rattle.table_formula.proofs.FormulaText.{text_more, text_rest}
 use Rattle.table_formula.proofs.text.write_clauses.Goals as goal
 
@@ -39,7 +39,7 @@ returns-in_err-write_clause g c =
     record {
       ok = search rules;
       front = on_err c.from_residual.result
-          (tells_front _ _ _ (c.loop-index.chunk ++ clause_text clause) (before ++ clause_text clause) (formula_text p) rest
+          (tells_front _ _ _ (c.loop-index.chunk ++ clause_text clause) (before ++ clause_text clause) (clauses_text p) rest
           (tells_more _ _ c.loop-index.chunk _ (clause_text clause) before c.loop-index.invariant.told refl)
           c.in_err-write_clause.ensures.front
           (ap (λ (bytes : List ℕ). bytes ++ rest) text ∙ text_rest clause_text (head_text p) (formula p) (i + 1)));

@@ -1,51 +1,47 @@
-use Rattle.std.proofs.Common.{◌<◌, List, Some, All, length, sym, ap, ◌∙◌, subst, arith, rules}
+use Rattle.std.proofs.Common.{◌≡◌, ◌-◌, ◌*◌, ◌<◌, List, All, length, slice_get, take, ap, ◌∙◌, subst, arith}
+use Rattle.std.proofs.lemmas.Option.{slice_get_within, get_or_from_slice_get}
+use Rattle.win_index.proofs.Kept.{slice_get-append_left, slice_get-append_right}
 use Rattle.table_formula.specs.declared.literal.Literal.{Literal}
-use Rattle.table_formula.specs.Formula.{windows_of, variable_count}
-use Rattle.table_formula.proofs.Numbered.{window_clause, some_within}
-use Rattle.table_formula.proofs.ClauseLengths.{channels_fit, two_fit}
+use Rattle.table_formula.specs.Problems.{Problem}
+use Rattle.table_formula.specs.Formula.{windows_of, apart_formula, pattern_clauses}
+use Rattle.table_formula.proofs.ClauseLists.{formula_parts, formula_length}
+use Rattle.table_formula.proofs.PatternClauses.{patterns_within}
 use Rattle.table_formula.proofs.formula.Formula.write_clause.Goals as goal
 
-pub write_some_channel-requires-clause-room : goal.write_some_channel-requires-clause-room
-write_some_channel-requires-clause-room c =
-    omega (
-      arith,
-      c.requires.room,
-      channels_fit c.args.self.now c.args.index
-          (omega (arith, c.if-index-windows.true, c.from-windows.ensures, c.windows.ensures.value)),
-    )
+pub write_of_pattern-requires-clause-below : goal.write_of_pattern-requires-clause-below
+write_of_pattern-requires-clause-below c =
+    let p = c.args.self.now in
+    let apart : c.self.inside.apart ≡ length (apart_formula p) = c.self.invariant.apart_is ∙ ap (λ (q : Problem). length (apart_formula q)) c.self.view_is in
+    omega (arith, formula_length p, apart, c.requires.index, c.if-index-self.false)
 
-pub write_pair-requires-clause-room : goal.write_pair-requires-clause-room
-write_pair-requires-clause-room c =
-    omega (
-      arith,
-      c.requires.room,
-      two_fit c.args.self.now c.args.index (omega (arith, c.windows.ensures.value, c.windows.ensures.some))
-          (omega (arith, c.if-index-windows.false, c.from-windows.ensures, c.windows.ensures.value)) c.requires.index,
-    )
-
-pub returns-then-index-windows-clause-written : goal.returns-then-index-windows-clause-written
-returns-then-index-windows-clause-written c =
-    let below : c.args.index < length (windows_of c.args.self.now) =
-    omega (arith, c.if-index-windows.true, c.from-windows.ensures, c.windows.ensures.value) in
+pub returns-then-index-self-clause-written : goal.returns-then-index-self-clause-written
+returns-then-index-self-clause-written c =
+    let p = c.args.self.now in
+    let apart : c.self.inside.apart ≡ length (apart_formula p) = c.self.invariant.apart_is ∙ ap (λ (q : Problem). length (apart_formula q)) c.self.view_is in
     record {
-      fits = omega (
-        arith,
-        c.requires.room,
-        c.write_some_channel.ensures.count,
-        c.write_some_channel.auto.out,
-        channels_fit c.args.self.now c.args.index below,
-      );
-      item = window_clause c.args.self.now c.args.index below ∙ ap Some (sym c.write_some_channel.ensures.items);
-      within = subst (λ (clause : List Literal). All (λ (l : Literal). l.variable < variable_count c.args.self.now) clause)
-          (sym c.write_some_channel.ensures.items) (some_within c.args.self.now c.args.index below);
+      fits = omega (arith, c.write_apart.ensures.fits, c.write_apart.auto.out);
+      item =
+          ap (λ list. slice_get list c.args.index) (formula_parts p)
+          ∙ slice_get-append_left (apart_formula p) (pattern_clauses p) c.args.index (omega (arith, apart, c.if-index-self.true))
+          ∙ c.write_apart.ensures.item;
+      within = c.write_apart.ensures.within;
     }
 
-pub returns-else-index-windows-clause-written : goal.returns-else-index-windows-clause-written
-returns-else-index-windows-clause-written c =
-    let two = two_fit c.args.self.now c.args.index (omega (arith, c.windows.ensures.value, c.windows.ensures.some))
-    (omega (arith, c.if-index-windows.false, c.from-windows.ensures, c.windows.ensures.value)) c.requires.index in
+pub returns-else-index-self-clause-written : goal.returns-else-index-self-clause-written
+returns-else-index-self-clause-written c =
+    let p = c.args.self.now in
+    let place = c.args.index - c.self.inside.apart in
+    let clause = take c.write_of_pattern.result c.write_of_pattern.new.out in
+    let item = c.write_of_pattern.ensures.item in
+    let apart : c.self.inside.apart ≡ length (apart_formula p) = c.self.invariant.apart_is ∙ ap (λ (q : Problem). length (apart_formula q)) c.self.view_is in
     record {
-      fits = omega (arith, two, c.requires.room, c.write_pair.ensures.count, c.write_pair.auto.out);
-      item = search rules;
-      within = search rules;
+      fits = omega (arith, c.write_of_pattern.ensures.fits, c.requires.room, c.write_of_pattern.auto.out);
+      item =
+          ap (λ list. slice_get list c.args.index) (formula_parts p)
+          ∙ slice_get-append_right (apart_formula p) (pattern_clauses p) c.args.index place (omega (arith, apart, c.if-index-self.false))
+          ∙ item;
+      within =
+          subst (λ (list : List Literal). All (λ (l : Literal). l.variable < length (windows_of p) * p.channels) list)
+          (get_or_from_slice_get (pattern_clauses p) place clause clause item)
+          (patterns_within p place clause (slice_get_within (pattern_clauses p) place clause item));
     }

@@ -1,6 +1,6 @@
 use Rattle.std.proofs.Common.{◌≡◌, ◌∙◌, ap, sym, Some, ◌+◌, length, slice_get, ◌/◌, ◌%◌, []}
 use Rattle.std.proofs.lemmas.Option.{get_or_from_slice_get}
-use Rattle.table_formula.specs.Formula.{windows_of, tuples_of, not_both, formula}
+use Rattle.table_formula.specs.Formula.{windows_of, tuples_of, not_both, apart_formula}
 use Rattle.table_formula.proofs.Numbered.{some_tuples, splits, pair_clause}
 use Rattle.table_formula.proofs.formula.Formula.write_pair.Goals as goal
 
@@ -37,7 +37,7 @@ returns-clause-item c =
     let count = c.conflict_count-count.result in
     let index = c.args.index in
     let cut = splits p index count c.requires.below c.conflict_count-count.ensures in
-    let clause : slice_get (formula p) (length (windows_of p) + index)
+    let clause : slice_get (apart_formula p) (length (windows_of p) + index)
     ≡ Some (not_both p c.write.new.out c.conflict-conflict.result) =
     pair_clause p (index / count) (index % count) (length (windows_of p) + index) c.write.new.out
     c.conflict-conflict.result cut.tuple cut.pair
