@@ -9,7 +9,8 @@ HELPS = [
     (
         "--help",
         """nbhd 1.0 compiles a node program of synchronous rounds to a table with one channel per window of
-identifiers, and judges whether neighbours' channels differ on every oriented ring.
+identifiers, and judges whether neighbours' channels differ, or solve another problem, on every oriented
+ring.
 
 Usage: nbhd <COMMAND>
 
@@ -17,12 +18,12 @@ Commands:
   check    Tells whether a program is accepted for M identifiers
   print    Prints a program text in its one printed form
   table    Prints the table of a program, one channel per window
-  judge    Tells whether channels are far enough apart on every ring, by a program's table
+  judge    Tells whether a program keeps channels far apart, or solves a problem, on every ring
   run      Runs a program by messages on a ring, and prints the channels
   trace    Runs a program on a ring, and prints what its nodes hold and send in each round
   explain  Runs a program on a ring, and prints how one node computes each of its values
   plan     Prints the channels of a ring's places, looked up in the table
-  audit    Tells whether channels are far enough apart on every ring, by a table text
+  audit    Tells whether a table keeps channels far apart, or solves a problem, on every ring
   apply    Prints the channels of a ring's places, looked up in a table text
   migrate  Prints a table text of any version in the newest one
   formula  Prints the formula that asks for a table of some size, for a SAT solver
@@ -295,24 +296,34 @@ Exit status:
     ),
     (
         "judge --help",
-        """Tells whether channels are far enough apart on every ring, by a program's table
+        """Tells whether a program keeps channels far apart, or solves a problem, on every ring
 
 Usage: nbhd judge [OPTIONS] --ids <M>
 
 Options:
-      --ids <M>      How many identifiers there are; they are 0 to M-1
-      --workers <W>  How many threads work on the table, 1 to 64 [default: 1]
-      --near <P>     By how much neighbours' channels have to differ, 1 to 4096 [default: 1]
-      --far <Q>      By how much the channels at distance two have to differ, 0 to 4096 [default: 0]
-  -h, --help         Print help
+      --ids <M>         How many identifiers there are; they are 0 to M-1
+      --workers <W>     How many threads work on the table, 1 to 64 [default: 1]
+      --near <P>        By how much neighbours' channels have to differ, 1 to 4096 [default: 1]
+      --far <Q>         By how much the channels at distance two have to differ, 0 to 4096 [default: 0]
+      --forbid <A,B,C>  One to three channels, or `*` for any, that may not follow one another; may be repeated
+      --problem <NAME>  The problem that channels have to solve: mis, matching or weak2
+  -h, --help            Print help
 
 Standard input:  a program text
-Standard output: one line: yes, or no with a ring where two channels are too close,
+Standard output: one line: yes, or no with a ring where channels are not as they have to be,
                  or what is refused
 
 M is 2 to 1024 for 0 rounds, 4 to 162 for 1 round, 6 to 23 for 2, 8 to 12 for 3, 10 for 4 rounds.
-Without --near and --far, neighbours' channels have to differ. With --near 2 --far 1, for example,
+Without further options, neighbours' channels have to differ. With --near 2 --far 1, for example,
 they have to differ by 2 or more, and the channels of a node's two neighbours have to differ as well.
+
+A pattern forbids channels in a row, from a node on to the right: with --forbid 1,1 no two neighbours
+have channel 1, and with --forbid '0,*,0' no two nodes at distance two have channel 0. A problem is
+such patterns, by one --forbid for each, or by its name, as in --problem mis:
+  mis       0,0,0 1,1            a maximal independent set: its nodes have channel 1, the others 0
+  matching  0,0 1,0 1,1 0,2 2,2  a maximal matching: 1 with the right neighbour, 2 with the left, 0 alone
+  weak2     0,0,0 1,1,1          a weak colouring: each node has a neighbour of the other channel
+A problem is given in one of these two ways, and without --near and --far.
 
 Exit status:
   0  yes
@@ -325,19 +336,30 @@ Exit status:
     ),
     (
         "audit --help",
-        """Tells whether channels are far enough apart on every ring, by a table text
+        """Tells whether a table keeps channels far apart, or solves a problem, on every ring
 
-Usage: nbhd audit
+Usage: nbhd audit [OPTIONS]
 
 Options:
-  -h, --help  Print help
+      --forbid <A,B,C>  One to three channels, or `*` for any, that may not follow one another; may be repeated
+      --problem <NAME>  The problem that channels have to solve: mis, matching or weak2
+  -h, --help            Print help
 
 Standard input:  a table text, as `nbhd table` prints it
-Standard output: one line: yes, or no with a ring where two channels are too close,
+Standard output: one line: yes, or no with a ring where channels are not as they have to be,
                  or what is refused
 
-How far apart channels have to be is told by near and far of the text; a text of version 1 has near 1
-and far 0: neighbours' channels have to differ.
+Without options, near and far of the text tell how far apart channels have to be; a text of version 1
+has near 1 and far 0: neighbours' channels have to differ. With a problem, near and far of the text
+are left aside.
+
+A pattern forbids channels in a row, from a node on to the right: with --forbid 1,1 no two neighbours
+have channel 1, and with --forbid '0,*,0' no two nodes at distance two have channel 0. A problem is
+such patterns, by one --forbid for each, or by its name, as in --problem mis:
+  mis       0,0,0 1,1            a maximal independent set: its nodes have channel 1, the others 0
+  matching  0,0 1,0 1,1 0,2 2,2  a maximal matching: 1 with the right neighbour, 2 with the left, 0 alone
+  weak2     0,0,0 1,1,1          a weak colouring: each node has a neighbour of the other channel
+A problem is given in one of these two ways, and without --near and --far.
 
 Exit status:
   0  yes
@@ -355,20 +377,30 @@ Exit status:
 Usage: nbhd formula [OPTIONS] --ids <M> --rounds <T> --channels <C>
 
 Options:
-      --ids <M>       How many identifiers there are; they are 0 to M-1
-      --rounds <T>    How many rounds nodes communicate, 0 to 4
-      --channels <C>  How many channels there are, 1 to 4096; they are 0 to C-1
-      --near <P>      By how much neighbours' channels have to differ, 1 to 4096 [default: 1]
-      --far <Q>       By how much the channels at distance two have to differ, 0 to 4096 [default: 0]
-  -h, --help          Print help
+      --ids <M>         How many identifiers there are; they are 0 to M-1
+      --rounds <T>      How many rounds nodes communicate, 0 to 4
+      --channels <C>    How many channels there are, 1 to 4096; they are 0 to C-1
+      --near <P>        By how much neighbours' channels have to differ, 1 to 4096 [default: 1]
+      --far <Q>         By how much the channels at distance two have to differ, 0 to 4096 [default: 0]
+      --forbid <A,B,C>  One to three channels, or `*` for any, that may not follow one another; may be repeated
+      --problem <NAME>  The problem that channels have to solve: mis, matching or weak2
+  -h, --help            Print help
 
 Standard input:  nothing is read
 Standard output: the formula in DIMACS, as SAT solvers read it, or one line: what is refused
 
 The formula has a variable for each window of 2T+1 identifiers and each channel: w*C+c+1 says that
 window number w has channel c. Exactly if values make it true, there is a table of M identifiers, T
-rounds and C channels whose channels are far enough apart on every ring. It has at most 4194304
-variables and 16777216 clauses.
+rounds and C channels whose channels are far enough apart, or solve the problem, on every ring. It
+has at most 4194304 variables and 16777216 clauses.
+
+A pattern forbids channels in a row, from a node on to the right: with --forbid 1,1 no two neighbours
+have channel 1, and with --forbid '0,*,0' no two nodes at distance two have channel 0. A problem is
+such patterns, by one --forbid for each, or by its name, as in --problem mis:
+  mis       0,0,0 1,1            a maximal independent set: its nodes have channel 1, the others 0
+  matching  0,0 1,0 1,1 0,2 2,2  a maximal matching: 1 with the right neighbour, 2 with the left, 0 alone
+  weak2     0,0,0 1,1,1          a weak colouring: each node has a neighbour of the other channel
+A problem is given in one of these two ways, and without --near and --far.
 
 Exit status:
   0  the formula is printed
@@ -385,18 +417,29 @@ Exit status:
 Usage: nbhd refute [OPTIONS] --ids <M> --rounds <T> --channels <C>
 
 Options:
-      --ids <M>       How many identifiers there are; they are 0 to M-1
-      --rounds <T>    How many rounds nodes communicate, 0 to 4
-      --channels <C>  How many channels there are, 1 to 4096; they are 0 to C-1
-      --near <P>      By how much neighbours' channels have to differ, 1 to 4096 [default: 1]
-      --far <Q>       By how much the channels at distance two have to differ, 0 to 4096 [default: 0]
-  -h, --help          Print help
+      --ids <M>         How many identifiers there are; they are 0 to M-1
+      --rounds <T>      How many rounds nodes communicate, 0 to 4
+      --channels <C>    How many channels there are, 1 to 4096; they are 0 to C-1
+      --near <P>        By how much neighbours' channels have to differ, 1 to 4096 [default: 1]
+      --far <Q>         By how much the channels at distance two have to differ, 0 to 4096 [default: 0]
+      --forbid <A,B,C>  One to three channels, or `*` for any, that may not follow one another; may be repeated
+      --problem <NAME>  The problem that channels have to solve: mis, matching or weak2
+  -h, --help            Print help
 
 Standard input:  a refutation of the formula that `nbhd formula` prints, in LRAT
 Standard output: one line: refuted, or what is refused
 
 Refuted means: no table of M identifiers, T rounds and at most C channels keeps channels far enough
-apart on every ring, so no program with T rounds does. Each step of the refutation is checked.
+apart, or solves the problem, on every ring, so no program with T rounds does. Each step of the
+refutation is checked.
+
+A pattern forbids channels in a row, from a node on to the right: with --forbid 1,1 no two neighbours
+have channel 1, and with --forbid '0,*,0' no two nodes at distance two have channel 0. A problem is
+such patterns, by one --forbid for each, or by its name, as in --problem mis:
+  mis       0,0,0 1,1            a maximal independent set: its nodes have channel 1, the others 0
+  matching  0,0 1,0 1,1 0,2 2,2  a maximal matching: 1 with the right neighbour, 2 with the left, 0 alone
+  weak2     0,0,0 1,1,1          a weak colouring: each node has a neighbour of the other channel
+A problem is given in one of these two ways, and without --near and --far.
 
 Exit status:
   0  refuted
@@ -582,6 +625,20 @@ NO_COMMANDS = [
     "table --ids 8 --near 4097",
     "table --ids 8 --far 4097",
     "plan --ids 8 --ring 5 --near 1",
+    # patterns and problems
+    "judge --ids 8 --forbid",
+    "judge --ids 8 --forbid 1 1",
+    "judge --ids 8 --forbid -1,1",
+    "judge --forbid 1,1",
+    "judge --ids 8 --problem",
+    "judge --ids 8 --problem mis --problem mis",
+    "judge --ids 8 mis",
+    "audit --problem mis --problem matching",
+    "audit --near 1",
+    "check --ids 8 --forbid 1,1",
+    "table --ids 8 --problem mis",
+    "migrate --forbid 1,1",
+    "run --ids 8 --ring 5,1,3,7 --problem mis",
     "judge --ids 8 --near 1 --near 1",
     "judge --ids 8 --far -1",
     "plan --ids 8 --ring 5 --workers 0",
@@ -620,7 +677,9 @@ NO_COMMANDS = [
     ),
     "judge --ids 8 --rounds 1",
     "table --ids 8 --channels 3",
-    # these faults come before a bad ring
+    # these faults come before a bad ring or a bad pattern
+    "judge --ids eight --forbid 5,,1",
+    "judge --ids 8 --far 4097 --problem none",
     "run --ids eight --ring 5,,1",
     "run --ids 8 --ring 5,,1 --segments 0",
     "run --ring 5,,1",
@@ -641,9 +700,76 @@ BAD_RINGS = [
     *(["run", "--ids", "8", f"--ring={text}"] for text in ["5,,1", "4294967296", ",", "5,", ",5", "5, 1", "+5", "0x5", "5;1"]),
 ]
 
+# Texts that are no pattern, and what is wrong with them.
+MANY_ENTRIES, NO_ENTRY, BLANK = "it has more than three entries", "an entry is empty", "it has a blank"
+NO_CHANNEL, LARGE_CHANNEL = "an entry is neither a number nor `*`", "a channel is above 4294967295"
+BAD_PATTERNS = [
+    *((text, MANY_ENTRIES) for text in ["0,0,0,0", "*,*,*,*", ",,,", "a,b,c,d", "1,2,3,"]),
+    *((text, NO_ENTRY) for text in ["", ",", "1,", ",1", "1,,1", "0,0,", "1,,a"]),
+    *((text, BLANK) for text in [" ", "1, 1", " 1", "1 ", "1 1", "* ", "0,1 ,a", "1, *"]),
+    *((text, NO_CHANNEL) for text in ["a", "mis", "1,a", "+1", "-1", "1,-1", "**", "1*", "*1", "0x1", "1.0", "1;1", "?", "_", "a,4294967296"]),
+    *((text, LARGE_CHANNEL) for text in ["4294967296", "0,4294967296", "1,00004294967296", "9" * 40, "4294967296,a"]),
+]
+
+# Words whose options are no demand, and the standard error.
+PATTERN_END = "; a pattern is one to three channels, or `*` for any, with single commas, as 1,1 or '0,*,0'\n"
+TWO_DEMANDS = (
+    "nbhd: options that exclude one another\nnbhd: patterns by `--forbid`, a problem by `--problem`, or differences by `--near` and"
+    " `--far`: one of these three is given\n"
+)
+UNKNOWN_PROBLEM = (
+    "nbhd: unknown problem\nnbhd: `--problem` takes mis, matching or weak2; another problem is given by its patterns, as in"
+    " `--forbid 1,1`\n"
+)
+MANY_PATTERNS = "nbhd: too many patterns\nnbhd: `--forbid` is given at most 256 times\n"
+FORMULA, REFUTE = "formula --ids 4 --rounds 0 --channels 2", "refute --ids 4 --rounds 0 --channels 2"
+
+
+def bad_pattern(text, cause):
+    """The standard error on a text that is no pattern."""
+    return f"nbhd: bad pattern\nnbhd: `{text}` is no pattern: {cause}{PATTERN_END}"
+
+
+BAD_DEMANDS = [
+    *((["judge", "--ids", "8", f"--forbid={text}"], bad_pattern(text, cause)) for text, cause in BAD_PATTERNS),
+    # the first value that is no pattern counts
+    (["judge", "--ids", "8", "--forbid", "1,1", "--forbid", "1,,1", "--forbid", "a"], bad_pattern("1,,1", NO_ENTRY)),
+    (["judge", "--ids", "8", "--forbid", "a", "--forbid=1,,1"], bad_pattern("a", NO_CHANNEL)),
+    *((f"{line} --forbid 1,,1", bad_pattern("1,,1", NO_ENTRY)) for line in ["audit", FORMULA, REFUTE]),
+    (["judge", "--ids", "8", "--forbid", "1,\x1b[31m1"], bad_pattern("1,\\x1b[31m1", NO_CHANNEL)),
+    *(
+        (f"{line} --problem {name}", UNKNOWN_PROBLEM)
+        for line in ["judge --ids 8", "audit", FORMULA, REFUTE]
+        for name in ["none", "MIS", "mi", "mis,matching", "weak", "1,1"]
+    ),
+    (["judge", "--ids", "8", "--problem", ""], UNKNOWN_PROBLEM),
+    *(
+        (f"judge --ids 8 {line}", TWO_DEMANDS)
+        for line in [
+            "--forbid 1,1 --problem mis",
+            "--problem mis --forbid 1,1",
+            "--forbid 1,1 --near 1",
+            "--forbid 1,1 --far 0",
+            "--near 2 --far 1 --forbid 1,1",
+            "--problem mis --near 1",
+            "--problem mis --far 1",
+            "--problem mis --forbid 1,1 --near 1",
+        ]
+    ),
+    ("audit --forbid 1,1 --problem weak2", TWO_DEMANDS),
+    *((f"{line} --problem mis --near 1", TWO_DEMANDS) for line in [FORMULA, REFUTE]),
+    # two demands come before an unknown problem and bad patterns, and too many patterns before bad ones
+    ("judge --ids 8 --forbid 1,,1 --problem none", TWO_DEMANDS),
+    ("judge --ids 8 --forbid 1,,1 --near 1", TWO_DEMANDS),
+    *((f"{line}{' --forbid 1,1' * 257}", MANY_PATTERNS) for line in ["judge --ids 8", "audit"]),
+    (f"judge --ids 8{' --forbid 1,,1' * 257}", MANY_PATTERNS),
+    (f"judge --ids 8{' --forbid 1,1' * 255} --forbid 1,,1", bad_pattern("1,,1", NO_ENTRY)),
+]
+
 # Words and the tip on them.
 RING_FOR_IDS = "nbhd: `--ids` takes the number of identifiers; a ring is given by `--ring`\n"
 RING_IN_WORDS = "nbhd: a ring is one word with commas, as in `--ring 5,1,3,7`\n"
+PATTERN_IN_WORDS = "nbhd: a pattern is one word with commas, and each has its own `--forbid`, as in `--forbid 1,1 --forbid 0,0,0`\n"
 NEGATIVE = "nbhd: numbers are written in digits, without a sign\n"
 FILE_NAME = "nbhd: a text is read from standard input, as in `nbhd judge --ids 8 < FILE`\n"
 TABLE_NAME = "nbhd: a table is read from standard input, as in `nbhd audit < FILE`\n"
@@ -718,6 +844,13 @@ TIPS = [
     ("formula --ids 3 --rounds 0 --channels 2 out.cnf", NO_FILE),
     *((f"judge {words}", VALUE_APART) for words in ["--ids= 8", "--ids =8", "--ids = 8", "--ids 8 --far= 1", "--ids 8 --near =2,1"]),
     ("run --ids 8 --ring= 5,1,3,7", VALUE_APART),
+    ("judge --ids 8 --forbid 1 1", PATTERN_IN_WORDS),
+    ("judge --ids 8 --forbid 1,1 0,0,0", PATTERN_IN_WORDS),
+    ("audit --forbid=1,1 0,0,0", PATTERN_IN_WORDS),
+    ("judge --ids 8 --forbid -1,1", NEGATIVE),
+    *((f"audit {words}", VALUE_APART) for words in ["--forbid= 1,1", "--forbid = 1,1"]),
+    *((f"judge --ids 8 {words}", ONE_MINUS) for words in ["-forbid 1,1", "-problem mis"]),
+    *((f"judge --ids 8 {words}", CAPITAL) for words in ["--FORBID 1,1", "--Problem mis"]),
     ("judge -near 2 --ids 8", ONE_MINUS),
     ("judge --Near=2 --ids 8", CAPITAL),
 ]
@@ -737,8 +870,12 @@ RING_OF = "nbhd: `--ring` is an option of `run`, `trace`, `explain`, `plan` and 
 IN_TABLE = "nbhd: the numbers of a table are in its text\n"
 SHELL = "nbhd: `|`, `;` and `&` are read by the shell, outside of quotes\n"
 REDIRECTED = "nbhd: `<` and `>` are read by the shell, outside of quotes\n"
+FORBID_OF = "nbhd: `--forbid` is an option of `judge`, `audit`, `formula` and `refute`\n"
+PROBLEM_OF = "nbhd: `--problem` is an option of `judge`, `audit`, `formula` and `refute`\n"
+BY_NAME = "nbhd: a problem is given by its name, as in `--problem mis`, or by its patterns, as in `--forbid 1,1`\n"
+BY_PATTERN = "nbhd: a pattern of channels is forbidden by `--forbid`, as in `--forbid 1,1`\n"
 AUDIT_THREADS = (
-    "nbhd: `nbhd audit` has no options, and at most as many threads as there are processors"
+    "nbhd: `nbhd audit` has no such option, and at most as many threads as there are processors"
     "; `--workers` is an option of `table`, `judge` and `plan`\n"
 )
 
@@ -774,6 +911,13 @@ ADVICE = [
     ("audit --ids 8", IN_TABLE),
     ("apply --ids 8 --ring 5,1,3,7", IN_TABLE),
     ("apply --ring 5,1,3,7 --near 2", IN_TABLE),
+    ("check --ids 8 --forbid 1,1", FORBID_OF),
+    ("migrate --forbid 1,1", FORBID_OF),
+    (f"{RUN} --problem mis", PROBLEM_OF),
+    *((f"table --ids 8 {option}", "; `nbhd audit --problem mis` judges it\n") for option in ["--forbid 1,1", "--problem mis"]),
+    *((f"{line} {word}", BY_NAME) for line in ["judge --ids 8", "audit", FORMULA] for word in ["--mis", "mis", "--matching", "weak2", "--lcl"]),
+    *((f"audit {word} 1,1", BY_PATTERN) for word in ["--pattern", "--forbidden", "--avoid"]),
+    ("print --problem mis", "`nbhd check` tells whether a program is accepted for M identifiers\n"),
     ("print --ids 8", "`nbhd check` tells whether a program is accepted for M identifiers\n"),
     # Words in place of a command.
     *((f"{name} --ids 8", MESSAGES) for name in ["simulate", "exec"]),
@@ -789,7 +933,9 @@ ADVICE = [
     ("run --ids 8 5,1,3,7", "nbhd: a ring is given by `--ring`, as in `--ring 5,1,3,7`\n"),
     ("apply 5,1,3,7", "nbhd: a ring is given by `--ring`, as in `--ring 5,1,3,7`\n"),
     ("check 8", "nbhd: each number is the value of an option, as in `--ids 8`\n"),
-    *((line, "nbhd: this command has no options, and its text is read from standard input\n") for line in ["migrate 2", "print 8", "audit 8"]),
+    *((line, "nbhd: this command has no options, and its text is read from standard input\n") for line in ["migrate 2", "print 8"]),
+    ("audit 8", IN_TABLE),
+    *((f"{line} 1,1", "nbhd: a pattern of channels is given by `--forbid`, as in `--forbid 1,1`\n") for line in ["judge --ids 8", "audit", REFUTE]),
     (["check", "--ids", "8", ""], "nbhd: a word is empty, as of a variable without a value: leave it out\n"),
     ("apply 0 1", "nbhd: each number is part of the value of `--ring`, as in `--ring 5,1,3,7`\n"),
     ("audit migrate", "nbhd: one command is given at a time\n"),
@@ -811,7 +957,7 @@ ADVICE = [
     *((f"{word} --ids 8", "nbhd: the name of a command has no minus signs, as in `nbhd judge --ids 8`\n") for word in ["--judge", "-check", "--check=8"]),
     # Commands without options, and values behind a colon.
     ("migrate --to 1", "nbhd: `nbhd migrate` has no options; it writes the newest version only\n"),
-    ("audit --strict", "nbhd: `nbhd audit` has no options\n"),
+    ("audit --strict", "nbhd: `nbhd audit` has no other options than `--forbid` and `--problem`\n"),
     *((f"audit {word} 4", AUDIT_THREADS) for word in ["--workers", "-j"]),
     ("audit --hepl", NO_TIP),
     *((f"{line}:8", "nbhd: a blank or `=` separates an option from its value, as in `--ids 8`, and no colon\n") for line in ["judge --ids", "print --near"]),
@@ -893,5 +1039,7 @@ SAME_COMMANDS = [
     (CV1, ["plan --ids 8 --ring 5,1,3,7", "plan --ring 5,1,3,7 --ids 8", "plan --workers 64 --ring 5,1,3,7 --ids 8"]),
     (b"", ["formula --ids 5 --rounds 1 --channels 3", "formula --channels=03 --rounds=+1 --ids 005 --far=00 --near 1"]),
     (b"5 0 1 2 3 0", ["refute --ids 2 --rounds 0 --channels 1", "refute --channels=1 --near=01 --rounds 00 --ids 2"]),
+    (CV1, ["judge --ids 8 --forbid 1,1", "judge --forbid=01,0001 --ids 8", "judge --ids 8 --forbid 1,1,*"]),
+    (CV1, ["judge --ids 8 --forbid 0,*,0 --forbid 1", "judge --forbid=00,*,00 --ids 8 --forbid 1,*,* --workers 2"]),
     *((b"", [f"help {command}", f"{command} --help", f"{command} -h"]) for command in COMMANDS),
 ]

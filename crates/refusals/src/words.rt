@@ -31,11 +31,14 @@ fn tell_ring<R: AllocGlobal + Print>(rt: &R, text: &str) -> Result<(), Miss> {
     Ok(())
 }
 
-/// `task_of`: prints the ring and the numbers of identifiers and segments of a run, and the fault
-/// of a table by no workers.
+/// `task_of`: prints the ring and the numbers of identifiers and segments of a run, the numbers of
+/// identifiers and workers of a judge with two patterns, and the faults of a table by no workers and of an
+/// audit with a text that is no pattern.
 pub(crate) fn do_task_of<R: AllocGlobal + Print>(rt: &R) -> Result<(), Miss> {
     tell_task(rt, "run --ids 8 --ring 5,1,3,7")?;
-    tell_task(rt, "table --ids 8 --workers 0")
+    tell_task(rt, "judge --ids 8 --forbid 1,1 --forbid 0,*,0")?;
+    tell_task(rt, "table --ids 8 --workers 0")?;
+    tell_task(rt, "audit --forbid 1,1 --forbid 1,,1")
 }
 
 // Prints the task of a line's words, or their fault.
@@ -49,7 +52,8 @@ fn tell_task<R: AllocGlobal + Print>(rt: &R, line: &str) -> Result<(), Miss> {
     tell_answer(rt, &answer)
 }
 
-// Prints the ring and the numbers of identifiers and segments of a run, or the fault of a usage.
+// Prints the ring and the numbers of identifiers and segments of a run, the numbers of identifiers and
+// workers of a judge, or the fault of a usage or of a demand.
 fn tell_answer<R: Print>(rt: &R, answer: &Result<Task, WordsFault>) -> Result<(), Miss> {
     match answer {
         Ok(
@@ -62,7 +66,9 @@ fn tell_answer<R: Print>(rt: &R, answer: &Result<Task, WordsFault>) -> Result<()
             tell_numbers(rt, ring);
             tell_numbers(rt, &[*ids, *segments]);
         }
+        Ok(Task::Judge { ids, workers, .. }) => tell_numbers(rt, &[*ids, *workers]),
         Err(WordsFault::Usage(_)) => tell(rt, "Usage"),
+        Err(WordsFault::BadDemand(_)) => tell(rt, "BadDemand"),
         _ => return Err(Miss::Wrong),
     }
     Ok(())

@@ -1,19 +1,23 @@
 -- The command that was parsed, and the result of its task.
-use Rattle.std.proofs.Common.{◌≡◌, ◌⊎◌, List, Option, Some, None, Result, Ok, Err, Bor, inl, inr, refl, sym, ◌∙◌, ap₂, subst, Global}
-use Rattle.std.specs.Prelude.{◌↔◌, Box, IfOk, OnOk, IsErrOf, IsOk, option_map}
-use Rattle.std.proofs.lemmas.Result.{IfOk-weaker, IfErr-weaker}
+use Rattle.std.proofs.Common.{◌≡◌, ◌⊎◌, List, Option, Some, None, Result, Ok, Err, Bor, false, inl, inr, refl, sym, ◌∙◌, ap, ap₂, subst, codes, Global}
+use Rattle.std.specs.Prelude.{◌↔◌, Box, IfErr, IfOk, OnOk, IsErrOf, IsOk, bytes_eq, option_map}
+use Rattle.std.proofs.lemmas.Bool.Decides.{not_from_Decides}
+use Rattle.std.proofs.lemmas.Result.{IfOk-weaker}
+use Rattle.std.proofs.lemmas.Slice.Eq.{bytes_eq-Decides}
 use Rattle.clap.specs.Words.{Row, Text, found_of, rows_of, subcommand_name_of, subcommand_of, subcommand_rows, subcommand_rows_of}
 use Rattle.clap.specs.declared.parser.matches.ArgMatches.{ArgMatches}
 use Rattle.clap.specs.declared.parser.matches.ArgMatches.TheViews.{out-ArgMatches, out-SubCommand}
 use Rattle.clap.specs.declared.parser.matches.SubCommand.{SubCommand}
 use Rattle.std.specs.Box.{box_value}
 use Rattle.task_words.specs.CommandLine.{command_line}
-use Rattle.task_words.specs.Words.{HasBadRing, IsCallOf, IsCommand, IsRingBad, IsRingName, IsTaskFor, IsTaskOf}
-use Rattle.task_words.specs.WordsFault.{FailsBy, IsHelp, IsUsage, MemoryAside}
+use Rattle.task_words.specs.DemandValues.{demand_fault}
+use Rattle.task_words.specs.Options.{IsCallFault, IsGoodCall}
+use Rattle.task_words.specs.Words.{HasBadDemand, HasBadRing, IsCallOf, IsCommand, IsDemandName, IsRingBad, IsRingName, IsTaskFor, IsTaskOf}
+use Rattle.task_words.specs.WordsFault.{IsHelp, IsUsage, MemoryAside}
+use Rattle.task_words.specs.declared.demand_fault.DemandFault.{DemandFault}
 use Rattle.task_words.specs.declared.task.Task.{Task}
 use Rattle.task_words.specs.declared.words.WordsFault.{WordsFault}
-use Rattle.task_words.specs.declared.words.WordsFault.TheVariants.{BadRing}
-use Rattle.task_words.proofs.Parts.{decided}
+use Rattle.task_words.specs.declared.words.WordsFault.TheVariants.{Usage, BadRing, BadDemand, OutOfMemory, Help}
 
 -- the name of the command that was parsed, and the values of its options
 abbrev pub met_of : Option (Bor Text × Bor ArgMatches) → Option (Text × List Row)
@@ -47,6 +51,30 @@ pub call_is : (words : List Text) (m : ArgMatches) (o : Option (Bor Text × Bor 
     → subcommand_rows_of m ≡ subcommand_of command_line words → subcommand_of command_line words ≡ met_of o
 call_is words m o name rows is = sym (met o (out-ArgMatches m).subcommand name rows ∙ is)
 
+-- no command that takes a ring demands something
+apart : (a b : Text) → bytes_eq a b ≡ false → (name : Text) → name ≡ a → name ≡ b → ⊥
+apart a b differ name is_a is_b = not_from_Decides _ (bytes_eq-Decides a b) differ (sym is_a ∙ is_b)
+
+demands_no_ring : (ring name : Text) → bytes_eq ring (codes "judge") ≡ false → bytes_eq ring (codes "audit") ≡ false → bytes_eq ring (codes "formula") ≡ false
+    → bytes_eq ring (codes "refute") ≡ false → name ≡ ring → IsDemandName name → ⊥
+demands_no_ring ring name judge audit formula refute is (inl named) = apart ring (codes "judge") judge name is named
+demands_no_ring ring name judge audit formula refute is (inr (inl named)) = apart ring (codes "audit") audit name is named
+demands_no_ring ring name judge audit formula refute is (inr (inr (inl named))) = apart ring (codes "formula") formula name is named
+demands_no_ring ring name judge audit formula refute is (inr (inr (inr named))) = apart ring (codes "refute") refute name is named
+
+pub ring_or_demand : (name : Text) → IsRingName name → IsDemandName name → ⊥
+ring_or_demand name (inl is) demand = demands_no_ring (codes "run") name refl refl refl refl is demand
+ring_or_demand name (inr (inl is)) demand = demands_no_ring (codes "trace") name refl refl refl refl is demand
+ring_or_demand name (inr (inr (inl is))) demand = demands_no_ring (codes "explain") name refl refl refl refl is demand
+ring_or_demand name (inr (inr (inr (inl is)))) demand = demands_no_ring (codes "plan") name refl refl refl refl is demand
+ring_or_demand name (inr (inr (inr (inr is)))) demand = demands_no_ring (codes "apply") name refl refl refl refl is demand
+
+-- a fault of the ring is one of the call
+pub ring_refused : (name : Text) (values : List Row) (fault : WordsFault) → IsRingName name → (fault ≡ OutOfMemory) ⊎ ((fault ≡ BadRing) × IsRingBad values)
+    → IsCallFault name values fault
+ring_refused name values fault on_ring (inl memory) = subst (IsCallFault name values) (sym memory) tt
+ring_refused name values fault on_ring (inr (is, bad)) = subst (IsCallFault name values) (sym is) (on_ring, bad)
+
 -- the call that was parsed is a bad one
 IsBadMet : Option (Text × List Row) → Type 0
 IsBadMet None = ⊥
@@ -56,27 +84,70 @@ bad_met : (words : List Text) (name : Text) (values : List Row) → IsCallOf wor
 unfolding IsBadMet
 bad_met words name values call bad = subst IsBadMet (sym bad.3 ∙ call) (bad.4, bad.5)
 
--- the result of the task of the call that was parsed is Ok unless the ring is bad, and BadRing if it is
+-- the options of the call that was parsed are no demand, for this cause
+IsIdleMet : DemandFault → Option (Text × List Row) → Type 0
+IsIdleMet cause None = ⊥
+IsIdleMet cause (Some p) = IsDemandName p.0 × (demand_fault p.1 ≡ Some cause)
+
+idle_met : (words : List Text) (name : Text) (values : List Row) (cause : DemandFault) → IsCallOf words name values → HasBadDemand words cause
+    → IsDemandName name × (demand_fault values ≡ Some cause)
+unfolding IsIdleMet
+idle_met words name values cause call bad = subst (IsIdleMet cause) (sym bad.3 ∙ call) (bad.4, bad.5)
+
+one_cause : (o : Option DemandFault) (a b : DemandFault) → o ≡ Some a → o ≡ Some b → a ≡ b
+one_cause o a b is_a is_b = cc
+
+same_cause : {T : Type 0} (r : Result T WordsFault) (a b : DemandFault) → r ≡ Err (BadDemand a) → r ≡ Err (BadDemand b) → a ≡ b
+same_cause r a b is_a is_b = cc
+
+-- what the words say of the result of a task
+pub record IsTold {T : Type 0} (r : Result T WordsFault) (words : List Text) : Type 0 where
+  pub ok : MemoryAside r (IsOk r ↔ (IsCommand words × (¬ HasBadRing words) × ((cause : DemandFault) → ¬ HasBadDemand words cause)))
+  pub bad_ring : MemoryAside r (IsErrOf r BadRing ↔ HasBadRing words)
+  pub bad_demand : (cause : DemandFault) → MemoryAside r (IsErrOf r (BadDemand cause) ↔ HasBadDemand words cause)
+  pub no_text : IsUsage r ⊎ IsHelp r → ⊥
+
+-- the result of the task of the call that was parsed is Ok exactly if the call is good
 pub told : {T : Type 0} (r : Result T WordsFault) (words : List Text) (name : Text) (values : List Row) → IsCommand words → IsCallOf words name values
-    → OnOk r (¬ (IsRingName name × IsRingBad values)) → FailsBy r (IsRingName name × IsRingBad values)
-    → MemoryAside r (IsOk r ↔ (IsCommand words × ¬ HasBadRing words)) × MemoryAside r (IsErrOf r BadRing ↔ HasBadRing words)
-told r words name values clean call good refused =
-    decided r (IsCommand words × ¬ HasBadRing words) (HasBadRing words) (λ fine bad. fine.1 bad)
-    (IfOk-weaker r _ _ (λ _ fine. (clean, λ bad. fine (bad_met words name values call bad))) good)
-    (IfErr-weaker r _ _ (λ fault found. elim found [
-      | inl memory ↦ inl memory
-      | inr bad ↦ inr (bad.0, (clean, name, values, call, bad.1.0, bad.1.1))
-    ]) refused)
+    → OnOk r (IsGoodCall name values) → IfErr r (IsCallFault name values) → IsTold r words
+told (Ok x) words name values clean call good refused =
+    let no_ring : ¬ HasBadRing words = λ bad. good.ring (bad_met words name values call bad) in
+    let no_idle : (cause : DemandFault) → ¬ HasBadDemand words cause =
+    λ cause bad. let is = idle_met words name values cause call bad in let none = good.demand is.0 in let some = is.1 in cc in
+    record {
+      ok = λ aside. (λ ok. (clean, no_ring, no_idle), λ fine. refl);
+      bad_ring = λ aside. (λ is. cc, λ bad. absurd (no_ring bad));
+      bad_demand = λ cause aside. (λ is. cc, λ bad. absurd (no_idle cause bad));
+      no_text = λ is. elim is [ inl usage ↦ let same = usage.1 in cc | inr help ↦ let same = help.1 in cc ];
+    }
+told (Err OutOfMemory) words name values clean call good refused = record {
+  ok = λ aside. absurd (aside refl);
+  bad_ring = λ aside. absurd (aside refl);
+  bad_demand = λ cause aside. absurd (aside refl);
+  no_text = λ is. elim is [ inl usage ↦ let same = usage.1 in cc | inr help ↦ let same = help.1 in cc ];
+}
+told (Err BadRing) words name values clean call good (on_ring, ring) =
+    let bad : HasBadRing words = (clean, name, values, call, on_ring, ring) in
+    record {
+      ok = λ aside. (λ ok. cc, λ fine. absurd (fine.1 bad));
+      bad_ring = λ aside. (λ is. bad, λ _. refl);
+      bad_demand = λ cause aside. (λ is. cc, λ idle. absurd (ring_or_demand name on_ring (idle_met words name values cause call idle).0));
+      no_text = λ is. elim is [ inl usage ↦ let same = usage.1 in cc | inr help ↦ let same = help.1 in cc ];
+    }
+told (Err (BadDemand known)) words name values clean call good (demand, fault) =
+    let bad : HasBadDemand words known = (clean, name, values, call, demand, fault) in
+    record {
+      ok = λ aside. (λ ok. cc, λ fine. absurd (fine.2 known bad));
+      bad_ring = λ aside. (λ is. cc, λ ring. absurd (ring_or_demand name (bad_met words name values call ring).0 demand));
+      bad_demand = λ cause aside. (
+        λ is. subst (HasBadDemand words) (same_cause _ known cause refl is) bad,
+        λ idle. ap (λ c. Err (BadDemand c)) (one_cause (demand_fault values) known cause fault (idle_met words name values cause call idle).1),
+      );
+      no_text = λ is. elim is [ inl usage ↦ let same = usage.1 in cc | inr help ↦ let same = help.1 in cc ];
+    }
+told (Err (Usage text)) words name values clean call good refused = absurd refused
+told (Err (Help text)) words name values clean call good refused = absurd refused
 
 pub task_is : (r : Result Task WordsFault) (words : List Text) (name : Text) (values : List Row) → IsCommand words → IsCallOf words name values
     → IfOk r (IsTaskFor name values) → IfOk r (λ task. IsCommand words × IsTaskOf words task)
 task_is r words name values clean call is = IfOk-weaker r _ _ (λ task is. (clean, (name, values, call, is))) is
-
--- a fault of a task is no text of `clap`
-pub no_text : {T X : Type 0} (r : Result T WordsFault) (Q : Type 0) → FailsBy r Q → IsUsage r ⊎ IsHelp r → X
-no_text (Ok task) Q refused (inl is) = let same = is.1 in cc
-no_text (Ok task) Q refused (inr is) = let same = is.1 in cc
-no_text (Err fault) Q (inl memory) (inl is) = let same = is.1 in cc
-no_text (Err fault) Q (inl memory) (inr is) = let same = is.1 in cc
-no_text (Err fault) Q (inr bad) (inl is) = let same = is.1 in let ring = bad.0 in cc
-no_text (Err fault) Q (inr bad) (inr is) = let same = is.1 in let ring = bad.0 in cc

@@ -1,4 +1,6 @@
 mod Parts
+mod Entries
+mod DemandLemmas
 mod OptionRows
 mod OptionWalks
 mod OptionLevels

@@ -13,7 +13,7 @@ use Rattle.clap.specs.declared.builder.action.ArgAction.{ArgAction}
 use Rattle.clap.specs.declared.builder.action.ArgAction.TheVariants as action
 use Rattle.clap.specs.declared.parser.matches.ValueSource.{ValueSource}
 use Rattle.clap.proofs.FaultLemmas.{past}
-use Rattle.task_words.specs.OptionLines.{is_plain_option, is_set}
+use Rattle.task_words.specs.OptionLines.{has_values, is_plain_option}
 
 -- the argument is a plain option, and is found by its id
 abbrev pub IsPlain : List Rule → Rule → Type 0
@@ -95,12 +95,18 @@ module _ (c : List Rule) (again : Bool) where
       let both = split_or (repeat_fault again a.id rows) (values_fault a (v ∷ vs)) e in
       with_values_good c a.id a _ (v ∷ vs) (without a.id rows) own (omega arith) both.1 (without_good c a.id rows h)
 
+  append_good : (a : Rule) (values : List Text) (rows : List Row) → arg_by_id c a.id ≡ Some a → nat_lt 0 (unwrap_or_range a.range).start_inclusive ≡ true
+      → range_kinds (unwrap_or_range a.range).start_inclusive (most_values a) (length values) ≡ [] → action_fault action.Append again a (values_or_missing a values) rows ≡ []
+      → AreRowsOf c rows → AreRowsOf c (used_as action.Append a.id (reading_by a) (values_or_missing a values) rows)
+  append_good a [] rows own some range e h = absurd (no_values (unwrap_or_range a.range).start_inclusive (most_values a) some range)
+  append_good a (v ∷ vs) rows own some range e h = with_values_good c a.id a _ (v ∷ vs) rows own (omega arith) e h
+
   used_good : (x : ArgAction) (a : Rule) (values : List Text) (rows : List Row) → arg_by_id c a.id ≡ Some a
-      → (is_request x || (is_set x && nat_lt 0 (unwrap_or_range a.range).start_inclusive)) ≡ true
+      → (is_request x || (has_values x && nat_lt 0 (unwrap_or_range a.range).start_inclusive)) ≡ true
       → range_kinds (unwrap_or_range a.range).start_inclusive (most_values a) (length values) ≡ [] → action_fault x again a (values_or_missing a values) rows ≡ []
       → AreRowsOf c rows → AreRowsOf c (used_as x a.id (reading_by a) (values_or_missing a values) rows)
   used_good action.Set a values rows own some range e h = set_good a values rows own some range e h
-  used_good action.Append a values rows own some range e h = absurd (true≢false (sym some))
+  used_good action.Append a values rows own some range e h = append_good a values rows own some range e h
   used_good action.SetTrue a values rows own some range e h = absurd (true≢false (sym some))
   used_good action.SetFalse a values rows own some range e h = absurd (true≢false (sym some))
   used_good action.Count a values rows own some range e h = absurd (true≢false (sym some))

@@ -17,43 +17,43 @@ use Rattle.clap.specs.declared.builder.action.ArgAction.TheVariants as action
 use Rattle.clap.specs.declared.builder.value_parser.ValueParser.{ValueParser}
 use Rattle.clap.proofs.WalkLemmas.{both}
 use Rattle.clap.proofs.SimpleLemmas.{is_false}
-use Rattle.task_words.specs.OptionLines.{HasValue, HaveValues, IsOneOf, gets_help, has_plain_options, is_always_given, is_option_line, is_made_of_options, is_made_with_set, is_named_help, is_plain_subcommand, is_set}
+use Rattle.task_words.specs.OptionLines.{HasValue, HaveValues, IsOneOf, gets_help, has_plain_options, is_always_given, is_option_line, is_made_of_options, is_made_with_values, is_named_help, is_plain_subcommand, has_values}
 use Rattle.task_words.proofs.OptionRows.{same_some, split_or}
 use Rattle.task_words.proofs.OptionLevels.{level_values, or_more}
 use Rattle.task_words.proofs.Stops.{IsNotHelp, StopsAtNoHelp, walk_stops}
 
 -- ---- an option as building fills it in
 
-set_action : (x : ArgAction) → is_set x ≡ true → x ≡ action.Set
-set_action action.Set e = refl
-set_action action.Append e = absurd (true≢false (sym e))
-set_action action.SetTrue e = absurd (true≢false (sym e))
-set_action action.SetFalse e = absurd (true≢false (sym e))
-set_action action.Count e = absurd (true≢false (sym e))
-set_action action.Help e = absurd (true≢false (sym e))
-set_action action.HelpShort e = absurd (true≢false (sym e))
-set_action action.HelpLong e = absurd (true≢false (sym e))
-set_action action.Version e = absurd (true≢false (sym e))
+valued_parser : (x : ArgAction) → has_values x ≡ true → parser_for x ≡ parser_of_value None
+valued_parser action.Set e = refl
+valued_parser action.Append e = refl
+valued_parser action.SetTrue e = absurd (true≢false (sym e))
+valued_parser action.SetFalse e = absurd (true≢false (sym e))
+valued_parser action.Count e = absurd (true≢false (sym e))
+valued_parser action.Help e = absurd (true≢false (sym e))
+valued_parser action.HelpShort e = absurd (true≢false (sym e))
+valued_parser action.HelpLong e = absurd (true≢false (sym e))
+valued_parser action.Version e = absurd (true≢false (sym e))
 
-made_action : (o : Option ArgAction) (other : ArgAction) → option_map_or is_set o false ≡ true → unwrap_or o other ≡ action.Set
-made_action None other e = absurd (true≢false (sym e))
-made_action (Some x) other e = set_action x e
+made_parser : (o : Option ArgAction) (other : ArgAction) → option_map_or has_values o false ≡ true → parser_for (unwrap_or o other) ≡ parser_of_value None
+made_parser None other e = absurd (true≢false (sym e))
+made_parser (Some x) other e = valued_parser x e
 
-filled_parser : (p : Option ValueParser) (x : ArgAction) → x ≡ action.Set → unwrap_or p (parser_for x) ≡ parser_of_value p
-filled_parser None x e = ap parser_for e
+filled_parser : (p : Option ValueParser) (x : ArgAction) → parser_for x ≡ parser_of_value None → unwrap_or p (parser_for x) ≡ parser_of_value p
+filled_parser None x e = e
 filled_parser (Some q) x e = refl
 
-value_back : (i : ℕ) (r : Rule) (rows : List Row) → is_made_with_set r ≡ true → HasValue (with_index i (filled r)) rows → HasValue r rows
+value_back : (i : ℕ) (r : Rule) (rows : List Row) → is_made_with_values r ≡ true → HasValue (with_index i (filled r)) rows → HasValue r rows
 value_back i r rows made h = subst (λ q. (text : Text) × (first_of r.id rows ≡ Some text) × (one_of r.id rows ≡ Some (read_as (reading_of q) text)) × Accepts r.ignore_case q text)
-    (filled_parser r.parser _ (made_action r.action _ made)) h
+    (filled_parser r.parser _ (made_parser r.action _ made)) h
 
 always_filled : (i : ℕ) (r : Rule) → is_always_given r ≡ true → is_always_given (with_index i (filled r)) ≡ true
 always_filled i r e = or_more r.required (not (is_empty r.defaults)) _ (λ some. let none : is_empty r.defaults ≡ false = is_false (is_empty r.defaults) some in rw none some) e
 
-values_back : (i : ℕ) (rules added : List Rule) (rows : List Row) → list_all is_made_with_set rules ≡ true → HaveValues (filled_from i (rules ++ added)) rows → HaveValues rules rows
+values_back : (i : ℕ) (rules added : List Rule) (rows : List Row) → list_all is_made_with_values rules ≡ true → HaveValues (filled_from i (rules ++ added)) rows → HaveValues rules rows
 values_back i [] added rows made h = tt
 values_back i (r ∷ rest) added rows made h =
-    let parts = both (is_made_with_set r) (list_all is_made_with_set rest) made in
+    let parts = both (is_made_with_values r) (list_all is_made_with_values rest) made in
     (λ always. value_back i r rows parts.0 (h.0 (always_filled i r always)), values_back (index_after i r) rest added rows parts.1 h.1)
 
 -- ---- a subcommand as building fills it in
@@ -76,14 +76,14 @@ module _ (above : Shape) where
 
   own_values : (s : Shape) (rows : List Row) → is_made_of_options s ≡ true → HaveValues (made s).rules rows → HaveValues s.rules rows
   own_values s rows options h =
-      let parts = both (not s.is_built) (list_all is_made_with_set s.rules) options in
+      let parts = both (not s.is_built) (list_all is_made_with_values s.rules) options in
       let is = made_is s (is_false s.is_built parts.0) in
       let behind = added_behind _ _ s.rules help_rule version_rule in
       values_back 1 s.rules behind.0 rows parts.1 (subst (λ rules. HaveValues (filled_from 1 rules) rows) behind.1 (subst (λ x. HaveValues x.rules rows) is h))
 
   own_name : (s : Shape) → is_made_of_options s ≡ true → (made s).name ≡ s.name
   own_name s options =
-      let parts = both (not s.is_built) (list_all is_made_with_set s.rules) options in
+      let parts = both (not s.is_built) (list_all is_made_with_values s.rules) options in
       ap (λ x. x.name) (made_is s (is_false s.is_built parts.0))
 
   -- the subcommands of the built command

@@ -9,7 +9,7 @@ use Rattle.task_words.specs.CommandLine.{command_line}
 use Rattle.task_words.specs.Options.{IsRefusalIn, IsRefusalOf}
 use Rattle.task_words.specs.Words.{IsCommand}
 use Rattle.task_words.specs.declared.words.WordsFault.{WordsFault}
-use Rattle.task_words.specs.declared.words.WordsFault.TheVariants.{Usage, BadRing, OutOfMemory, Help}
+use Rattle.task_words.specs.declared.words.WordsFault.TheVariants.{Usage, BadRing, BadDemand, OutOfMemory, Help}
 
 -- for this command line the contracts of `clap` give exactly the possible kinds of fault
 simple_line : is_simple_and_free command_line ≡ true
@@ -38,6 +38,7 @@ pub words_refused : (app : App) (words : List Text) (k : ErrorKind) (fault : Wor
 words_refused app words k (Usage text) is (inl memory) told = absurd (told.1 memory)
 words_refused app words k (Usage text) is (inr among) told = (k, subst (λ (a : App). IsAmong k (fault_of a words)) is among, told.0, told.1)
 words_refused app words k BadRing is found told = absurd told
+words_refused app words k (BadDemand cause) is found told = absurd told
 words_refused app words k OutOfMemory is found told = tt
 words_refused app words k (Help text) is (inl memory) told = absurd (other_kind (sym told ∙ memory))
   where

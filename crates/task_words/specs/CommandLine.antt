@@ -1,31 +1,32 @@
--- The command line of the program, as `clap` reads it: one of thirteen commands, then its options in any order, each
--- with one value.
+-- The command line of the program, as `clap` reads it: one of thirteen commands, then its options in any order. Each use of
+-- an option has one value.
 use Rattle.std.specs.Prelude.{◌≡◌, ℕ, List, [], ◌∷◌, Some, true, false, codes, pos}
 use Rattle.clap.specs.Words.{App, Rule, Shape, new_app, new_rule, shape_of}
 use Rattle.clap.specs.declared.builder.command.Command.{Command}
 use Rattle.clap.specs.declared.builder.command.Command.TheViews.{out-Command}
-use Rattle.clap.specs.declared.builder.action.ArgAction.TheVariants.{Set}
+use Rattle.clap.specs.declared.builder.action.ArgAction.{ArgAction}
+use Rattle.clap.specs.declared.builder.action.ArgAction.TheVariants.{Set, Append}
 use Rattle.clap.specs.declared.builder.value_parser.ValueParser.{ValueParser}
 use Rattle.clap.specs.declared.builder.value_parser.ValueParser.TheVariants.{String, Signed}
 use Rattle.task_words.specs.declared.limits.TheConstants.{MAX_BASE, MAX_CHANNELS, MAX_COUNT, MAX_DISTANCE, MAX_ROUNDS, MIN_BASE}
 
--- the option `--NAME`, given at most once, with one value, which has one name in the help and is accepted by this
--- parser
-abbrev pub option_rule : List ℕ → ValueParser → Rule
-option_rule name parser = record (new_rule name) {
+-- The option `--NAME`. Each use has one value, which has one name in the help and is accepted by this parser. With `Set` the
+-- option is given at most once; with `Append` it may be repeated.
+abbrev pub option_rule : List ℕ → ArgAction → ValueParser → Rule
+option_rule name action parser = record (new_rule name) {
   long = Some name;
-  action = Some Set;
+  action = Some action;
   value_names = 1;
   parser = Some parser;
 }
 
 -- a required option
 abbrev pub required_rule : List ℕ → ValueParser → Rule
-required_rule name parser = record (option_rule name parser) { required = true }
+required_rule name parser = record (option_rule name Set parser) { required = true }
 
 -- an option whose value is a number from 1 to MAX_COUNT, 1 by default
 abbrev pub count_rule : List ℕ → Rule
-count_rule name = record (option_rule name (Signed (pos 1) (pos MAX_COUNT))) { defaults = codes "1" ∷ [] }
+count_rule name = record (option_rule name Set (Signed (pos 1) (pos MAX_COUNT))) { defaults = codes "1" ∷ [] }
 
 -- `--ids M`: a number from 0 to 4294967295
 abbrev pub ids_rule : Rule
@@ -41,7 +42,7 @@ place_rule = required_rule (codes "place") (Signed (pos 0) (pos 4294967295))
 
 -- `--base B`: a number from MIN_BASE to MAX_BASE, 10 by default
 abbrev pub base_rule : Rule
-base_rule = record (option_rule (codes "base") (Signed (pos MIN_BASE) (pos MAX_BASE))) { defaults = codes "10" ∷ [] }
+base_rule = record (option_rule (codes "base") Set (Signed (pos MIN_BASE) (pos MAX_BASE))) { defaults = codes "10" ∷ [] }
 
 -- `--workers W`
 abbrev pub workers_rule : Rule
@@ -53,11 +54,19 @@ segments_rule = count_rule (codes "segments")
 
 -- `--near P`: a number from 1 to MAX_DISTANCE, 1 by default
 abbrev pub near_rule : Rule
-near_rule = record (option_rule (codes "near") (Signed (pos 1) (pos MAX_DISTANCE))) { defaults = codes "1" ∷ [] }
+near_rule = record (option_rule (codes "near") Set (Signed (pos 1) (pos MAX_DISTANCE))) { defaults = codes "1" ∷ [] }
 
 -- `--far Q`: a number from 0 to MAX_DISTANCE, 0 by default
 abbrev pub far_rule : Rule
-far_rule = record (option_rule (codes "far") (Signed (pos 0) (pos MAX_DISTANCE))) { defaults = codes "0" ∷ [] }
+far_rule = record (option_rule (codes "far") Set (Signed (pos 0) (pos MAX_DISTANCE))) { defaults = codes "0" ∷ [] }
+
+-- `--forbid A,B,C`: any text, and any number of times
+abbrev pub forbid_rule : Rule
+forbid_rule = option_rule (codes "forbid") Append String
+
+-- `--problem NAME`: any text, at most once
+abbrev pub problem_rule : Rule
+problem_rule = option_rule (codes "problem") Set String
 
 -- `--rounds T`: a number from 0 to MAX_ROUNDS
 abbrev pub rounds_rule : Rule
@@ -87,9 +96,9 @@ print_command = command_of (codes "print") []
 abbrev pub table_command : Shape
 table_command = command_of (codes "table") (ids_rule ∷ workers_rule ∷ near_rule ∷ far_rule ∷ [])
 
--- `judge --ids M [--workers W] [--near P] [--far Q]`
+-- `judge --ids M [--workers W] [--near P] [--far Q] [--forbid A,B,C].. [--problem NAME]`
 abbrev pub judge_command : Shape
-judge_command = command_of (codes "judge") (ids_rule ∷ workers_rule ∷ near_rule ∷ far_rule ∷ [])
+judge_command = command_of (codes "judge") (ids_rule ∷ workers_rule ∷ near_rule ∷ far_rule ∷ forbid_rule ∷ problem_rule ∷ [])
 
 -- `run --ids M --ring A,B,.. [--segments S]`
 abbrev pub run_command : Shape
@@ -107,9 +116,9 @@ explain_command = command_of (codes "explain") (ids_rule ∷ ring_rule ∷ place
 abbrev pub plan_command : Shape
 plan_command = command_of (codes "plan") (ids_rule ∷ ring_rule ∷ workers_rule ∷ [])
 
--- `audit`
+-- `audit [--forbid A,B,C].. [--problem NAME]`
 abbrev pub audit_command : Shape
-audit_command = command_of (codes "audit") []
+audit_command = command_of (codes "audit") (forbid_rule ∷ problem_rule ∷ [])
 
 -- `apply --ring A,B,..`
 abbrev pub apply_command : Shape
@@ -119,13 +128,15 @@ apply_command = command_of (codes "apply") (ring_rule ∷ [])
 abbrev pub migrate_command : Shape
 migrate_command = command_of (codes "migrate") []
 
--- `formula --ids M --rounds T --channels C [--near P] [--far Q]`
+-- `formula --ids M --rounds T --channels C [--near P] [--far Q] [--forbid A,B,C].. [--problem NAME]`
 abbrev pub formula_command : Shape
-formula_command = command_of (codes "formula") (ids_rule ∷ rounds_rule ∷ channels_rule ∷ near_rule ∷ far_rule ∷ [])
+formula_command =
+    command_of (codes "formula") (ids_rule ∷ rounds_rule ∷ channels_rule ∷ near_rule ∷ far_rule ∷ forbid_rule ∷ problem_rule ∷ [])
 
--- `refute --ids M --rounds T --channels C [--near P] [--far Q]`
+-- `refute --ids M --rounds T --channels C [--near P] [--far Q] [--forbid A,B,C].. [--problem NAME]`
 abbrev pub refute_command : Shape
-refute_command = command_of (codes "refute") (ids_rule ∷ rounds_rule ∷ channels_rule ∷ near_rule ∷ far_rule ∷ [])
+refute_command =
+    command_of (codes "refute") (ids_rule ∷ rounds_rule ∷ channels_rule ∷ near_rule ∷ far_rule ∷ forbid_rule ∷ problem_rule ∷ [])
 
 -- the program without its commands: the words are those after its name, and a command is required
 abbrev pub program : App

@@ -16,10 +16,8 @@ pub record IsNear (near : ℕ) : Type 0 where
 abbrev pub IsFar : ℕ → Type 0
 IsFar far = far ≤ MAX_DISTANCE
 
--- the numbers of rounds and of channels of a formula, and the minimum differences of channels that it asks for
-pub record AreFormulaNumbers (rounds channels near far : ℕ) : Type 0 where
+-- the numbers of rounds and of channels of a formula
+pub record AreFormulaNumbers (rounds channels : ℕ) : Type 0 where
   pub few_rounds : rounds ≤ MAX_ROUNDS
   pub some_channels : 1 ≤ channels
   pub few_channels : channels ≤ MAX_CHANNELS
-  pub near_fits : IsNear near
-  pub far_fits : IsFar far

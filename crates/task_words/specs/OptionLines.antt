@@ -8,18 +8,20 @@ use Rattle.clap.specs.Values.{Accepts, is_request, read_as}
 use Rattle.clap.specs.Walk.{Row, Rule, Text, action_of, first_of, is_empty, one_of, reading_by}
 use Rattle.clap.specs.Simple.{App, Shape, built}
 use Rattle.clap.specs.declared.builder.action.ArgAction.{ArgAction}
-use Rattle.clap.specs.declared.builder.action.ArgAction.TheVariants.{Set}
+use Rattle.clap.specs.declared.builder.action.ArgAction.TheVariants.{Set, Append}
 
 -- ---- command lines
 
-abbrev pub is_set : ArgAction → Bool
-is_set Set = true
-is_set _ = false
+-- each use of the argument has values, which replace those before, or follow them
+abbrev pub has_values : ArgAction → Bool
+has_values Set = true
+has_values Append = true
+has_values _ = false
 
--- an option with the action `Set` and at least one value in each use, or a request for help or the version
+-- an option with at least one value in each use, or a request for help or the version
 abbrev pub is_plain_option : Rule → Bool
 is_plain_option rule = is_request (action_of rule)
-    || (is_set (action_of rule) && nat_lt 0 (unwrap_or_range rule.range).start_inclusive)
+    || (has_values (action_of rule) && nat_lt 0 (unwrap_or_range rule.range).start_inclusive)
 
 -- no two arguments have the same id
 abbrev pub have_own_ids : List Rule → Bool
@@ -34,13 +36,13 @@ has_plain_options s = list_all is_plain_option s.rules && have_own_ids s.rules
 abbrev pub is_named_help : Shape → Bool
 is_named_help s = bytes_eq s.name (codes "help")
 
--- the caller gave the argument the action `Set`
-abbrev pub is_made_with_set : Rule → Bool
-is_made_with_set rule = option_map_or is_set rule.action false
+-- the caller gave the argument an action by which its uses have values
+abbrev pub is_made_with_values : Rule → Bool
+is_made_with_values rule = option_map_or has_values rule.action false
 
--- the subcommand was not built yet, and the caller gave its arguments the action `Set`
+-- the subcommand was not built yet, and the caller gave its arguments such actions
 abbrev pub is_made_of_options : Shape → Bool
-is_made_of_options s = not s.is_built && list_all is_made_with_set s.rules
+is_made_of_options s = not s.is_built && list_all is_made_with_values s.rules
 
 -- the command was not built yet, and clap's subcommand `help` is added to its own subcommands
 abbrev pub gets_help : App → Bool

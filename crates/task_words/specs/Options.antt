@@ -1,6 +1,6 @@
 -- The options of the command that is called, and the results of a parse that `clap` accepts or refuses. No public contract
 -- cites this file.
-use Rattle.std.specs.Prelude.{◌≡◌, ◌≢◌, ◌⊎◌, ◌≤◌, ◌^◌, ◌==◌, ◌&&◌, ℕ, Bool, List, [], ◌∷◌, ⊤, false, nat_lt, pos, if◌then◌else◌}
+use Rattle.std.specs.Prelude.{◌≡◌, ◌≢◌, ◌⊎◌, ◌≤◌, ◌^◌, ◌==◌, ◌&&◌, ℕ, Bool, Some, None, List, [], ◌∷◌, ⊤, false, nat_lt, codes, pos, if◌then◌else◌}
 use Rattle.std.specs.List.{list_any}
 use Rattle.std.specs.Str.{bytes_eq}
 use Rattle.clap.specs.Facts.{parser_of_value}
@@ -11,13 +11,14 @@ use Rattle.clap.specs.declared.error.kind.ErrorKind.{ErrorKind}
 use Rattle.clap.specs.declared.error.kind.ErrorKind.TheVariants as kind
 use Rattle.task_words.specs.OptionLines.{IsOneOf, is_always_given}
 use Rattle.task_words.specs.CommandLine.{command_line}
-use Rattle.task_words.specs.Words.{AsksForHelp, IsRefused, IsRingBad, IsRingName}
+use Rattle.task_words.specs.DemandValues.{demand_fault}
+use Rattle.task_words.specs.Words.{AsksForHelp, IsDemandName, IsRefused, IsRingBad, IsRingName}
 use Rattle.task_words.specs.declared.option_rows.OptionRow.{OptionRow}
 use Rattle.task_words.specs.declared.option_rows.Values.{Values}
 use Rattle.task_words.specs.declared.option_rows.Values.TheVariants as values
 use Rattle.task_words.specs.declared.options.Call.{Call}
 use Rattle.task_words.specs.declared.words.WordsFault.{WordsFault}
-use Rattle.task_words.specs.declared.words.WordsFault.TheVariants.{Usage, BadRing, OutOfMemory, Help}
+use Rattle.task_words.specs.declared.words.WordsFault.TheVariants.{Usage, BadRing, BadDemand, OutOfMemory, Help}
 
 -- the values of the options of a call
 abbrev pub values_of : Call → List Row
@@ -27,9 +28,22 @@ values_of call = rows_of (found_of call.options.now)
 pub record IsCall (call : Call) : Type 0 where
   pub one : IsOneOf command_line.subs call.name.now (values_of call)
 
--- the command takes a ring, but the value of `--ring` is not a ring text
-abbrev pub IsBadCall : Call → Type 0
-IsBadCall call = IsRingName call.name.now × IsRingBad (values_of call)
+-- why the command of this name with these values has no task, unless memory was refused: it takes a ring, but the value of
+-- `--ring` is not a ring text, or it demands something, but its options are no demand, for this cause
+abbrev pub IsCallFault : Text → List Row → WordsFault → Type 0
+IsCallFault name values BadRing = IsRingName name × IsRingBad values
+IsCallFault name values (BadDemand cause) = IsDemandName name × (demand_fault values ≡ Some cause)
+IsCallFault name values OutOfMemory = ⊤
+IsCallFault name values _ = ⊥
+
+-- the command of this name with these values has a task
+pub record IsGoodCall (name : Text) (values : List Row) : Type 0 where
+  pub ring : ¬ (IsRingName name × IsRingBad values)
+  pub demand : IsDemandName name → demand_fault values ≡ None
+
+-- the commands that take `--near` and `--far` or a problem
+abbrev pub IsSeparationName : Text → Type 0
+IsSeparationName name = (name ≡ codes "judge") ⊎ (name ≡ codes "formula") ⊎ (name ≡ codes "refute")
 
 -- the number is one of those that an option takes
 abbrev pub IsBetween : Values → ℕ → Type 0
@@ -64,6 +78,7 @@ IsTaken row name = IsNamed (names_with (is_rule_of row) command_line.subs) name
 abbrev pub IsRefusalOf : ErrorKind → WordsFault → Type 0
 IsRefusalOf fault (Usage text) = (fault ≢ kind.DisplayHelp) × (fault ≢ kind.OutOfMemory)
 IsRefusalOf fault BadRing = ⊥
+IsRefusalOf fault (BadDemand cause) = ⊥
 IsRefusalOf fault OutOfMemory = ⊤
 IsRefusalOf fault (Help text) = fault ≡ kind.DisplayHelp
 
@@ -71,5 +86,6 @@ IsRefusalOf fault (Help text) = fault ≡ kind.DisplayHelp
 abbrev pub IsRefusalIn : List Text → WordsFault → Type 0
 IsRefusalIn words (Usage text) = IsRefused words
 IsRefusalIn words BadRing = ⊥
+IsRefusalIn words (BadDemand cause) = ⊥
 IsRefusalIn words OutOfMemory = ⊤
 IsRefusalIn words (Help text) = AsksForHelp words

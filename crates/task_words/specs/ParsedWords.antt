@@ -1,25 +1,29 @@
 -- The tasks or faults that the words of the process are parsed to, and the tips on them.
-use Rattle.std.specs.Prelude.{◌≡◌, ◌↔◌, ◌⊎◌, Option, None, List, Result, Err, String, IfOk, IfSome, IfNone, IsOk, IsErrOf, MatchOption, string_bytes}
+use Rattle.std.specs.Prelude.{◌≡◌, ◌↔◌, ◌⊎◌, Option, Some, None, List, Result, Err, String, IfOk, IfSome, IfNone, IsOk, IsErrOf, MatchOption, string_bytes}
 use Rattle.std.specs.Option.{option_map}
 use Rattle.std.specs.declared.alloc.Global.{Global}
 use Rattle.clap.specs.Words.{Text}
+use Rattle.task_words.specs.PatternTips.{demand_line, pattern_tip}
 use Rattle.task_words.specs.RingText.{IsRingText}
 use Rattle.task_words.specs.RingTips.{IsRingTip, ring_word}
 use Rattle.task_words.specs.Task.{IsInRange}
 use Rattle.task_words.specs.Tips.{tip_line, usage_tip}
-use Rattle.task_words.specs.Words.{IsCommand, AsksForHelp, IsRefused, HasBadRing, IsTaskOf}
+use Rattle.task_words.specs.Words.{IsCommand, AsksForHelp, IsRefused, HasBadDemand, HasBadRing, IsTaskOf}
 use Rattle.task_words.specs.WordsFault.{MemoryAside, IsUsage, IsHelp, IsNotUtf8}
+use Rattle.task_words.specs.declared.demand_fault.DemandFault.{DemandFault}
+use Rattle.task_words.specs.declared.demand_fault.DemandFault.TheVariants.{BadPattern}
 use Rattle.task_words.specs.declared.task.Task.{Task}
 use Rattle.task_words.specs.declared.words.WordsFault.{WordsFault}
-use Rattle.task_words.specs.declared.words.WordsFault.TheVariants.{Usage, BadRing, OutOfMemory, Help}
+use Rattle.task_words.specs.declared.words.WordsFault.TheVariants.{Usage, BadRing, BadDemand, OutOfMemory, Help}
 
 -- What `task_of` returns for these words: memory aside, a task exactly if they are a command whose ring text, if it has
--- one, is one.
+-- one, is one, and whose options, if it demands something of channels, are a demand.
 pub record IsParsedFrom (words : List Text) (result : Result Task WordsFault) : Type 0 where
   pub task : IfOk result (λ task. IsCommand words × IsTaskOf words task)
   pub range : IfOk result IsInRange
-  pub ok : MemoryAside result (IsOk result ↔ (IsCommand words × ¬ HasBadRing words))
+  pub ok : MemoryAside result (IsOk result ↔ (IsCommand words × (¬ HasBadRing words) × ((cause : DemandFault) → ¬ HasBadDemand words cause)))
   pub bad_ring : MemoryAside result (IsErrOf result BadRing ↔ HasBadRing words)
+  pub bad_demand : (cause : DemandFault) → MemoryAside result (IsErrOf result (BadDemand cause) ↔ HasBadDemand words cause)
   pub usage : IsUsage result → IsRefused words
   pub help : IsHelp result → AsksForHelp words
 
@@ -31,11 +35,14 @@ IsUnread fault = IsNotUtf8 fault ⊎ (fault ≡ OutOfMemory)
 abbrev pub IsParsed : Result Task WordsFault → Type 0
 IsParsed result = ((words : List Text) × IsParsedFrom words result) ⊎ ((fault : WordsFault) × (result ≡ Err fault) × IsUnread fault)
 
--- The tip on words with this fault: on a bad ring text that of the text; on words that `clap` refuses the line of the tip
--- that `usage_tip` has, if it has one; on others none.
+-- The tip on words with this fault: on a bad ring text that of the text; on a bad pattern text the line on the first one; on
+-- other options that are no demand the line on the cause; on words that `clap` refuses the line of the tip that `usage_tip`
+-- has, if it has one; on others none.
 abbrev pub IsTipFor : List Text → WordsFault → Option (String Global) → Type 0
 IsTipFor words BadRing tip =
     MatchOption (ring_word words) (tip ≡ None) (λ text. IfSome tip (λ line. IsRingTip text (string_bytes line)) × IfNone tip (IsRingText text))
 IsTipFor words (Usage text) tip = option_map string_bytes tip ≡ option_map tip_line (usage_tip words)
+IsTipFor words (BadDemand (BadPattern cause)) tip = option_map string_bytes tip ≡ pattern_tip words
+IsTipFor words (BadDemand cause) tip = option_map string_bytes tip ≡ Some (demand_line cause)
 IsTipFor words (Help text) tip = tip ≡ None
 IsTipFor words OutOfMemory tip = tip ≡ None

@@ -1,9 +1,10 @@
 -- The ring text among words, and the tip on a text that is no ring text.
-use Rattle.std.specs.Prelude.{◌≡◌, ℕ, ◌+◌, ◌<◌, ◌++◌, Option, Some, None, List, [], ◌∷◌, take, drop, slice_get, codes, bytes_eq, if◌then◌else◌}
+use Rattle.std.specs.Prelude.{◌≡◌, ℕ, ◌+◌, ◌<◌, ◌++◌, Option, Some, None, List, [], ◌∷◌, slice_get, codes}
 use Rattle.std.specs.Option.{option_or}
 use Rattle.std.specs.Fmt.{decimal}
 use Rattle.source_places.specs.Shown.{escaped_bytes}
 use Rattle.task_words.specs.Decimal.{IsNumber}
+use Rattle.task_words.specs.OptionWords.{option_value}
 use Rattle.task_words.specs.RingText.{parts_of}
 
 -- the part with this index is not a number, and those before it are
@@ -24,12 +25,9 @@ pub record IsRingTip (text tip : List ℕ) : Type 0 where
   pub first : IsFirstBad (parts_of text) index part
   pub is : tip ≡ part_tip (index + 1) part
 
--- the value of `--ring` that a word is or has, by the word before it: after `--ring` the word, or what follows `--ring=` in it
+-- the value of `--ring` that a word is or has, by the word before it
 abbrev pub ring_value : List ℕ → List ℕ → Option (List ℕ)
-ring_value last word =
-    if bytes_eq last (codes "--ring") then Some word
-    else if bytes_eq (take 7 word) (codes "--ring=") then Some (drop 7 word)
-    else None
+ring_value last word = option_value (codes "--ring") (codes "--ring=") last word
 
 -- the first value of `--ring` among words; `last` is the word before them
 abbrev pub ring_after : List ℕ → List (List ℕ) → Option (List ℕ)

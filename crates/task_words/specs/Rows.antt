@@ -1,7 +1,8 @@
 -- The commands and options of the tables. No public contract cites this file.
-use Rattle.std.specs.Prelude.{◌≡◌, Bool, List, [], ◌∷◌, Option, Some, None, true, false, map, pos}
-use Rattle.std.specs.Borrow.{Bor}
-use Rattle.clap.specs.Words.{App, Rule, Shape, Text, rule_of, shape_of, with_rule, with_subcommand}
+use Rattle.std.specs.Prelude.{◌≡◌, Bool, List, [], ◌∷◌, true, false, map, pos}
+use Rattle.clap.specs.Words.{App, Rule, Shape, rule_of, shape_of, with_rule, with_subcommand}
+use Rattle.clap.specs.declared.builder.action.ArgAction.{ArgAction}
+use Rattle.clap.specs.declared.builder.action.ArgAction.TheVariants.{Set, Append}
 use Rattle.clap.specs.declared.builder.arg.Arg.{Arg}
 use Rattle.clap.specs.declared.builder.command.Command.{Command}
 use Rattle.clap.specs.declared.builder.command.Command.TheViews.{out-Command}
@@ -9,6 +10,8 @@ use Rattle.clap.specs.declared.builder.value_parser.ValueParser.{ValueParser}
 use Rattle.clap.specs.declared.builder.value_parser.ValueParser.TheVariants.{String, Signed}
 use Rattle.task_words.specs.CommandLine.{command_of, option_rule}
 use Rattle.task_words.specs.declared.commands.CommandRow.{CommandRow}
+use Rattle.task_words.specs.declared.option_rows.Given.{Given}
+use Rattle.task_words.specs.declared.option_rows.Given.TheVariants as given
 use Rattle.task_words.specs.declared.option_rows.OptionRow.{OptionRow}
 use Rattle.task_words.specs.declared.option_rows.Values.{Values}
 use Rattle.task_words.specs.declared.option_rows.Values.TheVariants as values
@@ -18,14 +21,20 @@ abbrev pub parser_in : Values → ValueParser
 parser_in values.Text = String
 parser_in (values.Numbers low high) = Signed (pos low) (pos high)
 
--- this option with a default value, or as a required one
-abbrev pub with_default : Rule → Option (Bor Text) → Rule
-with_default rule (Some value) = record rule { defaults = value.now ∷ [] }
-with_default rule None = record rule { required = true }
+-- what a use of an option does that is given as often as this
+abbrev pub action_in : Given → ArgAction
+action_in given.AnyNumber = Append
+action_in _ = Set
+
+-- this option, given as often as this
+abbrev pub with_given : Rule → Given → Rule
+with_given rule given.Once = record rule { required = true }
+with_given rule (given.ByDefault value) = record rule { defaults = value.now ∷ [] }
+with_given rule _ = rule
 
 -- the option of a row
 abbrev pub rule_in : OptionRow → Rule
-rule_in row = with_default (option_rule row.name.now (parser_in row.values)) row.default
+rule_in row = with_given (option_rule row.name.now (action_in row.given) (parser_in row.values)) row.given
 
 -- the command of a row
 abbrev pub command_in : CommandRow → Shape

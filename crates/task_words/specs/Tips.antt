@@ -29,6 +29,8 @@ tip_line tip.ValueApart = codes "nbhd: a value stands right behind `=`, or behin
 tip_line tip.RingForIds = codes "nbhd: `--ids` takes the number of identifiers; a ring is given by `--ring`"
 tip_line tip.RingInWords = codes "nbhd: a ring is one word with commas, as in `--ring 5,1,3,7`"
 tip_line tip.StrayNumber = codes "nbhd: each number is the value of an option, as in `--ids 8`; a ring is one word with commas, as in `--ring 5,1,3,7`"
+tip_line tip.PatternInWords =
+    codes "nbhd: a pattern is one word with commas, and each has its own `--forbid`, as in `--forbid 1,1 --forbid 0,0,0`"
 tip_line tip.Negative = codes "nbhd: numbers are written in digits, without a sign"
 tip_line tip.FileName = codes "nbhd: a text is read from standard input, as in `nbhd judge --ids 8 < FILE`"
 tip_line tip.TableName = codes "nbhd: a table is read from standard input, as in `nbhd audit < FILE`"
@@ -90,7 +92,7 @@ value_part word = drop (name_len word + 1) word
 
 -- whether this is the name of an option, each of which takes a value
 abbrev pub takes_value : List ℕ → Bool
-takes_value name = is_one_of (codes "--ids --ring --rounds --channels --near --far --workers --segments --place --base") name
+takes_value name = is_one_of (codes "--ids --ring --rounds --channels --near --far --forbid --problem --workers --segments --place --base") name
 
 -- whether a word begins with `=`
 abbrev pub begins_with_equals : List ℕ → Bool
@@ -117,6 +119,14 @@ is_ring word = has_value word && bytes_eq (name_part word) (codes "--ring")
 -- whether a word is the second number of a ring that is given in several words
 abbrev pub is_in_ring : List ℕ → List ℕ → List ℕ → Bool
 is_in_ring before last word = (bytes_eq before (codes "--ring") || is_ring last) && begins_with_digit word
+
+-- whether a word is `--forbid` with its value
+abbrev pub is_forbid : List ℕ → Bool
+is_forbid word = has_value word && bytes_eq (name_part word) (codes "--forbid")
+
+-- whether a word is the second channel of a pattern that is given in several words, or a second pattern behind one `--forbid`
+abbrev pub is_in_pattern : List ℕ → List ℕ → List ℕ → Bool
+is_in_pattern before last word = (bytes_eq before (codes "--forbid") || is_forbid last) && begins_with_digit word
 
 -- whether a word is a list with commas in place of the value of `--near`
 abbrev pub is_near_and_far : List ℕ → List ℕ → Bool
@@ -178,16 +188,16 @@ abbrev pub is_all_capitals : List ℕ → Bool
 is_all_capitals name =
     bytes_eq name (codes "--IDS") || (bytes_eq name (codes "--RING") || (bytes_eq name (codes "--ROUNDS")
     || (bytes_eq name (codes "--CHANNELS") || (bytes_eq name (codes "--NEAR") || (bytes_eq name (codes "--FAR")
-    || (bytes_eq name (codes "--WORKERS") || (bytes_eq name (codes "--SEGMENTS") || (bytes_eq name (codes "--PLACE")
-    || (bytes_eq name (codes "--BASE"))))))))))
+    || (bytes_eq name (codes "--FORBID") || (bytes_eq name (codes "--PROBLEM") || (bytes_eq name (codes "--WORKERS")
+    || (bytes_eq name (codes "--SEGMENTS") || (bytes_eq name (codes "--PLACE") || (bytes_eq name (codes "--BASE"))))))))))))
 
 -- whether this is the name of an option with a capital as its first letter
 abbrev pub has_first_capital : List ℕ → Bool
 has_first_capital name =
     bytes_eq name (codes "--Ids") || (bytes_eq name (codes "--Ring") || (bytes_eq name (codes "--Rounds")
     || (bytes_eq name (codes "--Channels") || (bytes_eq name (codes "--Near") || (bytes_eq name (codes "--Far")
-    || (bytes_eq name (codes "--Workers") || (bytes_eq name (codes "--Segments") || (bytes_eq name (codes "--Place")
-    || (bytes_eq name (codes "--Base"))))))))))
+    || (bytes_eq name (codes "--Forbid") || (bytes_eq name (codes "--Problem") || (bytes_eq name (codes "--Workers")
+    || (bytes_eq name (codes "--Segments") || (bytes_eq name (codes "--Place") || (bytes_eq name (codes "--Base"))))))))))))
 
 -- whether a word is the name of an option in capitals, or with a capital
 abbrev pub is_in_capitals : List ℕ → Bool
@@ -198,8 +208,8 @@ abbrev pub is_minus_name : List ℕ → Bool
 is_minus_name name =
     bytes_eq name (codes "-ids") || (bytes_eq name (codes "-ring") || (bytes_eq name (codes "-rounds")
     || (bytes_eq name (codes "-channels") || (bytes_eq name (codes "-near") || (bytes_eq name (codes "-far")
-    || (bytes_eq name (codes "-workers") || (bytes_eq name (codes "-segments") || (bytes_eq name (codes "-place")
-    || (bytes_eq name (codes "-base"))))))))))
+    || (bytes_eq name (codes "-forbid") || (bytes_eq name (codes "-problem") || (bytes_eq name (codes "-workers")
+    || (bytes_eq name (codes "-segments") || (bytes_eq name (codes "-place") || (bytes_eq name (codes "-base"))))))))))))
 
 abbrev pub has_one_minus : List ℕ → Bool
 has_one_minus word = is_minus_name (name_part word)
@@ -246,6 +256,7 @@ abbrev pub tip_on : Input → List ℕ → List ℕ → List ℕ → Option Tip
 tip_on reads before last word =
     if is_ring_for_ids reads last word then Some tip.RingForIds
     else if is_in_ring before last word then Some (tip_in_ring last word)
+    else if is_in_pattern before last word then Some tip.PatternInWords
     else if is_negative word then Some tip.Negative
     else if is_file_name last word || is_file_option word then Some (file_tip reads)
     else if is_near_and_far last word then Some tip.NearAndFar

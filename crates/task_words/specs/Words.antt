@@ -6,9 +6,13 @@ use Rattle.clap.specs.declared.error.kind.ErrorKind.{ErrorKind}
 use Rattle.clap.specs.declared.error.kind.ErrorKind.TheVariants as kind
 use Rattle.numerals.specs.declared.base.Base.{Base}
 use Rattle.numerals.specs.Numerals.{radix}
+use Rattle.ring_problems.specs.declared.problem.Demand.{Demand}
+use Rattle.ring_problems.specs.declared.problem.Demand.TheVariants.{Apart, Solve}
 use Rattle.task_words.specs.CommandLine.{command_line}
 use Rattle.task_words.specs.Decimal.{IsNumber, number_in}
+use Rattle.task_words.specs.DemandValues.{HasNoProblem, IsProblemFor, IsProblemIn, demand_fault}
 use Rattle.task_words.specs.RingText.{IsRingText, ring_in}
+use Rattle.task_words.specs.declared.demand_fault.DemandFault.{DemandFault}
 use Rattle.task_words.specs.declared.task.Task.{Task}
 use Rattle.task_words.specs.declared.task.Task.TheVariants.{Check, Print, Table, Judge, Run, Trace, Explain, Plan, Audit, Apply, Migrate, Formula, Refute}
 
@@ -56,13 +60,27 @@ IsRingBad values = (text : Text) × (first_of (codes "ring") values ≡ Some tex
 abbrev pub HasBadRing : List Text → Type 0
 HasBadRing words = IsCommand words × (name : Text) × (values : List Row) × IsCallOf words name values × IsRingName name × IsRingBad values
 
+-- the commands that demand something of channels
+abbrev pub IsDemandName : Text → Type 0
+IsDemandName name = (name ≡ codes "judge") ⊎ (name ≡ codes "audit") ⊎ (name ≡ codes "formula") ⊎ (name ≡ codes "refute")
+
+-- `clap` accepts the words, and they name a command that demands something, but the values of its options are no demand,
+-- for this cause
+abbrev pub HasBadDemand : List Text → DemandFault → Type 0
+HasBadDemand words cause =
+    IsCommand words × (name : Text) × (values : List Row) × IsCallOf words name values × IsDemandName name × (demand_fault values ≡ Some cause)
+
 -- the values of the options of a formula are these numbers
-pub record HasFormulaNumbers (values : List Row) (ids rounds channels near far : ℕ) : Type 0 where
+pub record HasFormulaNumbers (values : List Row) (ids rounds channels : ℕ) : Type 0 where
   pub ids_is : HasNumber values (codes "ids") ids
   pub rounds_is : HasNumber values (codes "rounds") rounds
   pub channels_is : HasNumber values (codes "channels") channels
-  pub near_is : HasNumber values (codes "near") near
-  pub far_is : HasNumber values (codes "far") far
+
+-- the values of the options demand this: a problem, or without one that channels differ by near and far
+abbrev pub IsDemandFor : List Row → Demand → Type 0
+IsDemandFor values (Apart separation) =
+    HasNoProblem values × HasNumber values (codes "near") separation.near × HasNumber values (codes "far") separation.far
+IsDemandFor values (Solve problem) = IsProblemFor values problem
 
 -- the task of the command with this name and these values of its options
 abbrev pub IsTaskFor : Text → List Row → Task → Type 0
@@ -71,9 +89,8 @@ IsTaskFor name values Print = name ≡ codes "print"
 IsTaskFor name values (Table ids workers near far) =
     (name ≡ codes "table") × HasNumber values (codes "ids") ids × HasNumber values (codes "workers") workers
     × HasNumber values (codes "near") near × HasNumber values (codes "far") far
-IsTaskFor name values (Judge ids workers near far) =
-    (name ≡ codes "judge") × HasNumber values (codes "ids") ids × HasNumber values (codes "workers") workers
-    × HasNumber values (codes "near") near × HasNumber values (codes "far") far
+IsTaskFor name values (Judge ids workers demand) =
+    (name ≡ codes "judge") × HasNumber values (codes "ids") ids × HasNumber values (codes "workers") workers × IsDemandFor values demand
 IsTaskFor name values (Run ids ring segments) = (name ≡ codes "run") × HasNumber values (codes "ids") ids
     × HasRing values ring.items × HasNumber values (codes "segments") segments
 IsTaskFor name values (Trace ids ring base) = (name ≡ codes "trace") × HasNumber values (codes "ids") ids
@@ -82,11 +99,13 @@ IsTaskFor name values (Explain ids ring place base) = (name ≡ codes "explain")
     × HasRing values ring.items × HasNumber values (codes "place") place × HasBase values base
 IsTaskFor name values (Plan ids ring workers) = (name ≡ codes "plan") × HasNumber values (codes "ids") ids
     × HasRing values ring.items × HasNumber values (codes "workers") workers
-IsTaskFor name values Audit = name ≡ codes "audit"
+IsTaskFor name values (Audit problem) = (name ≡ codes "audit") × IsProblemIn values problem
 IsTaskFor name values (Apply ring) = (name ≡ codes "apply") × HasRing values ring.items
 IsTaskFor name values Migrate = name ≡ codes "migrate"
-IsTaskFor name values (Formula ids rounds channels near far) = (name ≡ codes "formula") × HasFormulaNumbers values ids rounds channels near far
-IsTaskFor name values (Refute ids rounds channels near far) = (name ≡ codes "refute") × HasFormulaNumbers values ids rounds channels near far
+IsTaskFor name values (Formula ids rounds channels demand) =
+    (name ≡ codes "formula") × HasFormulaNumbers values ids rounds channels × IsDemandFor values demand
+IsTaskFor name values (Refute ids rounds channels demand) =
+    (name ≡ codes "refute") × HasFormulaNumbers values ids rounds channels × IsDemandFor values demand
 
 -- the task that the words request
 abbrev pub IsTaskOf : List Text → Task → Type 0

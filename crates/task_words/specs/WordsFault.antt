@@ -1,8 +1,11 @@
 -- Faults of words, and the exit status after them.
-use Rattle.std.specs.Prelude.{◌≡◌, ◌⊎◌, ℕ, Result, Err, IfErr, String, codes, string_bytes}
+use Rattle.std.specs.Prelude.{◌≡◌, ◌⊎◌, ℕ, Option, Some, Result, Err, IfErr, String, codes, option_map, string_bytes}
 use Rattle.std.specs.declared.alloc.Global.{Global}
+use Rattle.task_words.specs.declared.demand_fault.DemandFault.{DemandFault}
+use Rattle.task_words.specs.declared.demand_fault.DemandFault.TheVariants.{BadPattern}
+use Rattle.task_words.specs.declared.demand_fault.PatternFault.{PatternFault}
 use Rattle.task_words.specs.declared.words.WordsFault.{WordsFault}
-use Rattle.task_words.specs.declared.words.WordsFault.TheVariants.{Usage, BadRing, OutOfMemory, Help}
+use Rattle.task_words.specs.declared.words.WordsFault.TheVariants.{Usage, BadRing, BadDemand, OutOfMemory, Help}
 
 -- a fact that holds unless memory was refused
 abbrev pub MemoryAside : {T : Type 0} → Result T WordsFault → Type 0 → Type 0
@@ -11,6 +14,14 @@ MemoryAside result fact = ¬ (result ≡ Err OutOfMemory) → fact
 -- if the result is a fault, it is OutOfMemory, or BadRing, for this cause
 abbrev pub FailsBy : {T : Type 0} → Result T WordsFault → Type 0 → Type 0
 FailsBy result cause = IfErr result (λ fault. (fault ≡ OutOfMemory) ⊎ ((fault ≡ BadRing) × cause))
+
+-- the fault is OutOfMemory, or BadDemand, for this cause
+abbrev pub IsDemandRefusal : Option DemandFault → WordsFault → Type 0
+IsDemandRefusal cause fault = (fault ≡ OutOfMemory) ⊎ ((known : DemandFault) × (fault ≡ BadDemand known) × (cause ≡ Some known))
+
+-- the fault is OutOfMemory, or says that a text is no pattern text, for this cause
+abbrev pub IsPatternRefusal : Option PatternFault → WordsFault → Type 0
+IsPatternRefusal cause fault = IsDemandRefusal (option_map BadPattern cause) fault
 
 -- the result is a fault with a text of `clap`
 abbrev pub IsUsage : {T : Type 0} → Result T WordsFault → Type 0
@@ -28,5 +39,6 @@ IsNotUtf8 fault = (text : String Global) × (fault ≡ Usage text) × (string_by
 abbrev pub words_fault_code : WordsFault → ℕ
 words_fault_code (Usage text) = 2
 words_fault_code BadRing = 2
+words_fault_code (BadDemand cause) = 2
 words_fault_code OutOfMemory = 6
 words_fault_code (Help text) = 0

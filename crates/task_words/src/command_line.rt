@@ -4,11 +4,11 @@ ghost use Rattle.std.specs.Prelude.{◌≡◌, IfOk, false, map};
 ghost use Rattle.clap.specs.Words.{app_of, new_app, rule_of};
 ghost use Rattle.clap.specs.declared.builder.command.Command.TheViews.{out-Command};
 ghost use Rattle.task_words.specs.CommandLine.{IsCommandOf, command_line, program};
-ghost use Rattle.task_words.specs.Rows.{AreCommandsOf, AreOptionsOf, command_in, parser_in, rule_in, with_commands};
+ghost use Rattle.task_words.specs.Rows.{AreCommandsOf, AreOptionsOf, action_in, command_in, parser_in, rule_in, with_commands};
 
 use crate::commands::{COMMANDS, CommandRow};
 use crate::help;
-use crate::option_rows::{OptionRow, Values};
+use crate::option_rows::{Given, OptionRow, Values};
 use clap::builder::ValueParser;
 use clap::{Arg, ArgAction, Command};
 use std::alloc::{AllocError, Global};
@@ -77,20 +77,31 @@ fn options<'a>(alloc: Global, rows: &[OptionRow]) -> Result<Vec<Arg<'a>>, AllocE
     Ok(options)
 }
 
-// Returns the option of this row, which has one value.
+// Returns the option of this row, each use of which has one value.
 fn option<'a>(alloc: Global, row: &OptionRow) -> Arg<'a>
     ensures rule { rule_of result ≡ rule_in row.now }
     ensures local { result.global ≡ false }
 {
     let option = Arg::new(alloc, row.name)
         .long(row.name)
-        .action(ArgAction::Set)
+        .action(action(row.given))
         .value_parser(parser(row.values))
         .value_name(row.value_name)
         .help(row.help);
-    match row.default {
-        Some(value) => option.default_value(value),
-        None => option.required(true),
+    match row.given {
+        Given::Once => option.required(true),
+        Given::ByDefault(value) => option.default_value(value),
+        Given::AtMostOnce | Given::AnyNumber => option,
+    }
+}
+
+// Returns what a use of an option does that is given as often as this: it has a value, or one more.
+fn action(given: Given) -> ArgAction
+    ensures { result ≡ action_in given }
+{
+    match given {
+        Given::Once | Given::ByDefault(_) | Given::AtMostOnce => ArgAction::Set,
+        Given::AnyNumber => ArgAction::Append,
     }
 }
 

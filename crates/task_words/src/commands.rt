@@ -1,7 +1,8 @@
 //! The commands, in a table.
 
 use crate::option_rows::{
-    BASE, CHANNELS, FAR, IDS, NEAR, OptionRow, PLACE, RING, ROUNDS, SEGMENTS, WORKERS,
+    BASE, CHANNELS, FAR, FORBID, IDS, NEAR, OptionRow, PLACE, PROBLEM, RING, ROUNDS, SEGMENTS,
+    WORKERS,
 };
 
 // A command. `about` is its line in the help of the program. `details` ends its own help: its input,
@@ -37,6 +38,25 @@ macro_rules! details {
     };
     ($output:literal, $more:literal) => {
         details!(@ $output, "", $more)
+    };
+}
+
+// Details that tell between the two texts what patterns and problems are.
+macro_rules! with_problems {
+    ($before:literal, $after:literal) => {
+        concat!(
+            $before,
+            "
+A pattern forbids channels in a row, from a node on to the right: with --forbid 1,1 no two neighbours
+have channel 1, and with --forbid '0,*,0' no two nodes at distance two have channel 0. A problem is
+such patterns, by one --forbid for each, or by its name, as in --problem mis:
+  mis       0,0,0 1,1            a maximal independent set: its nodes have channel 1, the others 0
+  matching  0,0 1,0 1,1 0,2 2,2  a maximal matching: 1 with the right neighbour, 2 with the left, 0 alone
+  weak2     0,0,0 1,1,1          a weak colouring: each node has a neighbour of the other channel
+A problem is given in one of these two ways, and without --near and --far.
+",
+            $after
+        )
     };
 }
 
@@ -94,16 +114,20 @@ Exit status:
     options: &[IDS, WORKERS, NEAR, FAR],
 };
 
-// `judge --ids M [--workers W] [--near P] [--far Q]`
+// `judge --ids M [--workers W] [--near P] [--far Q] [--forbid A,B,C].. [--problem NAME]`
 const JUDGE: CommandRow = CommandRow {
     name: "judge",
-    about: "Tells whether channels are far enough apart on every ring, by a program's table",
-    details: details!(
-        "one line: yes, or no with a ring where two channels are too close,
-                 or what is refused",
-        "Without --near and --far, neighbours' channels have to differ. With --near 2 --far 1, for example,
-they have to differ by 2 or more, and the channels of a node's two neighbours have to differ as well.
+    about: "Tells whether a program keeps channels far apart, or solves a problem, on every ring",
+    details: with_problems!(
+        "Standard input:  a program text
+Standard output: one line: yes, or no with a ring where channels are not as they have to be,
+                 or what is refused
 
+M is 2 to 1024 for 0 rounds, 4 to 162 for 1 round, 6 to 23 for 2, 8 to 12 for 3, 10 for 4 rounds.
+Without further options, neighbours' channels have to differ. With --near 2 --far 1, for example,
+they have to differ by 2 or more, and the channels of a node's two neighbours have to differ as well.
+",
+        "
 Exit status:
   0  yes
   1  no
@@ -112,7 +136,7 @@ Exit status:
   5  reading or writing failed
   6  memory or a thread was refused"
     ),
-    options: &[IDS, WORKERS, NEAR, FAR],
+    options: &[IDS, WORKERS, NEAR, FAR, FORBID, PROBLEM],
 };
 
 // `run --ids M --ring A,B,.. [--segments S]`
@@ -208,25 +232,29 @@ Exit status:
     options: &[IDS, RING, WORKERS],
 };
 
-// `audit`
+// `audit [--forbid A,B,C].. [--problem NAME]`
 const AUDIT: CommandRow = CommandRow {
     name: "audit",
-    about: "Tells whether channels are far enough apart on every ring, by a table text",
-    details: "Standard input:  a table text, as `nbhd table` prints it
-Standard output: one line: yes, or no with a ring where two channels are too close,
+    about: "Tells whether a table keeps channels far apart, or solves a problem, on every ring",
+    details: with_problems!(
+        "Standard input:  a table text, as `nbhd table` prints it
+Standard output: one line: yes, or no with a ring where channels are not as they have to be,
                  or what is refused
 
-How far apart channels have to be is told by near and far of the text; a text of version 1 has near 1
-and far 0: neighbours' channels have to differ.
-
+Without options, near and far of the text tell how far apart channels have to be; a text of version 1
+has near 1 and far 0: neighbours' channels have to differ. With a problem, near and far of the text
+are left aside.
+",
+        "
 Exit status:
   0  yes
   1  no
   2  the words are refused
   3  the table text is refused
   5  reading or writing failed
-  6  memory or a thread was refused",
-    options: &[],
+  6  memory or a thread was refused"
+    ),
+    options: &[FORBID, PROBLEM],
 };
 
 // `apply --ring A,B,..`
@@ -266,45 +294,52 @@ Exit status:
     options: &[],
 };
 
-// `formula --ids M --rounds T --channels C [--near P] [--far Q]`
+// `formula --ids M --rounds T --channels C [--near P] [--far Q] [--forbid A,B,C].. [--problem NAME]`
 const FORMULA: CommandRow = CommandRow {
     name: "formula",
     about: "Prints the formula that asks for a table of some size, for a SAT solver",
-    details: "Standard input:  nothing is read
+    details: with_problems!(
+        "Standard input:  nothing is read
 Standard output: the formula in DIMACS, as SAT solvers read it, or one line: what is refused
 
 The formula has a variable for each window of 2T+1 identifiers and each channel: w*C+c+1 says that
 window number w has channel c. Exactly if values make it true, there is a table of M identifiers, T
-rounds and C channels whose channels are far enough apart on every ring. It has at most 4194304
-variables and 16777216 clauses.
-
+rounds and C channels whose channels are far enough apart, or solve the problem, on every ring. It
+has at most 4194304 variables and 16777216 clauses.
+",
+        "
 Exit status:
   0  the formula is printed
   2  the words are refused
   5  writing failed
   6  memory was refused
-  7  there is no such formula, or it is too large",
-    options: &[IDS, ROUNDS, CHANNELS, NEAR, FAR],
+  7  there is no such formula, or it is too large"
+    ),
+    options: &[IDS, ROUNDS, CHANNELS, NEAR, FAR, FORBID, PROBLEM],
 };
 
-// `refute --ids M --rounds T --channels C [--near P] [--far Q]`
+// `refute --ids M --rounds T --channels C [--near P] [--far Q] [--forbid A,B,C].. [--problem NAME]`
 const REFUTE: CommandRow = CommandRow {
     name: "refute",
     about: "Checks a solver's refutation: there is no table of this size",
-    details: "Standard input:  a refutation of the formula that `nbhd formula` prints, in LRAT
+    details: with_problems!(
+        "Standard input:  a refutation of the formula that `nbhd formula` prints, in LRAT
 Standard output: one line: refuted, or what is refused
 
 Refuted means: no table of M identifiers, T rounds and at most C channels keeps channels far enough
-apart on every ring, so no program with T rounds does. Each step of the refutation is checked.
-
+apart, or solves the problem, on every ring, so no program with T rounds does. Each step of the
+refutation is checked.
+",
+        "
 Exit status:
   0  refuted
   2  the words are refused
   3  the text is no refutation
   5  reading or writing failed
   6  memory was refused
-  7  there is no such formula, or it is too large",
-    options: &[IDS, ROUNDS, CHANNELS, NEAR, FAR],
+  7  there is no such formula, or it is too large"
+    ),
+    options: &[IDS, ROUNDS, CHANNELS, NEAR, FAR, FORBID, PROBLEM],
 };
 
 // The commands, in the order of the help of the program.

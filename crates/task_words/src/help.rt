@@ -3,7 +3,8 @@
 /// The description of the program.
 pub(crate) const PROGRAM: &str =
     "nbhd 1.0 compiles a node program of synchronous rounds to a table with one channel per window of
-identifiers, and judges whether neighbours' channels differ on every oriented ring.";
+identifiers, and judges whether neighbours' channels differ, or solve another problem, on every oriented
+ring.";
 
 /// An example of a call of the program.
 pub(crate) const EXAMPLE: &str =

@@ -3,12 +3,17 @@
 
 mod command_line;
 mod commands;
+pub mod demand_fault;
+mod demands;
 mod foreign_names;
 mod help;
 pub mod limits;
 mod option_rows;
+mod option_words;
 mod options;
 mod parsing;
+pub mod pattern_text;
+mod pattern_tips;
 mod process;
 mod refused;
 pub mod ring_text;
@@ -18,6 +23,7 @@ mod tips;
 mod word_advice;
 pub mod words;
 
+pub use pattern_tips::pattern_tip;
 pub use process::{parse_task, print_words_fault};
 pub use ring_tips::{ring_tip, ring_word};
 pub use tips::{NumberOption, Tip, usage_tip};

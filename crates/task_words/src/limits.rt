@@ -18,3 +18,6 @@ pub const MAX_BASE: u32 = numerals::MAX_BASE;
 
 /// The largest difference of channels that the words can request.
 pub const MAX_DISTANCE: u32 = node_program::MAX_CHANNELS;
+
+/// The largest number of patterns that the words can request.
+pub const MAX_PATTERNS: usize = 256;

@@ -10,6 +10,16 @@ pub(crate) enum Values {
     Numbers(u32, u32),
 }
 
+// How often an option is given.
+#[derive(Clone, Copy)]
+pub(crate) enum Given {
+    Once,
+    // At most once, with this value by default.
+    ByDefault(&'static str),
+    AtMostOnce,
+    AnyNumber,
+}
+
 // An option `--NAME`.
 #[derive(Clone, Copy)]
 pub(crate) struct OptionRow {
@@ -17,8 +27,7 @@ pub(crate) struct OptionRow {
     pub(crate) value_name: &'static str,
     pub(crate) help: &'static str,
     pub(crate) values: Values,
-    // The value by default. The option is required if it has none.
-    pub(crate) default: Option<&'static str>,
+    pub(crate) given: Given,
 }
 
 // The numbers of workers and of segments.
@@ -29,7 +38,7 @@ pub(crate) const IDS: OptionRow = OptionRow {
     value_name: "M",
     help: "How many identifiers there are; they are 0 to M-1",
     values: Values::Numbers(0, u32::MAX),
-    default: None,
+    given: Given::Once,
 };
 
 pub(crate) const RING: OptionRow = OptionRow {
@@ -37,7 +46,7 @@ pub(crate) const RING: OptionRow = OptionRow {
     value_name: "A,B,..",
     help: "The ring's identifiers, each followed by its right neighbour's",
     values: Values::Text,
-    default: None,
+    given: Given::Once,
 };
 
 pub(crate) const PLACE: OptionRow = OptionRow {
@@ -45,7 +54,7 @@ pub(crate) const PLACE: OptionRow = OptionRow {
     value_name: "P",
     help: "The place of the node in the ring, counted from 0",
     values: Values::Numbers(0, u32::MAX),
-    default: None,
+    given: Given::Once,
 };
 
 pub(crate) const BASE: OptionRow = OptionRow {
@@ -53,7 +62,7 @@ pub(crate) const BASE: OptionRow = OptionRow {
     value_name: "B",
     help: "The base of the numbers that are printed, 2 to 10",
     values: Values::Numbers(MIN_BASE, MAX_BASE),
-    default: Some("10"),
+    given: Given::ByDefault("10"),
 };
 
 pub(crate) const WORKERS: OptionRow = OptionRow {
@@ -61,7 +70,7 @@ pub(crate) const WORKERS: OptionRow = OptionRow {
     value_name: "W",
     help: "How many threads work on the table, 1 to 64",
     values: COUNTS,
-    default: Some("1"),
+    given: Given::ByDefault("1"),
 };
 
 pub(crate) const SEGMENTS: OptionRow = OptionRow {
@@ -69,7 +78,7 @@ pub(crate) const SEGMENTS: OptionRow = OptionRow {
     value_name: "S",
     help: "How many segments the ring is cut into, each a thread, 1 to 64",
     values: COUNTS,
-    default: Some("1"),
+    given: Given::ByDefault("1"),
 };
 
 pub(crate) const NEAR: OptionRow = OptionRow {
@@ -77,7 +86,7 @@ pub(crate) const NEAR: OptionRow = OptionRow {
     value_name: "P",
     help: "By how much neighbours' channels have to differ, 1 to 4096",
     values: Values::Numbers(1, MAX_DISTANCE),
-    default: Some("1"),
+    given: Given::ByDefault("1"),
 };
 
 pub(crate) const FAR: OptionRow = OptionRow {
@@ -85,7 +94,7 @@ pub(crate) const FAR: OptionRow = OptionRow {
     value_name: "Q",
     help: "By how much the channels at distance two have to differ, 0 to 4096",
     values: Values::Numbers(0, MAX_DISTANCE),
-    default: Some("0"),
+    given: Given::ByDefault("0"),
 };
 
 pub(crate) const ROUNDS: OptionRow = OptionRow {
@@ -93,7 +102,7 @@ pub(crate) const ROUNDS: OptionRow = OptionRow {
     value_name: "T",
     help: "How many rounds nodes communicate, 0 to 4",
     values: Values::Numbers(0, MAX_ROUNDS),
-    default: None,
+    given: Given::Once,
 };
 
 pub(crate) const CHANNELS: OptionRow = OptionRow {
@@ -101,5 +110,21 @@ pub(crate) const CHANNELS: OptionRow = OptionRow {
     value_name: "C",
     help: "How many channels there are, 1 to 4096; they are 0 to C-1",
     values: Values::Numbers(1, MAX_CHANNELS),
-    default: None,
+    given: Given::Once,
+};
+
+pub(crate) const FORBID: OptionRow = OptionRow {
+    name: "forbid",
+    value_name: "A,B,C",
+    help: "One to three channels, or `*` for any, that may not follow one another; may be repeated",
+    values: Values::Text,
+    given: Given::AnyNumber,
+};
+
+pub(crate) const PROBLEM: OptionRow = OptionRow {
+    name: "problem",
+    value_name: "NAME",
+    help: "The problem that channels have to solve: mis, matching or weak2",
+    values: Values::Text,
+    given: Given::AtMostOnce,
 };

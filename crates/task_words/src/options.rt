@@ -1,19 +1,24 @@
 //! The task of a command, from the values of its options.
 
-ghost use Rattle.std.specs.Prelude.{◌≡◌, ◌⊎◌, ◌↔◌, IsTrue, IfOk, OnOk, codes};
-ghost use Rattle.task_words.specs.Options.{IsBadCall, IsBetween, IsCall, IsTaken, values_of};
-ghost use Rattle.task_words.specs.Task.{IsInRange};
-ghost use Rattle.task_words.specs.Words.{HasNumber, HasRing, IsRingBad, IsRingName, IsTaskFor};
+ghost use Rattle.std.specs.Prelude.{◌≡◌, ◌⊎◌, ◌↔◌, IsTrue, IfErr, IfOk, IfSome, OnOk, codes};
+ghost use Rattle.task_words.specs.Counts.{IsFar, IsNear};
+ghost use Rattle.task_words.specs.DemandValues.{IsProblemIn};
+ghost use Rattle.task_words.specs.Options.{IsBetween, IsCall, IsCallFault, IsGoodCall, IsSeparationName, IsTaken, values_of};
+ghost use Rattle.task_words.specs.Task.{HasFewPatterns, IsDemandInRange, IsInRange};
+ghost use Rattle.task_words.specs.Words.{HasNumber, HasRing, IsDemandFor, IsDemandName, IsRingBad, IsRingName, IsTaskFor};
 ghost use Rattle.task_words.specs.WordsFault.{FailsBy};
 
+use crate::demands::problem_of;
 use crate::option_rows::{
     BASE, CHANNELS, FAR, IDS, NEAR, OptionRow, PLACE, RING, ROUNDS, SEGMENTS, WORKERS,
 };
 use crate::ring_text::ring_of;
 use crate::task::Task;
 use crate::words::WordsFault;
+use channel_tables::Separation;
 use clap::ArgMatches;
 use numerals::Base;
+use ring_problems::{Demand, Problem};
 use std::alloc::Global;
 
 // A call of a command: its name, and the values of its options.
@@ -24,19 +29,22 @@ pub(crate) struct Call<'a, 'w> {
 }
 
 impl Call<'_, '_> {
-    // Returns the task of the call. Fails with `BadRing` if the value of `--ring` is not a ring text.
+    // Returns the task of the call. Fails with `BadRing` if the value of `--ring` is not a ring text,
+    // and with `BadDemand` if the command demands something, but the values of its options are no demand.
     pub(crate) fn task(&self, alloc: Global) -> Result<Task, WordsFault>
         requires { IsCall self.now }
         ensures task { IfOk result (IsTaskFor self.now.name.now (values_of self.now)) }
         ensures range { IfOk result IsInRange }
-        ensures good { OnOk result (¬ IsBadCall self.now) }
-        ensures refused { FailsBy result (IsBadCall self.now) }
+        ensures good { OnOk result (IsGoodCall self.now.name.now (values_of self.now)) }
+        ensures refused { IfErr result (IsCallFault self.now.name.now (values_of self.now)) }
     {
-        if !self.takes_ring() {
-            return Ok(self.text_task());
+        if self.takes_ring() {
+            return self.task_on_ring(alloc);
         }
-        let ring = self.ring(alloc)?;
-        Ok(self.ring_task(ring))
+        if self.takes_demand() {
+            return self.task_with_demand(alloc);
+        }
+        Ok(self.text_task())
     }
 
     // Returns whether the command takes a ring.
@@ -46,10 +54,18 @@ impl Call<'_, '_> {
         matches!(self.name, "run" | "trace" | "explain" | "plan" | "apply")
     }
 
-    // Returns the task of a command without a ring.
+    // Returns whether the command demands something of channels.
+    fn takes_demand(&self) -> bool
+        ensures { IsTrue result ↔ IsDemandName self.now.name.now }
+    {
+        matches!(self.name, "judge" | "audit" | "formula" | "refute")
+    }
+
+    // Returns the task of a command without a ring and a demand.
     fn text_task(&self) -> Task
         requires given { IsCall self.now }
         requires no_ring { ¬ IsRingName self.now.name.now }
+        requires no_demand { ¬ IsDemandName self.now.name.now }
         ensures task { IsTaskFor self.now.name.now (values_of self.now) result }
         ensures range { IsInRange result }
     {
@@ -58,68 +74,134 @@ impl Call<'_, '_> {
                 ids: self.number(&IDS),
             },
             "print" => Task::Print,
-            "audit" => Task::Audit,
             "migrate" => Task::Migrate,
-            "table" | "judge" => self.table_task(),
-            "formula" | "refute" => self.formula_task(),
+            "table" => self.table_task(),
             _ => unreachable!(),
         }
     }
 
-    // Returns the task of `table` or `judge`.
+    // Returns the task of `table`.
     fn table_task(&self) -> Task
         requires given { IsCall self.now }
-        requires named { (self.now.name.now ≡ codes "table") ⊎ (self.now.name.now ≡ codes "judge") }
+        requires named { self.now.name.now ≡ codes "table" }
+        ensures task { IsTaskFor self.now.name.now (values_of self.now) result }
+        ensures range { IsInRange result }
+    {
+        Task::Table {
+            ids: self.number(&IDS),
+            workers: self.number(&WORKERS),
+            near: self.number(&NEAR),
+            far: self.number(&FAR),
+        }
+    }
+
+    // Returns the task of a command that demands something of channels. Fails with `BadDemand` if the
+    // values of its options are no demand.
+    fn task_with_demand(&self, alloc: Global) -> Result<Task, WordsFault>
+        requires given { IsCall self.now }
+        requires named { IsDemandName self.now.name.now }
+        ensures task { IfOk result (IsTaskFor self.now.name.now (values_of self.now)) }
+        ensures range { IfOk result IsInRange }
+        ensures good { OnOk result (IsGoodCall self.now.name.now (values_of self.now)) }
+        ensures refused { IfErr result (IsCallFault self.now.name.now (values_of self.now)) }
+    {
+        let problem = problem_of(alloc, self.options)?;
+        Ok(match self.name {
+            "judge" => self.judge_task(problem),
+            "audit" => Task::Audit { problem },
+            _ => self.formula_task(problem),
+        })
+    }
+
+    // Returns the task of `judge` with this problem.
+    fn judge_task(&self, problem: Option<Problem>) -> Task
+        requires given { IsCall self.now }
+        requires named { self.now.name.now ≡ codes "judge" }
+        requires problem { IsProblemIn (values_of self.now) problem }
+        requires few { IfSome problem HasFewPatterns }
         ensures task { IsTaskFor self.now.name.now (values_of self.now) result }
         ensures range { IsInRange result }
     {
         let ids = self.number(&IDS);
         let workers = self.number(&WORKERS);
-        let near = self.number(&NEAR);
-        let far = self.number(&FAR);
-        if self.name == "table" {
-            return Task::Table {
-                ids,
-                workers,
-                near,
-                far,
-            };
-        }
+        let demand = self.demand(problem);
         Task::Judge {
             ids,
             workers,
-            near,
-            far,
+            demand,
         }
     }
 
-    // Returns the task of `formula` or `refute`.
-    fn formula_task(&self) -> Task
+    // Returns the task of `formula` or `refute` with this problem.
+    fn formula_task(&self, problem: Option<Problem>) -> Task
         requires given { IsCall self.now }
         requires named { (self.now.name.now ≡ codes "formula") ⊎ (self.now.name.now ≡ codes "refute") }
+        requires problem { IsProblemIn (values_of self.now) problem }
+        requires few { IfSome problem HasFewPatterns }
         ensures task { IsTaskFor self.now.name.now (values_of self.now) result }
         ensures range { IsInRange result }
     {
         let ids = self.number(&IDS);
         let rounds = self.number(&ROUNDS);
         let channels = self.number(&CHANNELS);
-        let near = self.number(&NEAR);
-        let far = self.number(&FAR);
+        let demand = self.demand(problem);
         if self.name == "formula" {
             return Task::Formula {
                 ids,
                 rounds,
                 channels,
-                near,
-                far,
+                demand,
             };
         }
         Task::Refute {
             ids,
             rounds,
             channels,
-            near,
-            far,
+            demand,
+        }
+    }
+
+    // Returns the demand of this problem, or without one that of `--near` and `--far`.
+    fn demand(&self, problem: Option<Problem>) -> Demand
+        requires given { IsCall self.now }
+        requires named { IsSeparationName self.now.name.now }
+        requires problem { IsProblemIn (values_of self.now) problem }
+        requires few { IfSome problem HasFewPatterns }
+        ensures demand { IsDemandFor (values_of self.now) result }
+        ensures range { IsDemandInRange result }
+    {
+        match problem {
+            Some(problem) => Demand::Solve(problem),
+            None => Demand::Apart(self.separation()),
+        }
+    }
+
+    // Returns the minimum differences of channels by `--near` and `--far`.
+    fn separation(&self) -> Separation
+        requires given { IsCall self.now }
+        requires named { IsSeparationName self.now.name.now }
+        ensures near { HasNumber (values_of self.now) (codes "near") result.near }
+        ensures far { HasNumber (values_of self.now) (codes "far") result.far }
+        ensures range { IsNear result.near × IsFar result.far }
+    {
+        let near = self.number(&NEAR);
+        let far = self.number(&FAR);
+        Separation { near, far }
+    }
+
+    // Returns the task of a command on a ring. Fails with `BadRing` if the value of `--ring` is not a
+    // ring text.
+    fn task_on_ring(&self, alloc: Global) -> Result<Task, WordsFault>
+        requires given { IsCall self.now }
+        requires on_ring { IsRingName self.now.name.now }
+        ensures task { IfOk result (IsTaskFor self.now.name.now (values_of self.now)) }
+        ensures range { IfOk result IsInRange }
+        ensures good { OnOk result (IsGoodCall self.now.name.now (values_of self.now)) }
+        ensures refused { IfErr result (IsCallFault self.now.name.now (values_of self.now)) }
+    {
+        match self.ring(alloc) {
+            Ok(ring) => Ok(self.ring_task(ring)),
+            Err(fault) => Err(fault),
         }
     }
 

@@ -4,6 +4,8 @@ ghost use Rattle.task_words.specs.ParsedWords.{IsParsedFrom, IsParsed, IsTipFor,
 ghost use Rattle.task_words.specs.Task.{IsRunnable};
 ghost use Rattle.task_words.specs.WordsFault.{words_fault_code};
 
+use crate::demand_fault::DemandFault;
+use crate::pattern_tips::pattern_tip;
 use crate::refused::{carriage_line, usage_advice, usage_text};
 use crate::ring_tips::{ring_tip, ring_word};
 use crate::task::Task;
@@ -82,7 +84,9 @@ fn print_fault<T: AllocGlobal + Eprint>(rt: &T, fault: &WordsFault, has_advice: 
             Err(_) => eprint!(rt; "{text}"),
         },
         WordsFault::Help(text) => eprint!(rt; "{text}"),
-        WordsFault::BadRing | WordsFault::OutOfMemory => eprintln!(rt; "{fault}"),
+        WordsFault::BadRing | WordsFault::BadDemand(_) | WordsFault::OutOfMemory => {
+            eprintln!(rt; "{fault}")
+        }
     };
 }
 
@@ -99,7 +103,9 @@ fn advice_on<T: AllocGlobal + Env>(rt: &T, fault: &WordsFault) -> Option<&'stati
 // refused.
 fn line_on_words<T: AllocGlobal + Env>(rt: &T, fault: &WordsFault) -> Option<&'static str> {
     match fault {
-        WordsFault::Usage(_) | WordsFault::BadRing => carriage_line(after_name(&words(rt).ok()?)),
+        WordsFault::Usage(_) | WordsFault::BadRing | WordsFault::BadDemand(_) => {
+            carriage_line(after_name(&words(rt).ok()?))
+        }
         WordsFault::Help(_) | WordsFault::OutOfMemory => None,
     }
 }
@@ -127,6 +133,8 @@ fn tip_for(
             Some(tip) => Ok(Some(String::from_str(alloc, tip.line())?)),
             None => Ok(None),
         },
+        WordsFault::BadDemand(DemandFault::BadPattern(_)) => pattern_tip(alloc, words),
+        WordsFault::BadDemand(cause) => Ok(Some(String::from_str(alloc, cause.line())?)),
         WordsFault::Help(_) | WordsFault::OutOfMemory => Ok(None),
     }
 }

@@ -7,6 +7,7 @@ ghost use Rattle.task_words.specs.RingText.{IsRingText};
 ghost use Rattle.task_words.specs.RingTips as texts;
 ghost use Rattle.task_words.specs.RingTips.{IsFirstBad, IsRingTip};
 
+use crate::option_words::option_value;
 use crate::ring_text::{number_of, parts};
 use source_places::write_escaped;
 use std::alloc::{AllocError, Global};
@@ -26,8 +27,8 @@ pub fn ring_tip(alloc: Global, text: &str) -> Result<Option<String>, AllocError>
     Ok(Some(part_tip(alloc, number, part)?))
 }
 
-// Returns a part so that each of its bytes is seen.
-fn seen(alloc: Global, part: &str) -> Result<String, AllocError>
+// Returns a text so that each of its bytes is seen.
+pub(crate) fn seen(alloc: Global, part: &str) -> Result<String, AllocError>
     ensures { IfOk result (λ text. string_bytes text ≡ escaped_bytes part.now) }
 {
     let mut text = String::new(alloc);
@@ -78,8 +79,5 @@ pub fn ring_word(words: &[String]) -> Option<&str>
 fn ring_value<'a>(last: &str, word: &'a str) -> Option<&'a str>
     ensures { option_map (λ text. text.now) result ≡ texts.ring_value last.now word.now }
 {
-    if last == "--ring" {
-        return Some(word);
-    }
-    word.strip_prefix("--ring=")
+    option_value("--ring", "--ring=", last, word)
 }

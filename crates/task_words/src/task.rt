@@ -2,9 +2,11 @@
 
 ghost use Rattle.std.specs.Prelude.{◌↔◌, IsTrue};
 ghost use Rattle.task_words.specs.Counts.{IsCount, IsNear, AreFormulaNumbers};
+ghost use Rattle.task_words.specs.Task.{HasFewPatterns, IsDemandInRange};
 
-use crate::limits::{MAX_CHANNELS, MAX_COUNT, MAX_DISTANCE, MAX_ROUNDS};
+use crate::limits::{MAX_CHANNELS, MAX_COUNT, MAX_DISTANCE, MAX_PATTERNS, MAX_ROUNDS};
 use numerals::Base;
+use ring_problems::{Demand, Problem};
 
 /// A task that the words of a command request.
 #[derive(Drop)]
@@ -28,17 +30,15 @@ pub enum Task {
         /// The minimum difference of the channels of places at distance two, 0 to `MAX_DISTANCE`.
         far: u32,
     },
-    /// Judges whether the channels of near places are far enough apart on every ring of identifiers
-    /// below `ids`, by the program text of the input.
+    /// Judges whether the channels are as demanded on every ring of identifiers below `ids`, by the
+    /// program text of the input.
     Judge {
         /// The number of identifiers.
         ids: u32,
         /// The number of workers, 1 to `MAX_COUNT`.
         workers: u32,
-        /// The minimum difference of neighbours' channels, 1 to `MAX_DISTANCE`.
-        near: u32,
-        /// The minimum difference of the channels of places at distance two, 0 to `MAX_DISTANCE`.
-        far: u32,
+        /// What is demanded of the channels.
+        demand: Demand,
     },
     /// Runs the program text of the input on a ring, for identifiers below `ids`.
     Run {
@@ -82,9 +82,12 @@ pub enum Task {
         /// The number of workers, 1 to `MAX_COUNT`.
         workers: u32,
     },
-    /// Judges whether the channels of near places are far enough apart on every ring, by the table
-    /// text of the input.
-    Audit,
+    /// Judges the channels on every ring by the table text of the input: whether they solve the
+    /// problem, or, without one, whether those of near places are far enough apart, as the text says.
+    Audit {
+        /// The problem, if there is one.
+        problem: Option<Problem>,
+    },
     /// Looks up the channels of a ring's places in the table of the table text of the input.
     Apply {
         /// The identifiers of the ring's places, from place 0 on.
@@ -92,8 +95,8 @@ pub enum Task {
     },
     /// Writes the table and the separation of the table text of the input in the newest version.
     Migrate,
-    /// Prints the formula that asks for a table of this many identifiers, rounds and channels that
-    /// keeps a separation, in DIMACS. Reads no input.
+    /// Prints the formula that asks for a table of this many identifiers, rounds and channels whose
+    /// channels are as demanded, in DIMACS. Reads no input.
     Formula {
         /// The number of identifiers.
         ids: u32,
@@ -101,10 +104,8 @@ pub enum Task {
         rounds: u32,
         /// The number of channels, 1 to `MAX_CHANNELS`.
         channels: u32,
-        /// The minimum difference of neighbours' channels, 1 to `MAX_DISTANCE`.
-        near: u32,
-        /// The minimum difference of the channels of places at distance two, 0 to `MAX_DISTANCE`.
-        far: u32,
+        /// What is demanded of the channels.
+        demand: Demand,
     },
     /// Checks whether the text of the input refutes that formula, so that there is no such table.
     Refute {
@@ -114,10 +115,8 @@ pub enum Task {
         rounds: u32,
         /// The number of channels, 1 to `MAX_CHANNELS`.
         channels: u32,
-        /// The minimum difference of neighbours' channels, 1 to `MAX_DISTANCE`.
-        near: u32,
-        /// The minimum difference of the channels of places at distance two, 0 to `MAX_DISTANCE`.
-        far: u32,
+        /// What is demanded of the channels.
+        demand: Demand,
     },
 }
 
@@ -127,8 +126,9 @@ impl Task {
 
     /// Returns whether the task can be done: its number of workers, if it has one, is 1 to
     /// `MAX_COUNT`, its minimum differences of channels, if it has any, are at most `MAX_DISTANCE`,
-    /// and at least 1 for neighbours, and the numbers of rounds and of channels of a formula are at
-    /// most `MAX_ROUNDS` and 1 to `MAX_CHANNELS`.
+    /// and at least 1 for neighbours, its problem, if it has one, has 1 to `MAX_PATTERNS` patterns,
+    /// and the numbers of rounds and of channels of a formula are at most `MAX_ROUNDS` and 1 to
+    /// `MAX_CHANNELS`.
     pub fn is_runnable(&self) -> bool
         ensures { IsTrue result ↔ IsRunnable self.now }
     {
@@ -138,28 +138,28 @@ impl Task {
                 near,
                 far,
                 ..
-            }
-            | Task::Judge {
-                workers,
-                near,
-                far,
-                ..
             } => is_count(*workers) && is_near(*near) && *far <= MAX_DISTANCE,
+            Task::Judge {
+                workers,
+                demand,
+                ..
+            } => is_count(*workers) && is_in_range(demand),
             Task::Plan { workers, .. } => is_count(*workers),
+            Task::Audit {
+                problem: Some(problem),
+            } => has_few_patterns(problem),
             Task::Formula {
                 rounds,
                 channels,
-                near,
-                far,
+                demand,
                 ..
             }
             | Task::Refute {
                 rounds,
                 channels,
-                near,
-                far,
+                demand,
                 ..
-            } => are_formula_numbers(*rounds, *channels, *near, *far),
+            } => are_formula_numbers(*rounds, *channels) && is_in_range(demand),
             _ => true,
         }
     }
@@ -172,16 +172,29 @@ fn is_count(count: u32) -> bool
     1 <= count && count <= MAX_COUNT
 }
 
-// Returns whether the words can request the formula with these numbers of rounds and channels and
-// these minimum differences of channels.
-fn are_formula_numbers(rounds: u32, channels: u32, near: u32, far: u32) -> bool
-    ensures { IsTrue result ↔ AreFormulaNumbers rounds channels near far }
+// Returns whether the words can request a formula with these numbers of rounds and channels.
+fn are_formula_numbers(rounds: u32, channels: u32) -> bool
+    ensures { IsTrue result ↔ AreFormulaNumbers rounds channels }
 {
-    rounds <= MAX_ROUNDS
-        && 1 <= channels
-        && channels <= MAX_CHANNELS
-        && is_near(near)
-        && far <= MAX_DISTANCE
+    rounds <= MAX_ROUNDS && 1 <= channels && channels <= MAX_CHANNELS
+}
+
+// Returns whether the words can request this demand.
+fn is_in_range(demand: &Demand) -> bool
+    ensures { IsTrue result ↔ IsDemandInRange demand.now }
+{
+    match demand {
+        Demand::Apart(separation) => is_near(separation.near) && separation.far <= MAX_DISTANCE,
+        Demand::Solve(problem) => has_few_patterns(problem),
+    }
+}
+
+// Returns whether the problem has as many patterns as the words can request.
+fn has_few_patterns(problem: &Problem) -> bool
+    ensures { IsTrue result ↔ HasFewPatterns problem.now }
+{
+    let count = problem.patterns().len();
+    1 <= count && count <= MAX_PATTERNS
 }
 
 // Returns whether the words can request this minimum difference of neighbours' channels.

@@ -64,6 +64,8 @@ pub enum Tip {
     RingInWords,
     /// A number behind a ring.
     StrayNumber,
+    /// A pattern in several words, or several patterns behind one `--forbid`.
+    PatternInWords,
     /// A number below 0.
     Negative,
     /// The name of a file.
@@ -104,6 +106,9 @@ impl Tip {
             Tip::RingInWords => "nbhd: a ring is one word with commas, as in `--ring 5,1,3,7`",
             Tip::StrayNumber => {
                 "nbhd: each number is the value of an option, as in `--ids 8`; a ring is one word with commas, as in `--ring 5,1,3,7`"
+            }
+            Tip::PatternInWords => {
+                "nbhd: a pattern is one word with commas, and each has its own `--forbid`, as in `--forbid 1,1 --forbid 0,0,0`"
             }
             Tip::Negative => "nbhd: numbers are written in digits, without a sign",
             Tip::FileName =>
@@ -176,7 +181,7 @@ fn takes_value(name: &[u8]) -> bool
     ensures { result ≡ tips.takes_value name.now }
 {
     is_one_of(
-        "--ids --ring --rounds --channels --near --far --workers --segments --place --base",
+        "--ids --ring --rounds --channels --near --far --forbid --problem --workers --segments --place --base",
         name,
     )
 }
@@ -265,6 +270,9 @@ fn tip_on(input: Input, before: &str, last: &str, word: &str) -> Option<Tip>
     if is_in_ring(before, last, word) {
         return Some(tip_in_ring(last, word));
     }
+    if is_in_pattern(before, last, word) {
+        return Some(Tip::PatternInWords);
+    }
     if is_negative(word) {
         return Some(Tip::Negative);
     }
@@ -343,6 +351,21 @@ fn is_ring(word: &str) -> bool
     ensures { result ≡ tips.is_ring word.now }
 {
     has_value(word) && name_part(word.as_bytes()) == b"--ring".as_slice()
+}
+
+// Returns whether a word is the second channel of a pattern that is given in several words, or a second
+// pattern behind one `--forbid`.
+fn is_in_pattern(before: &str, last: &str, word: &str) -> bool
+    ensures { result ≡ tips.is_in_pattern before.now last.now word.now }
+{
+    (before == "--forbid" || is_forbid(last)) && begins_with_digit(word.as_bytes())
+}
+
+// Returns whether a word is `--forbid` with its value.
+fn is_forbid(word: &str) -> bool
+    ensures { result ≡ tips.is_forbid word.now }
+{
+    has_value(word) && name_part(word.as_bytes()) == b"--forbid".as_slice()
 }
 
 // Returns whether a word is a list with commas in place of the value of `--near`.
@@ -520,6 +543,8 @@ fn is_all_capitals(name: &[u8]) -> bool
         || name == b"--CHANNELS".as_slice()
         || name == b"--NEAR".as_slice()
         || name == b"--FAR".as_slice()
+        || name == b"--FORBID".as_slice()
+        || name == b"--PROBLEM".as_slice()
         || name == b"--WORKERS".as_slice()
         || name == b"--SEGMENTS".as_slice()
         || name == b"--PLACE".as_slice()
@@ -536,6 +561,8 @@ fn has_first_capital(name: &[u8]) -> bool
         || name == b"--Channels".as_slice()
         || name == b"--Near".as_slice()
         || name == b"--Far".as_slice()
+        || name == b"--Forbid".as_slice()
+        || name == b"--Problem".as_slice()
         || name == b"--Workers".as_slice()
         || name == b"--Segments".as_slice()
         || name == b"--Place".as_slice()
@@ -553,6 +580,8 @@ fn has_one_minus(word: &str) -> bool
         || name == b"-channels".as_slice()
         || name == b"-near".as_slice()
         || name == b"-far".as_slice()
+        || name == b"-forbid".as_slice()
+        || name == b"-problem".as_slice()
         || name == b"-workers".as_slice()
         || name == b"-segments".as_slice()
         || name == b"-place".as_slice()

@@ -104,13 +104,13 @@ fn argument_advice(command: &[u8], word: &str) -> Option<&'static str> {
 fn has_colon(name: &[u8]) -> bool {
     name.contains(&b':')
         && is_one_of(
-            "--ids --ring --rounds --channels --near --far --workers --segments --place --base",
+            "--ids --ring --rounds --channels --near --far --forbid --problem --workers --segments --place --base",
             part_before(name, b':'),
         )
 }
 
-// Returns the line on a command without options, at which `clap` finds no option that is alike.
-fn no_options_line(text: &str, command: &[u8], word: &str) -> Option<&'static str> {
+// Returns the line on a command with few options, at which `clap` finds none that is alike.
+fn few_options_line(text: &str, command: &[u8], word: &str) -> Option<&'static str> {
     if text.split_once("  tip: ").is_some() || !matches!(word.as_bytes(), [b'-', _, ..]) {
         return None;
     }
@@ -118,7 +118,7 @@ fn no_options_line(text: &str, command: &[u8], word: &str) -> Option<&'static st
         return Some("nbhd: `nbhd migrate` has no options; it writes the newest version only");
     }
     if is_one_of("audit", command) {
-        return Some("nbhd: `nbhd audit` has no options");
+        return Some("nbhd: `nbhd audit` has no other options than `--forbid` and `--problem`");
     }
     None
 }
@@ -126,7 +126,7 @@ fn no_options_line(text: &str, command: &[u8], word: &str) -> Option<&'static st
 // Returns whether this is the name of an option without its minus signs.
 fn is_bare_option(word: &[u8]) -> bool {
     is_one_of(
-        "ids ring rounds channels near far workers segments place base",
+        "ids ring rounds channels near far forbid problem workers segments place base",
         word,
     )
 }
@@ -166,7 +166,13 @@ fn number_advice(command: &[u8], word: &[u8]) -> &'static str {
     if is_one_of("apply", command) {
         return "nbhd: each number is part of the value of `--ring`, as in `--ring 5,1,3,7`";
     }
-    if is_one_of("print audit migrate", command) {
+    if is_one_of("judge audit formula refute", command) && word.contains(&b',') {
+        return "nbhd: a pattern of channels is given by `--forbid`, as in `--forbid 1,1`";
+    }
+    if is_one_of("audit", command) {
+        return line_of(command, b"--ids");
+    }
+    if is_one_of("print migrate", command) {
         return "nbhd: this command has no options, and its text is read from standard input";
     }
     "nbhd: each number is the value of an option, as in `--ids 8`"
@@ -195,6 +201,6 @@ pub(crate) fn advice_on(text: &str, lower: &str, command: &str) -> Option<&'stat
     let word = quoted_after(text, "error: unexpected argument '")?;
     match argument_advice(command.as_bytes(), word) {
         Some(advice) => Some(advice),
-        None => no_options_line(text, command.as_bytes(), word),
+        None => few_options_line(text, command.as_bytes(), word),
     }
 }

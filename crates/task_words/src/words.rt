@@ -6,6 +6,7 @@ ghost use Rattle.task_words.specs.WordsFault.{IsNotUtf8};
 ghost use Rattle.task_words.specs.declared.words.WordsFault.TheVariants.{OutOfMemory};
 ghost use Rattle.std.specs.IoError.{error_kind};
 
+use crate::demand_fault::DemandFault;
 use crate::options::Call;
 use crate::parsing::parsed;
 use crate::task::Task;
@@ -26,6 +27,9 @@ pub enum WordsFault {
     /// The words are a command, but the value of `--ring` is not a ring text.
     #[error("nbhd: bad ring")]
     BadRing,
+    /// The words are a command, but the values of its options are no demand, for this cause.
+    #[error("nbhd: {0}")]
+    BadDemand(DemandFault),
     /// Memory was refused.
     #[error("nbhd: out of memory")]
     OutOfMemory,
@@ -43,7 +47,7 @@ impl WordsFault {
         ensures { result ≡ words_fault_code self.now }
     {
         match self {
-            WordsFault::Usage(_) | WordsFault::BadRing => 2,
+            WordsFault::Usage(_) | WordsFault::BadRing | WordsFault::BadDemand(_) => 2,
             WordsFault::OutOfMemory => 6,
             WordsFault::Help(_) => 0,
         }
@@ -84,13 +88,15 @@ pub fn words_fault(alloc: Global, error: io::Error) -> Result<WordsFault, AllocE
 }
 
 /// Returns the task that the words after the program's name request, by the rules of `clap`: the
-/// name of a command, and its options in any order, each with one value. The table of commands is in
-/// `commands.rt`. The value of `--ring` is a ring text, any other one a decimal number in the range of
-/// its option.
+/// name of a command, and its options in any order, each use with one value. The table of commands is in
+/// `commands.rt`. The value of `--ring` is a ring text, those of `--forbid` are pattern texts, that of
+/// `--problem` is the name of a problem, and any other one is a decimal number in the range of its
+/// option. Patterns, a problem by its name, and `--near` or `--far` exclude one another.
 ///
 /// Fails with `Usage` if `clap` refuses the words, with `BadRing` if it accepts them but the value
-/// of `--ring` is not a ring text, with `Help` if they ask for help, and with `OutOfMemory` if
-/// memory was refused.
+/// of `--ring` is not a ring text, with `BadDemand` and the cause if it accepts them but the values
+/// of these options are no demand, with `Help` if they ask for help, and with `OutOfMemory` if memory
+/// was refused.
 pub fn task_of(alloc: Global, words: &[String]) -> Result<Task, WordsFault>
     ensures { IsParsedFrom (map string_bytes words.now) result }
 {

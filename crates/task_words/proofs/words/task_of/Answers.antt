@@ -1,6 +1,6 @@
 use Rattle.std.proofs.Common.{◌∙◌, ap, inl, inr, map, string_bytes}
 use Rattle.clap.specs.Words.{found_of, rows_of}
-use Rattle.task_words.proofs.Calls.{call_is, met_of, no_text, task_is, told}
+use Rattle.task_words.proofs.Calls.{call_is, met_of, task_is, told}
 use Rattle.task_words.proofs.GivenOptions.{command_given, some_command}
 use Rattle.task_words.specs.Words.{IsCallOf}
 use Rattle.task_words.proofs.words.task_of.Goals.{Joined-matches}
@@ -29,12 +29,13 @@ returns c =
     let values = rows_of (found_of c.in-Some.options.now) in
     let taken = c.in_ok-matches.ensures.taken in
     let ensured = c.task.ensures in
-    let (ok, bad_ring) = told c.task.result words name values taken (call c) ensured.good ensured.refused in
+    let said = told c.task.result words name values taken (call c) ensured.good ensured.refused in
     record {
       task = task_is c.task.result words name values taken (call c) ensured.task;
       range = ensured.range;
-      ok = ok;
-      bad_ring = bad_ring;
-      usage = λ usage. no_text c.task.result _ ensured.refused (inl usage);
-      help = λ help. no_text c.task.result _ ensured.refused (inr help);
+      ok = said.ok;
+      bad_ring = said.bad_ring;
+      bad_demand = said.bad_demand;
+      usage = λ usage. absurd (said.no_text (inl usage));
+      help = λ help. absurd (said.no_text (inr help));
     }

@@ -9,9 +9,3 @@ number-rounds-requires-clause-taken c = elim c.requires.named [ inl is ↦ inl i
 
 pub number-channels-requires-clause-taken : goal.number-channels-requires-clause-taken
 number-channels-requires-clause-taken c = elim c.requires.named [ inl is ↦ inl is | inr is ↦ inr (inl is) ]
-
-pub number-near-requires-clause-taken : goal.number-near-requires-clause-taken
-number-near-requires-clause-taken c = elim c.requires.named [ inl is ↦ inr (inr (inl is)) | inr is ↦ inr (inr (inr (inl is))) ]
-
-pub number-far-requires-clause-taken : goal.number-far-requires-clause-taken
-number-far-requires-clause-taken c = elim c.requires.named [ inl is ↦ inr (inr (inl is)) | inr is ↦ inr (inr (inr (inl is))) ]
