@@ -2,3 +2,4 @@
 pub mod RingNotes
 pub mod VerdictNotes
 pub mod TableNotes
+pub mod PatternNotes

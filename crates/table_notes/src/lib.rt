@@ -2,10 +2,12 @@
 #![tactic(auto)]
 
 mod headers;
+mod patterns;
 mod rings;
 mod tables;
 mod verdicts;
 
+pub use patterns::{broken_note, idle_note};
 pub use rings::{place_note, ring_note, segments_note};
 pub use tables::table_note;
 pub use verdicts::{no_tuples_note, verdict_note};
