@@ -22,11 +22,11 @@ use Rattle.plan_print.specs.declared.engine.Reported.{Reported}
 -- the maximum number of bytes that are read of the input of a task: one more than the length of the longest text that the
 -- task is on, so that a longer one is noticed, or none if it is on no text
 abbrev pub max_read : Task → ℕ
-max_read Audit = LONGEST_TABLE_TEXT + 1
+max_read (Audit problem) = LONGEST_TABLE_TEXT + 1
 max_read (Apply places) = LONGEST_TABLE_TEXT + 1
 max_read Migrate = LONGEST_TABLE_TEXT + 1
-max_read (Formula ids rounds channels near far) = 0
-max_read (Refute ids rounds channels near far) = LONGEST_REFUTATION + 1
+max_read (Formula ids rounds channels demand) = 0
+max_read (Refute ids rounds channels demand) = LONGEST_REFUTATION + 1
 max_read _ = LONGEST_TEXT + 1
 
 -- What a call does with its reader and its writer: what the reader has left before and after it, what the writer has before
@@ -90,7 +90,7 @@ TellsFailures result read_failed write_failed =
 -- the number of workers or of segments that the task names, or 0
 abbrev pub thread_count_of : Task → ℕ
 thread_count_of (Table ids workers near far) = workers
-thread_count_of (Judge ids workers near far) = workers
+thread_count_of (Judge ids workers demand) = workers
 thread_count_of (Run ids ring segments) = segments
 thread_count_of (Plan ids ring workers) = workers
 thread_count_of _ = 0

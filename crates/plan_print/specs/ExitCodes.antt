@@ -13,7 +13,7 @@ use Rattle.task_words.specs.Task.{IsRunnable}
 use Rattle.task_words.specs.WordsFault.{words_fault_code}
 use Rattle.task_words.specs.declared.task.Task.{Task}
 use Rattle.task_words.specs.declared.words.WordsFault.{WordsFault}
-use Rattle.task_words.specs.declared.words.WordsFault.TheVariants.{Usage, BadRing, OutOfMemory, Help}
+use Rattle.task_words.specs.declared.words.WordsFault.TheVariants.{Usage, BadRing, BadDemand, OutOfMemory, Help}
 use Rattle.plan_print.specs.Engine.{thread_count_of}
 use Rattle.plan_print.specs.TaskReport.{IsReport}
 use Rattle.plan_print.specs.declared.engine.Reported.{Reported}
@@ -44,6 +44,7 @@ abbrev pub IsStatusAfter : WordsFault → ℕ → Type 0
 IsStatusAfter (Help text) status = (status ≡ exit_code Done) ⊎ (status ≡ engine_fault_code Write)
 IsStatusAfter (Usage text) status = status ≡ words_fault_code (Usage text)
 IsStatusAfter BadRing status = status ≡ words_fault_code BadRing
+IsStatusAfter (BadDemand f) status = status ≡ words_fault_code (BadDemand f)
 IsStatusAfter OutOfMemory status = status ≡ words_fault_code OutOfMemory
 
 -- the status after words that were parsed: that of a task, or that of the fault

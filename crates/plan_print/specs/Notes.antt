@@ -10,11 +10,12 @@ use Rattle.node_lang.specs.declared.fault.FaultKind.TheVariants as kind
 use Rattle.table_text.specs.declared.fault.TableFault.TheVariants as table
 use Rattle.fault_notes.specs.TextNotes.{IsTextNote, IsLongNote}
 use Rattle.fault_notes.specs.ProgramNotes.{IsCheckNote, IsIdsNote}
+use Rattle.table_notes.specs.PatternNotes.{broken_note, idle_note}
 use Rattle.table_notes.specs.RingNotes.{place_note, ring_note, segments_note}
 use Rattle.table_notes.specs.TableNotes.{IsTableNote}
 use Rattle.table_notes.specs.VerdictNotes.{no_tuples_note, verdict_note, HasPlaces}
 use Rattle.table_formula.specs.declared.fault.RefuteError.TheVariants as refute
-use Rattle.reports.specs.Causes.{Reason, of_text, of_program, of_ring, of_place, of_segments, of_table_text, of_formula, of_refutation, of_no, of_no_tuples}
+use Rattle.reports.specs.Causes.{Reason, of_text, of_program, of_ring, of_place, of_segments, of_table_text, of_formula, of_refutation, of_no, of_no_tuples, of_broken, of_idle}
 use Rattle.table_formula.specs.RefutationNotes.{IsRefutationNote}
 use Rattle.reports.specs.declared.problem.ProblemFault.{ProblemFault}
 use Rattle.reports.specs.declared.problem.ProblemFault.TheVariants as problem
@@ -47,6 +48,8 @@ IsNote input (of_formula m t f) note = IsFormulaNote m t f note
 IsNote input (of_refutation f) note = IsRefutationNote input f note
 IsNote input (of_no ring places channels) note = note ≡ verdict_note ring places channels
 IsNote input (of_no_tuples nodes ids) note = note ≡ no_tuples_note nodes ids
+IsNote input (of_broken ring place channels pattern known idle) note = note ≡ broken_note ring place channels pattern known idle
+IsNote input (of_idle idle) note = note ≡ idle_note idle
 
 -- the note of a report: without a cause there is none, else it is on the cause, unless memory for it was refused
 abbrev pub IsNoteOn : List ℕ → Option Reason → Option (Result (String Global) OutOfMemory) → Type 0

@@ -1,24 +1,20 @@
 -- The report: the bytes and the status for a task and an input.
 use Rattle.std.specs.Prelude.{ℕ, List, Option, None, Some, MatchOption, length}
 use Rattle.node_program.specs.Term.{ProgramTree}
-use Rattle.table_formula.specs.Problems.{Problem}
 use Rattle.table_fill.specs.ProgramTables.{table_of}
-use Rattle.reports.specs.Report.{Report, Says, accepted_line, place_lines, IsAnswerOnRing, IsApplyAnswer, IsExplainAnswer, IsJudgement, IsPrintReport, IsProgramReport, IsRunAnswer, IsTableReport, IsTableText}
+use Rattle.reports.specs.Report.{Report, Says, accepted_line, place_lines, IsAnswerOnRing, IsApplyAnswer, IsAudit, IsDemandJudgement, IsExplainAnswer, IsPrintReport, IsProgramReport, IsRunAnswer, IsTableReport, IsTableText}
 use Rattle.reports.specs.FormulaReports.{IsFormulaReport, IsRefuteReport}
+use Rattle.reports.specs.ProblemFaults.{problem}
 use Rattle.reports.specs.declared.status.Status.TheVariants.{Done}
 use Rattle.value_trees.specs.Trace.{trace_lines}
 use Rattle.task_words.specs.declared.task.Task.{Task}
 use Rattle.task_words.specs.declared.task.Task.TheVariants.{Check, Print, Table, Judge, Run, Trace, Explain, Plan, Audit, Apply, Migrate, Formula, Refute}
 
--- whether there is a table of so many identifiers, rounds and channels that keeps this separation
-abbrev pub problem : (ids rounds channels near far : ℕ) → Problem
-problem ids rounds channels near far = record { ids = ids; rounds = rounds; channels = channels; separation = record { near = near; far = far } }
-
 -- the number of identifiers for which a task asks about an accepted program, None if it asks about none
 abbrev pub program_ids : Task → Option ℕ
 program_ids (Check ids) = Some ids
 program_ids (Table ids workers near far) = Some ids
-program_ids (Judge ids workers near far) = Some ids
+program_ids (Judge ids workers demand) = Some ids
 program_ids (Run ids places segments) = Some ids
 program_ids (Trace ids places base) = Some ids
 program_ids (Explain ids places place base) = Some ids
@@ -30,7 +26,7 @@ program_ids _ = None
 abbrev pub IsAnswerTo : Task → ℕ → ProgramTree → Report → Type 0
 IsAnswerTo (Check _) ids p = Says (accepted_line ids p) Done
 IsAnswerTo (Table _ workers near far) ids p = IsTableText (table_of p ids) (record { near = near; far = far })
-IsAnswerTo (Judge _ workers near far) ids p = IsJudgement (table_of p ids) (record { near = near; far = far })
+IsAnswerTo (Judge _ workers demand) ids p = IsDemandJudgement (table_of p ids) demand
 IsAnswerTo (Run _ places segments) ids p = IsAnswerOnRing ids (length p.steps) places.items (IsRunAnswer p places.items segments)
 IsAnswerTo (Trace _ places base) ids p = IsAnswerOnRing ids (length p.steps) places.items (Says (trace_lines base p places.items) Done)
 IsAnswerTo (Explain _ places place base) ids p = IsAnswerOnRing ids (length p.steps) places.items (IsExplainAnswer base p places.items place)
@@ -41,11 +37,11 @@ IsAnswerTo _ ids p = λ r. ⊥
 -- at all, and refute on a refutation.
 abbrev pub IsTextReport : Task → List ℕ → Report → Type 0
 IsTextReport Print input r = IsPrintReport input r
-IsTextReport Audit input r = IsTableReport IsJudgement input r
+IsTextReport (Audit problem) input r = IsTableReport (IsAudit problem) input r
 IsTextReport (Apply places) input r = IsTableReport (IsApplyAnswer places.items) input r
 IsTextReport Migrate input r = IsTableReport IsTableText input r
-IsTextReport (Formula ids rounds channels near far) input r = IsFormulaReport (problem ids rounds channels near far) r
-IsTextReport (Refute ids rounds channels near far) input r = IsRefuteReport (problem ids rounds channels near far) input r
+IsTextReport (Formula ids rounds channels demand) input r = IsFormulaReport (problem ids rounds channels demand) r
+IsTextReport (Refute ids rounds channels demand) input r = IsRefuteReport (problem ids rounds channels demand) input r
 IsTextReport _ input r = ⊥
 
 -- The report of a task on an input. If the task asks about an accepted program, it refuses the program text or gives the answer.

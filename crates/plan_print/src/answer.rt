@@ -8,20 +8,23 @@ ghost use Rattle.plan_print.specs.Engine.{IsTaskFault};
 ghost use Rattle.plan_print.specs.ReportedFaults.{reported_fill_fault, reported_run_fault};
 ghost use Rattle.reports.specs.Answers.{report_in};
 ghost use Rattle.reports.specs.Report as report;
-ghost use Rattle.reports.specs.Report.{Says, IsAnswerOnRing, IsJudgement, IsRunAnswer};
+ghost use Rattle.reports.specs.Report.{Says, IsAnswerOnRing, IsDemandJudgement, IsJudgement, IsProblemJudgement, IsRunAnswer};
 
+use crate::first_broken::first_broken;
 use crate::first_tuples::first_witness;
 use crate::places::places_text;
 use channel_tables::Table;
 use devices::fault::EngineFault;
 use lang_check::Plan;
-use nbhd_check::{Separation, judge_with_workers};
+use nbhd_check::{Separation, judge_problem_with_workers, judge_with_workers};
 use reports::answer::Answer;
 use reports::judgement::{no_answer, verdict_answer};
 use reports::lines::numbers_line;
+use reports::problem_judgement::{broken_answer, problem_answer};
 use reports::rings::{ring_in, segments_refusal};
 use reports::status::Status;
 use ring_exec::{RunFault, run};
+use ring_problems::{Demand, Problem};
 use round_eval::OpenGate;
 use shared_memo::Memo;
 use std::alloc::Global;
@@ -106,6 +109,44 @@ pub(crate) fn plan_answer<T: Threads + Wait + Sync>(
 // Returns the report of the judge on the table of an accepted program. If one of its first tuples is
 // bad, no table is made; else this many workers fill and judge the table.
 pub(crate) fn judge_report<T: Threads + Wait + Sync>(
+    rt: &T,
+    alloc: Global,
+    plan: &Plan,
+    demand: Demand,
+    workers: u32,
+) -> Result<Answer, EngineFault>
+    requires { IsCount workers }
+    ensures answer { IfOk result (λ r. IsDemandJudgement (table_of plan.now.program plan.now.ids) demand (report_in r)) }
+    ensures fault { IfErr result (IsTaskFault workers) }
+{
+    match demand {
+        Demand::Apart(separation) => apart_report(rt, alloc, plan, separation, workers),
+        Demand::Solve(problem) => problem_report(rt, alloc, plan, &problem, workers),
+    }
+}
+
+// Like `judge_report`, on a problem.
+fn problem_report<T: Threads + Wait + Sync>(
+    rt: &T,
+    alloc: Global,
+    plan: &Plan,
+    problem: &Problem,
+    workers: u32,
+) -> Result<Answer, EngineFault>
+    requires { IsCount workers }
+    ensures answer { IfOk result (λ r. IsProblemJudgement (table_of plan.now.program plan.now.ids) problem.now (report_in r)) }
+    ensures fault { IfErr result (IsTaskFault workers) }
+{
+    if let Some(witness) = first_broken(alloc, plan, problem.patterns())? {
+        return Ok(broken_answer(alloc, plan.channels(), problem, witness)?);
+    }
+    let table = filled_table(rt, alloc, plan, workers)?;
+    let verdict = judge_problem_with_workers(rt, alloc, &table, problem.patterns(), workers)?;
+    Ok(problem_answer(alloc, &table, problem, verdict)?)
+}
+
+// Like `judge_report`, on a separation.
+fn apart_report<T: Threads + Wait + Sync>(
     rt: &T,
     alloc: Global,
     plan: &Plan,

@@ -59,8 +59,8 @@ pub fn engine<T: Threads + Wait + Sync, R: Read, W: Write>(
 #[derive(Drop)]
 pub struct Reported {
     pub status: Status,
-    /// `None` if the report has no cause, since it is neither a refusal nor a no nor a yes over no
-    /// tuples. Without memory for the note it is an error.
+    /// `None` if the report has no cause, since it is neither a refusal nor a no, nor a yes over no
+    /// tuples or with a pattern that never matches. Without memory for the note it is an error.
     pub note: Option<Result<String, OutOfMemory>>,
 }
 
@@ -102,7 +102,7 @@ fn max_read(task: &Task) -> usize
     ensures { result ≡ max_read task.now }
 {
     match task {
-        Task::Audit | Task::Apply { .. } | Task::Migrate => LONGEST_TABLE_TEXT + 1,
+        Task::Audit { .. } | Task::Apply { .. } | Task::Migrate => LONGEST_TABLE_TEXT + 1,
         Task::Formula { .. } => 0,
         Task::Refute { .. } => LONGEST_REFUTATION + 1,
         _ => LONGEST_TEXT + 1,

@@ -3,6 +3,7 @@
 
 mod answer;
 pub mod engine;
+mod first_broken;
 mod first_tuples;
 pub mod note;
 mod places;

@@ -11,7 +11,10 @@ use reports::cause::Cause;
 use reports::problem::ProblemFault;
 use std::alloc::Global;
 use table_formula::refutation_note;
-use table_notes::{no_tuples_note, place_note, ring_note, segments_note, table_note, verdict_note};
+use table_notes::{
+    broken_note, idle_note, no_tuples_note, place_note, ring_note, segments_note, table_note,
+    verdict_note,
+};
 
 /// Returns the note on a cause in this input. Fails if memory was refused.
 pub fn note_on(alloc: Global, input: &[u8], cause: &Cause) -> Result<String, OutOfMemory>
@@ -38,6 +41,12 @@ pub fn note_on(alloc: Global, input: &[u8], cause: &Cause) -> Result<String, Out
         Cause::Refutation(fault) => refutation_note(alloc, input, *fault),
         Cause::No(witness) => verdict_note(alloc, witness),
         Cause::NoTuples { nodes, ids } => no_tuples_note(alloc, *nodes, *ids),
+        Cause::Broken {
+            witness,
+            known,
+            idle,
+        } => broken_note(alloc, witness, *known, *idle),
+        Cause::Idle(idle) => idle_note(alloc, *idle),
     }
 }
 

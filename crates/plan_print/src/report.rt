@@ -2,10 +2,9 @@
 //! accepted, on the table and the separation of a table text, or on a formula.
 
 ghost use Rattle.std.specs.Prelude.{◌≡◌, IfOk, IfErr, Some, None};
-ghost use Rattle.plan_print.specs.TaskReport.{problem, program_ids, IsAnswerTo, IsReport, IsTextReport};
+ghost use Rattle.plan_print.specs.TaskReport.{program_ids, IsAnswerTo, IsReport, IsTextReport};
 ghost use Rattle.plan_print.specs.Engine.{thread_count_of, IsTaskFault};
 ghost use Rattle.reports.specs.Answers.{report_in};
-ghost use Rattle.reports.specs.ProblemFaults.{problem_of};
 ghost use Rattle.reports.specs.Report.{IsProgramReport};
 ghost use Rattle.task_words.specs.Task.{IsRunnable};
 
@@ -57,7 +56,7 @@ fn program_ids(task: &Task) -> Option<u32>
         | Task::Explain { ids, .. }
         | Task::Plan { ids, .. } => Some(*ids),
         Task::Print
-        | Task::Audit
+        | Task::Audit { .. }
         | Task::Apply { .. }
         | Task::Migrate
         | Task::Formula { .. }
@@ -115,10 +114,9 @@ fn program_answer<T: Threads + Wait + Sync>(
         }
         Task::Judge {
             workers,
-            near,
-            far,
+            demand,
             ..
-        } => judge_report(rt, alloc, plan, Separation { near, far }, workers),
+        } => judge_report(rt, alloc, plan, demand, workers),
         Task::Run { ring, segments, .. } => run_answer(rt, alloc, plan, ring, segments),
         Task::Trace { ring, base, .. } => Ok(trace_answer(alloc, base, plan, ring)?),
         Task::Explain {
@@ -145,36 +143,38 @@ fn text_report<T: Threads + Sync>(
 {
     match task {
         Task::Print => print_report(alloc, input),
-        Task::Audit => audit_text_report(rt, alloc, input),
+        Task::Audit { problem } => audit_text_report(rt, alloc, problem, input),
         Task::Apply { ring } => apply_report(alloc, input, ring),
         Task::Migrate => migrate_report(alloc, input),
         Task::Formula {
             ids,
             rounds,
             channels,
-            near,
-            far,
-        } => formula_report(alloc, numbers_of(ids, rounds, channels, near, far)),
+            demand,
+        } => formula_report(
+            alloc,
+            ProblemNumbers {
+                ids,
+                rounds,
+                channels,
+                demand: &demand,
+            },
+        ),
         Task::Refute {
             ids,
             rounds,
             channels,
-            near,
-            far,
-        } => refute_report(alloc, numbers_of(ids, rounds, channels, near, far), input),
+            demand,
+        } => refute_report(
+            alloc,
+            ProblemNumbers {
+                ids,
+                rounds,
+                channels,
+                demand: &demand,
+            },
+            input,
+        ),
         _ => unreachable!(),
-    }
-}
-
-// Returns the numbers of a problem.
-fn numbers_of(ids: u32, rounds: u32, channels: u32, near: u32, far: u32) -> ProblemNumbers
-    ensures numbers { problem_of result ≡ problem ids rounds channels near far }
-    ensures rounds { result.rounds ≡ rounds }
-{
-    ProblemNumbers {
-        ids,
-        rounds,
-        channels,
-        separation: Separation { near, far },
     }
 }

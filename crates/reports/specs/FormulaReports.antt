@@ -1,6 +1,9 @@
 -- The reports of the tasks on a formula.
-use Rattle.std.specs.Prelude.{◌≢◌, ℕ, List, [], ◌∷◌, codes}
+use Rattle.std.specs.Prelude.{◌≢◌, ℕ, List, [], ◌∷◌, ◌++◌, codes}
 use Rattle.std.specs.Fmt.{decimal}
+use Rattle.channel_tables.specs.declared.separation.Separation.{Separation}
+use Rattle.ring_problems.specs.declared.pattern.Pattern.{Pattern}
+use Rattle.ring_problems.specs.PatternTexts.{patterns_text}
 use Rattle.table_formula.specs.Problems.{Problem}
 use Rattle.table_formula.specs.Texts.{formula_text}
 use Rattle.table_formula.specs.Refutations.{IsRefutation, IsFault}
@@ -23,11 +26,16 @@ formula_fault_line problem.TooManyWindows = line (codes "formula fault X2" ∷ [
 formula_fault_line problem.TooManyVariables = line (codes "formula fault V1" ∷ [])
 formula_fault_line problem.TooManyClauses = line (codes "formula fault V2" ∷ [])
 
+-- what a problem asks of the channels: near and far if no pattern is forbidden, else the patterns
+abbrev pub demand_text : Separation → List Pattern → List ℕ
+demand_text s [] = codes " near " ++ (decimal s.near ++ (codes " far " ++ decimal s.far))
+demand_text s patterns = codes " forbid" ++ patterns_text patterns
+
 -- the line of a problem whose formula is refuted
 abbrev pub refuted_line : Problem → List ℕ
 refuted_line p =
     line (codes "refuted: ids " ∷ decimal p.ids ∷ codes " rounds " ∷ decimal p.rounds ∷ codes " channels " ∷ decimal p.channels
-    ∷ codes " near " ∷ decimal p.separation.near ∷ codes " far " ∷ decimal p.separation.far ∷ [])
+    ∷ demand_text p.separation p.forbidden ∷ [])
 
 -- the number of a fault of a line of a refutation; a text that is too long has number 1
 abbrev pub line_fault_number : LineFault → ℕ

@@ -1,4 +1,7 @@
 -- The numbers of a problem, and why there is no formula of them.
+use Rattle.std.specs.Prelude.{ℕ}
+use Rattle.ring_problems.specs.declared.problem.Demand.{Demand}
+use Rattle.ring_problems.specs.Demands.{forbidden_of, separation_of}
 use Rattle.win_index.specs.ShapeRange.{IsShape}
 use Rattle.win_index.specs.ShapeFaults.{IsFirstShapeFault}
 use Rattle.win_index.specs.declared.shape.ShapeFault.TheVariants as shape
@@ -12,9 +15,19 @@ use Rattle.reports.specs.declared.problem.ProblemNumbers.{ProblemNumbers}
 use Rattle.reports.specs.declared.formulas.NoFormula.{NoFormula}
 use Rattle.reports.specs.declared.formulas.NoFormula.TheVariants as none
 
+-- whether there is a table of so many identifiers, rounds and channels that is as demanded
+abbrev pub problem : (ids rounds channels : ℕ) → Demand → Problem
+problem ids rounds channels demand = record {
+  ids = ids;
+  rounds = rounds;
+  channels = channels;
+  separation = separation_of demand;
+  forbidden = forbidden_of demand;
+}
+
 -- the problem of these numbers
 abbrev pub problem_of : ProblemNumbers → Problem
-problem_of n = record { ids = n.ids; rounds = n.rounds; channels = n.channels; separation = n.separation }
+problem_of n = problem n.ids n.rounds n.channels n.demand.now
 
 -- there is a formula of the problem: its identifiers and rounds are a shape, and it is not too large
 pub record HasFormula (p : Problem) : Type 0 where

@@ -1,5 +1,5 @@
 -- Reports: their bytes, their status and their cause, on a text, on a program, on a table or on a ring.
-use Rattle.std.specs.Prelude.{◌≡◌, ◌≢◌, ◌==◌, ◌&&◌, if◌then◌else◌, ℕ, zero, suc, ◌+◌, ◌*◌, ◌<◌, ◌≤◌, List, [], ◌∷◌, Option, Some, None, length, slice_index, codes}
+use Rattle.std.specs.Prelude.{◌≡◌, ◌≢◌, ◌==◌, ◌&&◌, if◌then◌else◌, ℕ, zero, suc, ◌+◌, ◌*◌, ◌%◌, ◌<◌, ◌≤◌, List, [], ◌∷◌, Option, Some, None, length, map, max, option_map, take, slice_index, codes}
 use Rattle.std.specs.List.{flat_map, range_with_len}
 use Rattle.std.specs.Fmt.{decimal}
 use Rattle.node_lang.specs.declared.fault.FaultKind.{FaultKind}
@@ -24,12 +24,22 @@ use Rattle.channel_tables.specs.Tables.{ChannelTable, channel_of}
 use Rattle.channel_tables.specs.declared.separation.Separation.{Separation}
 use Rattle.channel_tables.specs.Apart.{extra, tuples, IsApartEverywhere}
 use Rattle.channel_tables.specs.Witnesses.{IsWitness}
+use Rattle.ring_problems.specs.declared.pattern.Pattern.{Pattern}
+use Rattle.ring_problems.specs.declared.problem.Demand.{Demand}
+use Rattle.ring_problems.specs.declared.problem.Demand.TheVariants.{Apart, Solve}
+use Rattle.ring_problems.specs.declared.problem.Problem.{Problem}
+use Rattle.ring_problems.specs.Demands.{known_in, patterns_of}
+use Rattle.ring_problems.specs.Idle.{idle_in}
+use Rattle.ring_problems.specs.PatternTexts.{span}
+use Rattle.ring_problems.specs.Problems as problems
+use Rattle.ring_problems.specs.Problems.{IsSolvedEverywhere}
+use Rattle.ring_problems.specs.Witnesses as problem_witnesses
 use Rattle.border_exchange.specs.SegmentCounts.{IsSegmentCount}
 use Rattle.reports.specs.declared.status.Status.{Status}
 use Rattle.reports.specs.declared.status.Status.TheVariants.{Done, No, Words, Refused, RingRefused}
 use Rattle.numerals.specs.declared.base.Base.{Base}
 use Rattle.value_trees.specs.Explanation.{explanation}
-use Rattle.reports.specs.Causes.{Reason, of_text, of_program, of_ring, of_place, of_segments, of_table_text, of_no, of_no_tuples}
+use Rattle.reports.specs.Causes.{Reason, of_text, of_program, of_ring, of_place, of_segments, of_table_text, of_no, of_no_tuples, of_broken, of_idle}
 use Rattle.reports.specs.Lines.{line, numbers_text, right_aligned}
 use Rattle.table_text.specs.declared.fault.TableFault.{TableFault}
 use Rattle.table_text.specs.declared.fault.TableFault.TheVariants as table
@@ -40,7 +50,7 @@ use Rattle.table_text.specs.Faults.{IsFault}
 pub record Report : Type 0 where
   pub bytes : List ℕ
   pub status : Status
-  -- that of a refusal, a no, or a yes over no tuples
+  -- that of a refusal, a no, or a yes over no tuples or with a pattern that never matches
   pub cause : Option Reason
 
 -- the report has these bytes, this status and this cause, if any
@@ -128,6 +138,20 @@ abbrev pub no_line : Separation → List ℕ → ℕ × ℕ → ℕ × ℕ → L
 no_line s ring places channels =
     if (s.near == 1) && (s.far == 0) then bad_line ring places.0 channels.0 else close_line ring places channels
 
+-- so many places of a ring, from this one on
+abbrev pub places_from : List ℕ → ℕ → ℕ → List ℕ
+places_from ring place count = map (λ step. (place + step) % length ring) (range_with_len 0 count)
+
+-- how many places the line of a pattern that matches has: those up to its last entry that asks for a channel, at least two
+abbrev pub shown : Pattern → ℕ
+shown pattern = max 2 (span pattern)
+
+-- the line of a ring on which the channels of a place and of those after it match a pattern
+abbrev pub broken_line : List ℕ → ℕ → ℕ × ℕ × ℕ → Pattern → List ℕ
+broken_line ring place channels pattern =
+    line (codes "no: ring " ∷ numbers_text ring ∷ codes " places " ∷ numbers_text (places_from ring place (shown pattern)) ∷ codes " channels "
+    ∷ numbers_text (take (shown pattern) (channels.0 ∷ channels.1 ∷ channels.2 ∷ [])) ∷ [])
+
 -- the line of a place, with its identifier and its channel
 abbrev pub place_line : ℕ → ℕ → ℕ → List ℕ
 place_line place id channel =
@@ -167,6 +191,28 @@ IsYes t s count = Tells (good_line count) Done (yes_cause t s count)
 pub data IsJudgement (t : ChannelTable) (s : Separation) (r : Report) : Type 0 where
   good : IsApartEverywhere t s → IsYes t s (length (tuples t s)) r → IsJudgement t s r
   bad : (ring : List ℕ) (places channels : ℕ × ℕ) → IsWitness t s ring places channels → Refuses (no_line s ring places channels) No (of_no ring places channels) r → IsJudgement t s r
+
+-- The report of the judge on a problem: the table solves it, or a pattern matches on this ring. Its cause tells of a pattern that
+-- never matches, as the table lacks a channel.
+pub data IsProblemJudgement (t : ChannelTable) (problem : Problem) (r : Report) : Type 0 where
+  solved : IsSolvedEverywhere t (patterns_of problem)
+      → Tells (good_line (length (problems.tuples t (patterns_of problem)))) Done (option_map of_idle (idle_in (patterns_of problem) t.channels)) r
+      → IsProblemJudgement t problem r
+  broken : (ring : List ℕ) (place : ℕ) (channels : ℕ × ℕ × ℕ) (pattern : Pattern)
+      → problem_witnesses.IsWitness t (patterns_of problem) ring place channels pattern
+      → Refuses (broken_line ring place channels pattern) No
+      (of_broken ring place channels pattern (known_in problem) (idle_in (patterns_of problem) t.channels)) r
+      → IsProblemJudgement t problem r
+
+-- the report of the judge on what is asked of the channels
+abbrev pub IsDemandJudgement : ChannelTable → Demand → Report → Type 0
+IsDemandJudgement t (Apart separation) = IsJudgement t separation
+IsDemandJudgement t (Solve problem) = IsProblemJudgement t problem
+
+-- the report of the judge on a table text: on the problem, or if there is none, on the text's separation
+abbrev pub IsAudit : Option Problem → ChannelTable → Separation → Report → Type 0
+IsAudit None t s = IsJudgement t s
+IsAudit (Some problem) t s = IsProblemJudgement t problem
 
 -- The report on a list of identifiers, for m identifiers and t rounds: the first fault of a list that is not a ring, or
 -- the report on the ring.

@@ -23,7 +23,8 @@ pub struct TableReport {
 pub enum Answer {
     /// Its text and its status.
     Text(String, Status),
-    /// Its text and its status, with its cause: it is a refusal, a no, or a yes over no tuples.
+    /// Its text and its status, with its cause: it is a refusal, a no, or a yes over no tuples or with
+    /// a pattern that never matches.
     WithCause(String, Status, Cause),
     /// The same, with a text for which no memory is needed.
     Fixed(&'static str, Status, Cause),

@@ -1,14 +1,17 @@
-//! The cause of a report that is a refusal, a no, or a yes over no tuples.
+//! The cause of a report that is a refusal, a no, or a yes over no tuples or with a pattern
+//! that never matches.
 
 use crate::problem::ProblemFault;
 use lang_check::CheckFault;
-use nbhd_check::Witness;
+use nbhd_check::{PatternWitness, Witness};
 use node_lang::{Program, TextFault};
+use ring_problems::{IdlePattern, KnownProblem};
 use table_formula::RefuteError;
 use table_text::TableFault;
 use win_index::RingFault;
 
-/// The cause of a report that is a refusal, a no, or a yes over no tuples.
+/// The cause of a report that is a refusal, a no, or a yes over no tuples or with a pattern that never
+/// matches.
 #[derive(Drop)]
 pub enum Cause {
     /// The fault of a program text.
@@ -54,4 +57,14 @@ pub enum Cause {
         nodes: usize,
         ids: u32,
     },
+    /// The ring, the places and their channels that a pattern matches.
+    Broken {
+        witness: PatternWitness,
+        /// The problem's name, if it has one.
+        known: Option<KnownProblem>,
+        /// A pattern that never matches, if there is one.
+        idle: Option<IdlePattern>,
+    },
+    /// A yes to a problem with a pattern that never matches.
+    Idle(IdlePattern),
 }

@@ -2,9 +2,12 @@
 
 ghost use Rattle.std.specs.Prelude.{◌≡◌, IfOk, string_bytes};
 ghost use Rattle.reports.specs.FormulaReports as report;
+ghost use Rattle.ring_problems.specs.Demands.{forbidden_of, separation_of};
 ghost use Rattle.reports.specs.ProblemFaults.{problem_of};
 
 use crate::problem::{ProblemFault, ProblemNumbers};
+use channel_tables::Separation;
+use ring_problems::{Demand, patterns_text};
 use std::alloc::{AllocError, Global};
 use table_formula::{LineFault, RefuteError};
 
@@ -21,17 +24,27 @@ pub(crate) fn formula_fault_line(fault: ProblemFault) -> &'static str
 }
 
 // Returns the line of a problem whose formula is refuted.
-pub(crate) fn refuted_line(alloc: Global, numbers: ProblemNumbers) -> Result<String, AllocError>
-    ensures { IfOk result (λ text. string_bytes text ≡ report.refuted_line (problem_of numbers)) }
+pub(crate) fn refuted_line(alloc: Global, numbers: ProblemNumbers<'_>) -> Result<String, AllocError>
+    ensures { IfOk result (λ text. string_bytes text ≡ report.refuted_line (problem_of numbers.entry)) }
 {
     let ids = numbers.ids;
     let rounds = numbers.rounds;
     let channels = numbers.channels;
-    let near = numbers.separation.near;
-    let far = numbers.separation.far;
-    format!(in alloc;
-        "refuted: ids {ids} rounds {rounds} channels {channels} near {near} far {far}\n"
-    )
+    let demand = demand_text(alloc, numbers.demand)?;
+    format!(in alloc; "refuted: ids {ids} rounds {rounds} channels {channels}{demand}\n")
+}
+
+// Returns the words of what is asked of the channels.
+fn demand_text(alloc: Global, demand: &Demand) -> Result<String, AllocError>
+    ensures { IfOk result (λ text. string_bytes text ≡ report.demand_text (separation_of demand.now) (forbidden_of demand.now)) }
+{
+    let forbidden = demand.forbidden();
+    if forbidden.is_empty() {
+        let Separation { near, far } = demand.separation();
+        return format!(in alloc; " near {near} far {far}");
+    }
+    let patterns = patterns_text(alloc, forbidden)?;
+    format!(in alloc; " forbid{patterns}")
 }
 
 // Returns the line of a text of a refutation whose line with this number has this fault.

@@ -25,10 +25,10 @@ use win_index::{Shape, ShapeFault};
 
 /// Returns the report with the formula of these numbers. Refused memory never replaces the refusal
 /// of the numbers.
-pub fn formula_report(alloc: Global, numbers: ProblemNumbers) -> Result<Answer, OutOfMemory>
+pub fn formula_report(alloc: Global, numbers: ProblemNumbers<'_>) -> Result<Answer, OutOfMemory>
     requires { numbers.rounds ≤ MAX_ROUNDS }
-    ensures report { IfOk result (λ r. IsFormulaReport (problem_of numbers) (report_in r)) }
-    ensures memory { OnErr result (HasFormula (problem_of numbers)) }
+    ensures report { IfOk result (λ r. IsFormulaReport (problem_of numbers.entry) (report_in r)) }
+    ensures memory { OnErr result (HasFormula (problem_of numbers.entry)) }
 {
     match formula_in(alloc, numbers) {
         Ok(formula) => Ok(Answer::Formula(formula)),
@@ -40,12 +40,12 @@ pub fn formula_report(alloc: Global, numbers: ProblemNumbers) -> Result<Answer, 
 /// replaces the refusal of the numbers.
 pub fn refute_report(
     alloc: Global,
-    numbers: ProblemNumbers,
+    numbers: ProblemNumbers<'_>,
     input: &[u8],
 ) -> Result<Answer, OutOfMemory>
     requires { numbers.rounds ≤ MAX_ROUNDS }
-    ensures report { IfOk result (λ r. IsRefuteReport (problem_of numbers) input.now (report_in r)) }
-    ensures memory { OnErr result (HasFormula (problem_of numbers)) }
+    ensures report { IfOk result (λ r. IsRefuteReport (problem_of numbers.entry) input.now (report_in r)) }
+    ensures memory { OnErr result (HasFormula (problem_of numbers.entry)) }
 {
     match formula_in(alloc, numbers) {
         Ok(formula) => refute_answer(alloc, numbers, &formula, input),
@@ -56,13 +56,13 @@ pub fn refute_report(
 // Returns the report on a text that is to refute a formula.
 fn refute_answer(
     alloc: Global,
-    numbers: ProblemNumbers,
+    numbers: ProblemNumbers<'_>,
     formula: &Formula,
     input: &[u8],
 ) -> Result<Answer, OutOfMemory>
     requires formula { formula.now ≡ problem_of numbers }
     requires has { HasFormula (problem_of numbers) }
-    ensures report { IfOk result (λ r. IsRefuteReport (problem_of numbers) input.now (report_in r)) }
+    ensures report { IfOk result (λ r. IsRefuteReport (problem_of numbers.entry) input.now (report_in r)) }
     ensures memory { OnErr result (length input.now ≤ LONGEST_REFUTATION) }
 {
     match refute(alloc, formula, input) {
@@ -93,12 +93,12 @@ fn fault_answer(alloc: Global, fault: RefuteError) -> Result<Answer, OutOfMemory
 }
 
 // Returns the formula of these numbers.
-fn formula_in(alloc: Global, numbers: ProblemNumbers) -> Result<Formula, Refusal>
+fn formula_in(alloc: Global, numbers: ProblemNumbers<'_>) -> Result<Formula, Refusal>
     requires { numbers.rounds ≤ MAX_ROUNDS }
-    ensures formula { IfOk result (λ formula. formula ≡ problem_of numbers) }
-    ensures has { OnOk result (HasFormula (problem_of numbers)) }
-    ensures refusal { IfErr result (IsRefusedBy (IsFormulaRefusal (problem_of numbers))) }
-    ensures memory { IfErr result (λ refusal. refusal ≡ Refusal.OutOfMemory → HasFormula (problem_of numbers)) }
+    ensures formula { IfOk result (λ formula. formula ≡ problem_of numbers.entry) }
+    ensures has { OnOk result (HasFormula (problem_of numbers.entry)) }
+    ensures refusal { IfErr result (IsRefusedBy (IsFormulaRefusal (problem_of numbers.entry))) }
+    ensures memory { IfErr result (λ refusal. refusal ≡ Refusal.OutOfMemory → HasFormula (problem_of numbers.entry)) }
 {
     match formula_of(alloc, numbers) {
         Ok(formula) => Ok(formula),
@@ -123,11 +123,11 @@ enum NoFormula {
 }
 
 // Returns the formula of these numbers, or why there is none.
-fn formula_of(alloc: Global, numbers: ProblemNumbers) -> Result<Formula, NoFormula>
+fn formula_of(alloc: Global, numbers: ProblemNumbers<'_>) -> Result<Formula, NoFormula>
     requires { numbers.rounds ≤ MAX_ROUNDS }
-    ensures formula { IfOk result (λ formula. formula ≡ problem_of numbers) }
-    ensures has { OnOk result (HasFormula (problem_of numbers)) }
-    ensures refused { IfErr result (IsNoFormula (problem_of numbers)) }
+    ensures formula { IfOk result (λ formula. formula ≡ problem_of numbers.entry) }
+    ensures has { OnOk result (HasFormula (problem_of numbers.entry)) }
+    ensures refused { IfErr result (IsNoFormula (problem_of numbers.entry)) }
 {
     let shape = match Shape::new(numbers.ids, numbers.rounds) {
         Ok(shape) => shape,
@@ -136,7 +136,13 @@ fn formula_of(alloc: Global, numbers: ProblemNumbers) -> Result<Formula, NoFormu
             ProblemFault::TooManyWindows,
         )),
     };
-    match Formula::new(alloc, shape, numbers.channels, numbers.separation) {
+    match Formula::new(
+        alloc,
+        shape,
+        numbers.channels,
+        numbers.demand.separation(),
+        numbers.demand.forbidden(),
+    ) {
         Ok(formula) => Ok(formula),
         Err(FormulaFault::TooManyVariables) => Err(NoFormula::Fault(
             ProblemFault::TooManyVariables,

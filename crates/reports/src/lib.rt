@@ -10,6 +10,7 @@ pub mod judgement;
 pub mod lines;
 pub mod places;
 pub mod problem;
+pub mod problem_judgement;
 pub mod refusal;
 pub mod rings;
 pub mod status;

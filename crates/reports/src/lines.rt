@@ -1,11 +1,11 @@
 //! Lines of the report. Each call fails only if memory was refused.
 
-ghost use Rattle.std.specs.Prelude.{◌≡◌, [], ◌∷◌, ◌++◌, IfOk, OnOk, string_bytes};
+ghost use Rattle.std.specs.Prelude.{◌≡◌, [], ◌∷◌, ◌++◌, ◌+◌, ◌^◌, ◌<◌, IfOk, OnOk, length, string_bytes};
 ghost use Rattle.reports.specs.Lines.{line, numbers_text};
 ghost use Rattle.reports.specs.Report as report;
 
 use lang_check::{CheckFault, Plan};
-use nbhd_check::{Separation, Witness};
+use nbhd_check::{PatternWitness, Separation, Witness};
 use node_lang::{FaultKind, TextFault};
 use node_program::OutOfMemory;
 use std::alloc::{AllocError, Global};
@@ -172,6 +172,41 @@ fn write_no(text: &mut String, separation: Separation, witness: &Witness) -> Res
             " places {place} {other_place} channels {channel} {other_channel}\n"
         )
     }
+}
+
+// Returns the line of a ring on which a pattern matches.
+pub(crate) fn broken_line(alloc: Global, witness: &PatternWitness) -> Result<String, AllocError>
+    ensures { IfOk result (λ text. string_bytes text
+        ≡ report.broken_line witness.now.ring.items witness.now.place witness.now.channels witness.now.pattern) }
+{
+    let count = witness.pattern.span().max(2) as usize;
+    let places = places_from(&witness.ring, witness.place);
+    let (first, second, third) = witness.channels;
+    let channels = [first, second, third];
+    let mut text = String::new(alloc);
+    text.push_str("no: ring ")?;
+    write_numbers(&mut text, &witness.ring)?;
+    text.push_str(" places ")?;
+    write_numbers(&mut text, &places[..count])?;
+    text.push_str(" channels ")?;
+    write_numbers(&mut text, &channels[..count])?;
+    text.push_str("\n")?;
+    Ok(text)
+}
+
+// Returns three places of a ring, from this one on.
+fn places_from(ring: &[u32], place: u32) -> [u32; 3]
+    requires place { place + 2 < 2 ^ 32 }
+    requires some { 0 < length ring.now }
+    ensures { result ≡ report.places_from ring.now place 3 }
+{
+    let len = ring.len();
+    let place = place as usize;
+    [
+        (place % len) as u32,
+        ((place + 1) % len) as u32,
+        ((place + 2) % len) as u32,
+    ]
 }
 
 /// Writes the line of a place, with its identifier and its channel.

@@ -1,16 +1,16 @@
 //! The question of the tasks on a formula: whether there is a table of some size that keeps a
-//! separation.
+//! separation or solves a problem.
 
-use channel_tables::Separation;
+use ring_problems::Demand;
 
-/// The numbers of identifiers and rounds, the maximum number of channels, and the separation that a
-/// table shall keep.
+/// The numbers of identifiers and rounds, the maximum number of channels, and what is asked of the
+/// channels of a table.
 #[derive(Clone, Copy)]
-pub struct ProblemNumbers {
+pub struct ProblemNumbers<'a> {
     pub ids: u32,
     pub rounds: u32,
     pub channels: u32,
-    pub separation: Separation,
+    pub demand: &'a Demand,
 }
 
 /// Why there is no formula of these numbers.

@@ -8,12 +8,13 @@ ghost use Rattle.table_text.specs.LineForms.{IsSeparation};
 ghost use Rattle.table_text.specs.Texts.{IsTextOf};
 ghost use Rattle.reports.specs.Answers.{report_in, IsRefusedBy};
 ghost use Rattle.reports.specs.Report as report;
-ghost use Rattle.reports.specs.Report.{Says, IsApplyAnswer, IsJudgement, IsPrintReport, IsProgramRefusal, IsTableRefusal, IsTableReport, IsTableText, IsTextRefusal};
+ghost use Rattle.reports.specs.Report.{Says, IsApplyAnswer, IsAudit, IsPrintReport, IsProgramRefusal, IsTableRefusal, IsTableReport, IsTableText, IsTextRefusal};
 
 use crate::answer::{Answer, TableReport};
 use crate::cause::Cause;
 use crate::judgement::audit_report;
 use crate::lines::{accepted_line, check_fault_line, table_fault_line, text_fault_line};
+use crate::problem_judgement::audit_problem_report;
 use crate::refusal::Refusal;
 use crate::rings::apply_answer;
 use crate::status::Status;
@@ -23,6 +24,7 @@ use lang_check::{Plan, accept};
 use nbhd_check::Separation;
 use node_lang::{Program, parse, print};
 use node_program::OutOfMemory;
+use ring_problems::Problem;
 use std::alloc::Global;
 use std::thread::Threads;
 use table_text::read_table;
@@ -55,17 +57,35 @@ fn print_answer(alloc: Global, program: &Program) -> Result<Answer, OutOfMemory>
     }
 }
 
-/// Returns the report of the judge on a table text. Fails if memory was refused.
+/// Returns the report of the judge on a table text: on the problem, or if there is none, on the text's
+/// separation. Fails if memory was refused.
 pub fn audit_text_report<T: Threads + Sync>(
     rt: &T,
     alloc: Global,
+    problem: Option<Problem>,
     input: &[u8],
 ) -> Result<Answer, OutOfMemory>
-    ensures { IfOk result (λ r. IsTableReport IsJudgement input.now (report_in r)) }
+    ensures { IfOk result (λ r. IsTableReport (IsAudit problem) input.now (report_in r)) }
 {
     match table_in(alloc, input) {
-        Ok((table, separation)) => audit_report(rt, alloc, &table, separation),
+        Ok((table, separation)) => audit_answer(rt, alloc, &table, separation, problem),
         Err(refusal) => refusal.report(),
+    }
+}
+
+// Returns the report of the judge on a table: on the problem, or if there is none, on the separation.
+fn audit_answer<T: Threads + Sync>(
+    rt: &T,
+    alloc: Global,
+    table: &Table,
+    separation: Separation,
+    problem: Option<Problem>,
+) -> Result<Answer, OutOfMemory>
+    ensures { IfOk result (λ r. IsAudit problem table.now separation (report_in r)) }
+{
+    match problem {
+        None => audit_report(rt, alloc, table, separation),
+        Some(problem) => audit_problem_report(rt, alloc, table, &problem),
     }
 }
 

@@ -1,6 +1,7 @@
-use Rattle.table_fill.specs.ProgramTables.{table_of}
 use Rattle.plan_print.proofs.answer.judge_report.Goals as goal
 
-pub returns-in-Some-clause-answer : goal.returns-in-Some-clause-answer
-returns-in-Some-clause-answer g c =
-    c.in_ok-no_answer.ensures (table_of c.args.plan.now.program c.args.plan.now.ids) (rw c.in-Some.is at c.in_ok-witness.ensures.witness)
+pub returns-in-Apart-clause-answer : goal.returns-in-Apart-clause-answer
+returns-in-Apart-clause-answer g c = rw c.in-Apart.is c.apart_report.ensures.answer
+
+pub returns-in-Solve-clause-answer : goal.returns-in-Solve-clause-answer
+returns-in-Solve-clause-answer g c = rw c.in-Solve.is c.problem_report.ensures.answer

@@ -43,3 +43,14 @@ note_of-note-requires g c =
     let is = found c.one_witness.ensures.places c.args.task c.requires.runnable c.deref.result.now report c.in_ok-answer.ensures.report in
     subst (λ (cause : Option Reason). IfSome cause (IsFound c.deref-2.result.now)) (sym c.in_ok-status.ensures.told.1)
     (subst (λ (input : List ℕ). IfSome report.cause (IsFound input)) (c.deref.ensures.value ∙ sym c.deref-2.ensures.value) is)
+
+-- The input could not be read.
+pub returns-in_err-input : goal.returns-in_err-input
+returns-in_err-input g c = record {
+  report = search rules;
+  left = search rules;
+  taken = search rules;
+  asked = search rules;
+  threads = search rules;
+  failed = search rules;
+}

@@ -1,7 +1,7 @@
 use Rattle.std.proofs.Common.{◌≡◌, ℕ, inl}
 use Rattle.task_words.specs.WordsFault.{words_fault_code}
 use Rattle.task_words.specs.declared.words.WordsFault.{WordsFault}
-use Rattle.task_words.specs.declared.words.WordsFault.TheVariants.{Usage, BadRing, OutOfMemory, Help}
+use Rattle.task_words.specs.declared.words.WordsFault.TheVariants.{Usage, BadRing, BadDemand, OutOfMemory, Help}
 use Rattle.plan_print.specs.ExitCodes.{IsStatusAfter}
 use Rattle.plan_print.proofs.process.status_after.Goals as goal
 
@@ -9,6 +9,7 @@ use Rattle.plan_print.proofs.process.status_after.Goals as goal
 after_fault : (fault : WordsFault) (status : ℕ) → status ≡ words_fault_code fault → IsStatusAfter fault status
 after_fault (Usage text) status is = is
 after_fault BadRing status is = is
+after_fault (BadDemand f) status is = is
 after_fault OutOfMemory status is = is
 after_fault (Help text) status is = inl is
 

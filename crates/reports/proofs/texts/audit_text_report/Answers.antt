@@ -7,4 +7,4 @@ use Rattle.reports.proofs.texts.audit_text_report.Goals as goal
 pub returns-in-Ok : goal.returns-in-Ok
 returns-in-Ok g c =
     let told : IsTextOf c.args.input.now c.in-Ok.table c.in-Ok.separation = search rules in
-    IfOk-weaker c.audit_report.result _ _ (λ r said. of_table c.in-Ok.table c.in-Ok.separation told said) c.audit_report.ensures
+    IfOk-weaker c.audit_answer.result _ _ (λ r said. of_table c.in-Ok.table c.in-Ok.separation told said) c.audit_answer.ensures
