@@ -1,5 +1,5 @@
 -- The judge's yes, which is about a table, is about the channels of global rounds.
-use Rattle.std.proofs.Common.{◌≡◌, ℕ, ◌+◌, ◌-◌, ◌*◌, ◌%◌, ◌<◌, ◌≤◌, ◌↔◌, Option, List, length, map, slice_index, Some, arith, subst, sym, ◌∙◌, ap, ⊎_elim}
+use Rattle.std.proofs.Common.{◌≡◌, ℕ, ◌+◌, ◌-◌, ◌*◌, ◌%◌, ◌<◌, ◌≤◌, ◌↔◌, Option, List, length, map, slice_index, Some, add-zero, arith, subst, sym, ◌∙◌, ap, ⊎_elim}
 use Rattle.std.specs.Int.{abs_diff}
 use Rattle.std.specs.List.{range_with_len}
 use Rattle.std.proofs.lemmas.Bool.{cases_lt}
@@ -13,7 +13,10 @@ use Rattle.win_index.specs.Arcs.{arc, window_around}
 use Rattle.channel_tables.specs.Tables.{ChannelTable, channel_of}
 use Rattle.channel_tables.specs.declared.separation.Separation.{Separation}
 use Rattle.channel_tables.specs.Apart.{AreApart, IsApartEverywhere}
-use Rattle.headline.specs.Headline.{TableAgrees, RunAgrees, ChannelsAreApart}
+use Rattle.ring_problems.specs.declared.pattern.Pattern.{Pattern}
+use Rattle.ring_problems.specs.Patterns.{Fits, IsForbidden}
+use Rattle.ring_problems.specs.Problems.{IsSolvedEverywhere}
+use Rattle.headline.specs.Headline.{TableAgrees, RunAgrees, ChannelsAreApart, ChannelsSolve}
 use Rattle.headline.specs.Laws.{TablesAreApartOnRings}
 
 -- places of an arc can be counted from one turn further
@@ -76,6 +79,58 @@ apart_on_rings t s x channel good ring long has i lt =
     let here = good x i ring long lt in
     ((apart_of s.near _ _ _ _ (has i lt) one).0 here.0, (apart_of s.far _ _ _ _ (has i lt) two).0 here.1)
 
+-- the channels of a table that agrees with global rounds, at a place and at the two after it
+module _ (p : ProgramTree) (m : ℕ) (table : ChannelTable) (agrees : TableAgrees p m table) where
+  abbrev channel_there : List ℕ → ℕ → Option ℕ
+  channel_there x place = channel_of table (window_around x (length p.steps) place)
+
+  next_channel : (x : List ℕ) (i : ℕ) → IsRing m (length p.steps) x → i < length x → channel_there x (i + 1) ≡ Some (channel_at p x (right_of x i))
+  next_channel x i ring lt =
+      let long = ring.long in
+      ap (channel_of table) (window_at x (length p.steps) (i + 1) (omega arith) (omega arith))
+      ∙ agrees x (right_of x i) ring (mod-lt (i + 1) (omega arith))
+
+  second_channel : (x : List ℕ) (i : ℕ) → IsRing m (length p.steps) x → i < length x
+      → channel_there x (i + 2) ≡ Some (channel_at p x (right_of x (right_of x i)))
+  second_channel x i ring lt =
+      let long = ring.long in
+      ap (channel_of table) (window_at x (length p.steps) (i + 2) (omega arith) (omega arith))
+      ∙ agrees x ((i + 2) % length x) ring (mod-lt (i + 2) (omega arith)) ∙ ap (λ k. Some (channel_at p x k)) (sym (two_right x i lt))
+
+-- three channels are forbidden exactly if the same three are
+forbidden_of : (problem : List Pattern) (a b c d e f : Option ℕ) → a ≡ d → b ≡ e → c ≡ f → IsForbidden problem a b c ↔ IsForbidden problem d e f
+forbidden_of problem a b c d e f first second third = (
+  λ bad. (bad.0, bad.1, bad.2, (subst (Fits bad.1.first) first bad.3.0, subst (Fits bad.1.second) second bad.3.1, subst (Fits bad.1.third) third bad.3.2)),
+  λ bad. (
+    bad.0,
+    bad.1,
+    bad.2,
+    (subst (Fits bad.1.first) (sym first) bad.3.0, subst (Fits bad.1.second) (sym second) bad.3.1, subst (Fits bad.1.third) (sym third) bad.3.2),
+  ),
+)
+
+-- a table that agrees with global rounds solves a problem if and only if the channels of global rounds do
+pub solving_tables :
+    (p : ProgramTree) (m : ℕ) (problem : List Pattern) (table : ChannelTable) → table.ids ≡ m → table.rounds ≡ length p.steps → TableAgrees p m table
+    → IsSolvedEverywhere table problem ↔ ChannelsSolve p m problem
+solving_tables p m problem table ids rounds agrees =
+    let t = length p.steps in
+    let Broken : (x : List ℕ) (i r : ℕ) → Type 0 =
+    λ x i r. IsForbidden problem (channel_of table (window_around x r (i + 0))) (channel_of table (window_around x r (i + 1)))
+    (channel_of table (window_around x r (i + 2))) in
+    let same : (x : List ℕ) (i : ℕ) → IsRing m t x → i < length x → Broken x i t
+    ↔ IsForbidden problem (Some (channel_at p x i)) (Some (channel_at p x (right_of x i))) (Some (channel_at p x (right_of x (right_of x i)))) =
+    λ x i ring lt.
+    forbidden_of problem _ _ _ _ _ _ (ap (channel_there p m table agrees x) (add-zero i) ∙ agrees x i ring lt) (next_channel p m table agrees x i ring lt)
+    (second_channel p m table agrees x i ring lt) in (
+      λ good x i ring lt bad.
+          let on = subst (λ (m : ℕ). IsRing m table.rounds x) (sym ids) (subst (λ (r : ℕ). IsRing m r x) (sym rounds) ring) in
+          good x i on lt (subst (Broken x i) (sym rounds) ((same x i ring lt).1 bad)),
+      λ solve x i ring lt bad.
+          let on = subst (λ (m : ℕ). IsRing m t x) ids (subst (λ (r : ℕ). IsRing table.ids r x) rounds ring) in
+          solve x i on lt ((same x i on lt).0 (subst (Broken x i) rounds bad)),
+    )
+
 -- the channels of a table that agrees with global rounds are apart everywhere if and only if those of global rounds are
 pub good_tables :
     (p : ProgramTree) (m : ℕ) (s : Separation) (table : ChannelTable) → table.ids ≡ m → table.rounds ≡ length p.steps → TableAgrees p m table
@@ -83,15 +138,8 @@ pub good_tables :
 good_tables p m s table ids rounds agrees =
     let t = length p.steps in
     let at' : (x : List ℕ) (r place : ℕ) → Option ℕ = λ x r place. channel_of table (window_around x r place) in
-    let one : (x : List ℕ) (i : ℕ) → IsRing m t x → i < length x → at' x t (i + 1) ≡ Some (channel_at p x (right_of x i)) =
-    λ x i ring lt.
-    let long = ring.long in
-    ap (channel_of table) (window_at x t (i + 1) (omega arith) (omega arith)) ∙ agrees x (right_of x i) ring (mod-lt (i + 1) (omega arith)) in
-    let two : (x : List ℕ) (i : ℕ) → IsRing m t x → i < length x → at' x t (i + 2) ≡ Some (channel_at p x (right_of x (right_of x i))) =
-    λ x i ring lt.
-    let long = ring.long in
-    ap (channel_of table) (window_at x t (i + 2) (omega arith) (omega arith)) ∙ agrees x ((i + 2) % length x) ring (mod-lt (i + 2) (omega arith))
-    ∙ ap (λ k. Some (channel_at p x k)) (sym (two_right x i lt)) in
+    let one = next_channel p m table agrees in
+    let two = second_channel p m table agrees in
     let Apart : (x : List ℕ) (i r : ℕ) → Type 0 =
     λ x i r. AreApart s.near (at' x r i) (at' x r (i + 1)) × AreApart s.far (at' x r i) (at' x r (i + 2)) in (
       λ good x i ring long lt.

@@ -5,4 +5,4 @@ mod findings;
 mod laws;
 
 pub use findings::{Findings, FindingsFault, compile_run_and_judge};
-pub use laws::{program_tables_are_apart, tables_are_apart_on_rings};
+pub use laws::{program_tables_are_apart, program_tables_solve, tables_are_apart_on_rings};

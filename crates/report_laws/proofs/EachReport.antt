@@ -1,5 +1,5 @@
 -- Each task has a report on each input.
-use Rattle.std.proofs.Common.{◌≢◌, ℕ, ◌<◌, ◌≤◌, List, ◌∷◌, [], length, Some, None, inl, inr, refl}
+use Rattle.std.proofs.Common.{◌≢◌, ℕ, ◌<◌, ◌≤◌, List, ◌∷◌, [], length, Some, None, inl, inr, refl, Option, option_map}
 use Rattle.std.proofs.lemmas.Bool.{cases_lt}
 use Rattle.std.specs.Prelude.{◌⊎◌}
 use Rattle.node_program.specs.Term.{ProgramTree}
@@ -16,15 +16,22 @@ use Rattle.task_words.specs.declared.task.Task.{Task}
 use Rattle.task_words.specs.declared.task.Task.TheVariants.{Check, Print, Table, Judge, Run, Trace, Explain, Plan, Audit, Apply, Migrate, Formula, Refute}
 use Rattle.reports.specs.declared.status.Status.{Status}
 use Rattle.reports.specs.declared.status.Status.TheVariants.{Done, No, Words, Refused, RingRefused, FormulaRefused}
-use Rattle.reports.specs.Causes.{Reason, of_text, of_program, of_ring, of_place, of_segments, of_table_text, of_formula, of_refutation, of_no}
+use Rattle.reports.specs.Causes.{Reason, of_text, of_program, of_ring, of_place, of_segments, of_table_text, of_formula, of_refutation, of_no, of_broken, of_idle}
 use Rattle.reports.specs.Lines.{line, numbers_text}
 use Rattle.numerals.specs.declared.base.Base.{Base}
 use Rattle.value_trees.specs.Explanation.{explanation}
 use Rattle.value_trees.specs.Trace.{trace_lines}
 use Rattle.reports.specs.Laws.{TablesHaveChannels}
+use Rattle.ring_problems.specs.declared.pattern.Pattern.{Pattern}
+use Rattle.ring_problems.specs.declared.problem.Demand.{Demand}
+use Rattle.ring_problems.specs.declared.problem.Demand.TheVariants.{Apart, Solve}
+use Rattle.ring_problems.specs.declared.problem.Problem.{Problem as Posed}
+use Rattle.ring_problems.specs.Demands.{known_in, patterns_of}
+use Rattle.ring_problems.specs.Idle.{idle_in}
+use Rattle.ring_problems.specs.Problems as problems
 use Rattle.reports.specs.Report as report
 use Rattle.win_index.specs.Ring.{IsRing}
-use Rattle.reports.specs.Report.{Report, Says, IsJudgement, good, bad, IsAnswerOnRing, ring_fault, on_ring, IsRunAnswer, out_of_range, ran, IsExplainAnswer, no_place, explained, text_refused, in_print, text_fault, check_fault, IsProgramReport, program_refused, answered, IsTableText, IsTableReport, table_refused, of_table}
+use Rattle.reports.specs.Report.{Report, Says, IsJudgement, good, bad, IsProblemJudgement, solved, broken, IsAnswerOnRing, ring_fault, on_ring, IsRunAnswer, out_of_range, ran, IsExplainAnswer, no_place, explained, text_refused, in_print, text_fault, check_fault, IsProgramReport, program_refused, answered, IsTableText, IsTableReport, table_refused, of_table}
 use Rattle.table_formula.specs.Problems.{Problem}
 use Rattle.table_formula.specs.Texts.{formula_text}
 use Rattle.table_formula.specs.RefutationLaws.{EachTextHasAVerdict}
@@ -33,13 +40,13 @@ use Rattle.table_formula.specs.declared.fault.RefuteError.{RefuteError}
 use Rattle.table_formula.specs.declared.fault.RefuteError.TheVariants as refute
 use Rattle.reports.specs.FormulaReports as formulas
 use Rattle.reports.specs.FormulaReports.{IsFormulaReport, no_formula, has_text, IsRefuteReport, not_asked, refuted, not_refuted}
-use Rattle.reports.specs.ProblemFaults.{HasFormula, IsProblemFault}
+use Rattle.reports.specs.ProblemFaults.{HasFormula, IsProblemFault, problem as numbered}
 use Rattle.reports.specs.declared.problem.ProblemFault.{ProblemFault}
-use Rattle.plan_print.specs.TaskReport.{problem}
 use Rattle.report_laws.specs.Laws.{HasReport, EachTaskHasAReport}
 use Rattle.report_laws.proofs.FormulaAnswers.{FormulaAnswer, formula_answer}
 use Rattle.report_laws.proofs.TextAnswers.{TextAnswer, text_answer}
 use Rattle.report_laws.proofs.JudgeAnswers.{JudgeAnswer, apart, not_apart}
+use Rattle.report_laws.proofs.ProblemAnswers.{ProblemAnswer, solves, breaks}
 use Rattle.report_laws.proofs.TableAnswers.{TableAnswer, is_text, has_fault, table_answer}
 use Rattle.report_laws.proofs.ProgramAnswers.{ProgramAnswer, program_answer, RingAnswer, ring_answer, segments_answer}
 
@@ -54,7 +61,8 @@ abbrev refuse : List ℕ → Status → Reason → Report
 refuse bytes status cause = record { bytes = bytes; status = status; cause = Some cause }
 
 module _ (readable : ReadTextsAreReadable) (stops : ReadingStopsAtFirstFault) (no_fault : ReadableTextsHaveNoFault)
-    (judged : (t : ChannelTable) (s : Separation) → JudgeAnswer t s) (channels : TablesHaveChannels)
+    (judged : (t : ChannelTable) (s : Separation) → JudgeAnswer t s)
+    (tried : (t : ChannelTable) (problem : List Pattern) → ProblemAnswer t problem) (channels : TablesHaveChannels)
     (verdict : EachTextHasAVerdict) where
   on_print : (input : List ℕ) → TextAnswer input → Some-report (report.IsPrintReport input)
   on_print input (inl read) = let said = say (printed read.0) Done in (said.0, in_print read.0 read.1 said.1)
@@ -131,6 +139,26 @@ module _ (readable : ReadTextsAreReadable) (stops : ReadingStopsAtFirstFault) (n
     bad ring places channels is (refl, refl, refl),
   )
 
+  on_problem : (t : ChannelTable) (problem : Posed) → ProblemAnswer t (patterns_of problem) → Some-report (IsProblemJudgement t problem)
+  on_problem t problem (solves is) =
+      let count = length (problems.tuples t (patterns_of problem)) in (
+        record { bytes = report.good_line count; status = Done; cause = option_map of_idle (idle_in (patterns_of problem) t.channels) },
+        solved is (refl, refl, refl),
+      )
+  on_problem t problem (breaks ring place channels pattern is) = (
+    refuse (report.broken_line ring place channels pattern) No
+        (of_broken ring place channels pattern (known_in problem) (idle_in (patterns_of problem) t.channels)),
+    broken ring place channels pattern is (refl, refl, refl),
+  )
+
+  on_demand : (t : ChannelTable) (demand : Demand) → Some-report (report.IsDemandJudgement t demand)
+  on_demand t (Apart s) = on_judgement t s (judged t s)
+  on_demand t (Solve problem) = on_problem t problem (tried t (patterns_of problem))
+
+  on_audit : (problem : Option Posed) (t : ChannelTable) (s : Separation) → Some-report (report.IsAudit problem t s)
+  on_audit None t s = on_judgement t s (judged t s)
+  on_audit (Some problem) t s = on_problem t problem (tried t (patterns_of problem))
+
   on_table : (answer : ChannelTable → Separation → Report → Type 0)
       → ((t : ChannelTable) (s : Separation) → Some-report (answer t s)) → (input : List ℕ)
       → TableAnswer input → Some-report (IsTableReport answer input)
@@ -180,9 +208,7 @@ module _ (readable : ReadTextsAreReadable) (stops : ReadingStopsAtFirstFault) (n
       go Print = on_print input text
       go (Table m workers near far) =
           on_program m _ (λ p. say (table_text (table_of p m) (record { near = near; far = far })) Done) input text
-      go (Judge m workers near far) =
-          let s : Separation = record { near = near; far = far } in
-          on_program m _ (λ p. on_judgement (table_of p m) s (judged (table_of p m) s)) input text
+      go (Judge m workers demand) = on_program m _ (λ p. on_demand (table_of p m) demand) input text
       go (Run m ring segments) =
           let x = ring.items in
           on_program m _ (λ p. on_list m (length p.steps) x _
@@ -200,13 +226,13 @@ module _ (readable : ReadTextsAreReadable) (stops : ReadingStopsAtFirstFault) (n
           let x = ring.items in
           on_program m _ (λ p. on_list m (length p.steps) x _ (λ _. say (report.place_lines p x) Done)
           (ring_answer m (length p.steps) x)) input text
-      go Audit = on_table IsJudgement (λ t s. on_judgement t s (judged t s)) input (table_answer input)
+      go (Audit problem) = on_table (report.IsAudit problem) (on_audit problem) input (table_answer input)
       go (Apply ring) =
           let x = ring.items in
           on_table (report.IsApplyAnswer x)
           (λ t s. on_list t.ids t.rounds x _ (λ is. by_table t x (channels t x is)) (ring_answer t.ids t.rounds x))
           input (table_answer input)
       go Migrate = on_table IsTableText (λ t s. say (table_text t s) Done) input (table_answer input)
-      go (Formula m t channels near far) = let p = problem m t channels near far in on_formula p (formula_answer p)
-      go (Refute m t channels near far) = let p = problem m t channels near far in
+      go (Formula m t channels demand) = let p = numbered m t channels demand in on_formula p (formula_answer p)
+      go (Refute m t channels demand) = let p = numbered m t channels demand in
           on_refutation p input (formula_answer p)

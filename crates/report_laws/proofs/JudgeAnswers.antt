@@ -23,7 +23,7 @@ pub record IsFirst (P : List ℕ → Type 0) (xs : List (List ℕ)) : Type 0 whe
   pub before : (k : ℕ) (y : List ℕ) → k < number → slice_get xs k ≡ Some y → ¬ P y
 
 -- none of these is so, or there is a first one
-first_of : (P : List ℕ → Type 0) → ((x : List ℕ) → P x ⊎ (¬ P x)) → (xs : List (List ℕ)) →
+pub first_of : (P : List ℕ → Type 0) → ((x : List ℕ) → P x ⊎ (¬ P x)) → (xs : List (List ℕ)) →
     All (λ x. ¬ P x) xs ⊎ IsFirst P xs
 first_of P decide [] = inl (All-nil (λ (x : List ℕ). ¬ P x))
 first_of P decide (x ∷ xs) = go (decide x) (first_of P decide xs)

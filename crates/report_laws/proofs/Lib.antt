@@ -3,6 +3,7 @@ mod ToldRounds
 mod TextAnswers
 mod ProgramAnswers
 mod JudgeAnswers
+mod ProblemAnswers
 mod Fronts
 mod TableAnswers
 mod FormulaAnswers

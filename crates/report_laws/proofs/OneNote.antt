@@ -5,7 +5,7 @@ use Rattle.source_places.specs.Shown.{marked_line}
 use Rattle.table_formula.specs.declared.fault.LineFault.{LineFault}
 use Rattle.table_formula.specs.declared.fault.RefuteError.TheVariants as refute
 use Rattle.table_formula.specs.RefutationNotes.{line_head, IsLineNote, MayHaveAdvice}
-use Rattle.reports.specs.Causes.{of_text, of_program, of_ring, of_place, of_segments, of_table_text, of_formula, of_refutation, of_no, of_no_tuples}
+use Rattle.reports.specs.Causes.{of_text, of_program, of_ring, of_place, of_segments, of_table_text, of_formula, of_refutation, of_no, of_no_tuples, of_broken, of_idle}
 use Rattle.report_laws.specs.Laws.{OneNote}
 
 -- a line of a refutation without advice
@@ -23,6 +23,8 @@ one_note input (of_refutation (refute.At line f)) note other plain is also = one
 one_note input (of_refutation refute.OutOfMemory) note other plain is also = is ∙ sym also
 one_note input (of_no ring places channels) note other plain is also = is ∙ sym also
 one_note input (of_no_tuples nodes ids) note other plain is also = is ∙ sym also
+one_note input (of_broken ring place channels pattern known idle) note other plain is also = is ∙ sym also
+one_note input (of_idle idle) note other plain is also = is ∙ sym also
 one_note input (of_text k offset) note other plain is also = absurd plain
 one_note input (of_program p ids f) note other plain is also = absurd plain
 one_note input (of_table_text f) note other plain is also = absurd plain

@@ -1,5 +1,5 @@
 -- A task has at most one report on an input.
-use Rattle.std.proofs.Common.{◌≡◌, ℕ, ◌<◌, ◌≤◌, List, [], length, Option, Some, ap, subst, sym, ◌∙◌, refl, append-nil, arith}
+use Rattle.std.proofs.Common.{◌≡◌, ℕ, ◌<◌, ◌≤◌, List, [], length, Option, Some, ap, subst, sym, ◌∙◌, refl, append-nil, arith, None}
 use Rattle.node_program.specs.Term.{ProgramTree}
 use Rattle.node_lang.specs.Laws.{OneReading, OneTextFault}
 use Rattle.win_index.specs.Laws.{OneRingFault, RingsHaveNoFault}
@@ -19,18 +19,24 @@ use Rattle.numerals.specs.declared.base.Base.{Base}
 use Rattle.task_words.specs.declared.task.Task.{Task}
 use Rattle.task_words.specs.declared.task.Task.TheVariants.{Check, Print, Table, Judge, Run, Trace, Explain, Plan, Audit, Apply, Migrate, Formula, Refute}
 use Rattle.reports.specs.declared.status.Status.{Status}
-use Rattle.reports.specs.Causes.{Reason, of_text, of_program, of_ring, of_table_text, of_formula, of_refutation, of_no}
+use Rattle.reports.specs.Causes.{Reason, of_text, of_program, of_ring, of_table_text, of_formula, of_refutation, of_no, of_broken, of_idle}
 use Rattle.reports.specs.Laws.{OneListOfLines}
+use Rattle.ring_problems.specs.declared.problem.Demand.{Demand}
+use Rattle.ring_problems.specs.declared.problem.Demand.TheVariants.{Apart, Solve}
+use Rattle.ring_problems.specs.declared.problem.Problem.{Problem as Posed}
+use Rattle.ring_problems.specs.Demands.{known_in, patterns_of}
+use Rattle.ring_problems.specs.Idle.{idle_in}
+use Rattle.ring_problems.specs.Laws.{OneWitness as OneProblemWitness, SolvedTablesHaveNoWitness}
 use Rattle.reports.specs.Report as report
-use Rattle.reports.specs.Report.{Report, Says, Refuses, IsJudgement, good, bad, IsAnswerOnRing, ring_fault, on_ring, IsRunAnswer, out_of_range, ran, IsExplainAnswer, no_place, explained, IsTableText, IsTextRefusal, IsPrintReport, text_refused, in_print, IsProgramRefusal, text_fault, check_fault, IsProgramReport, program_refused, answered, IsOnRingByTable, IsTableRefusal, IsTableReport, table_refused, of_table}
+use Rattle.reports.specs.Report.{Report, Says, Refuses, IsJudgement, good, bad, IsProblemJudgement, solved, broken, IsDemandJudgement, IsAudit, IsAnswerOnRing, ring_fault, on_ring, IsRunAnswer, out_of_range, ran, IsExplainAnswer, no_place, explained, IsTableText, IsTextRefusal, IsPrintReport, text_refused, in_print, IsProgramRefusal, text_fault, check_fault, IsProgramReport, program_refused, answered, IsOnRingByTable, IsTableRefusal, IsTableReport, table_refused, of_table}
 use Rattle.table_formula.specs.Problems.{Problem}
 use Rattle.table_formula.specs.RefutationLaws.{OneRefutationFault, RefutationsAreRight}
 use Rattle.reports.specs.FormulaReports as formulas
 use Rattle.reports.specs.FormulaReports.{IsFormulaRefusal, IsFormulaReport, no_formula, has_text, IsRefuteReport, not_asked, refuted, not_refuted}
-use Rattle.reports.specs.ProblemFaults.{HasFormula, IsProblemFault}
+use Rattle.reports.specs.ProblemFaults.{HasFormula, IsProblemFault, problem as numbered}
 use Rattle.reports.specs.declared.problem.ProblemFault.{ProblemFault}
 use Rattle.reports.specs.declared.problem.ProblemFault.TheVariants.{IdsOutOfRange, TooManyWindows, TooManyVariables, TooManyClauses}
-use Rattle.plan_print.specs.TaskReport.{problem, IsReport}
+use Rattle.plan_print.specs.TaskReport.{IsReport}
 use Rattle.report_laws.specs.Laws.{OneReport}
 
 -- two reports with the same bytes, the same status and the same cause are equal
@@ -66,6 +72,28 @@ one_judgement one no_witness t d r s (bad ring i c witness says) (bad other j e 
     let same = one t d ring other i j c e witness witness' in
     refused_once _ _ _ _ _ r s (λ k. report.no_line d (same.0 k) (same.1 k) (same.2 k))
     (λ k. of_no (same.0 k) (same.1 k) (same.2 k)) says says'
+
+one_problem_judgement : OneProblemWitness → SolvedTablesHaveNoWitness → (t : ChannelTable) (problem : Posed) (r s : Report)
+    → IsProblemJudgement t problem r → IsProblemJudgement t problem s → r ≡ s
+one_problem_judgement one no_witness t problem r s (solved is says) (solved is' says') = told_once _ _ _ _ _ r s refl refl says says'
+one_problem_judgement one no_witness t problem r s (solved is says) (broken ring i c p witness says') =
+    absurd (no_witness t (patterns_of problem) ring i c p is witness)
+one_problem_judgement one no_witness t problem r s (broken ring i c p witness says) (solved is says') =
+    absurd (no_witness t (patterns_of problem) ring i c p is witness)
+one_problem_judgement one no_witness t problem r s (broken ring i c p witness says) (broken other j d q witness' says') =
+    let same = one t (patterns_of problem) ring other i j c d p q witness witness' in
+    refused_once _ _ _ _ _ r s (λ k. report.broken_line (same.0 k) (same.1 k) (same.2 k) (same.3 k))
+    (λ k. of_broken (same.0 k) (same.1 k) (same.2 k) (same.3 k) (known_in problem) (idle_in (patterns_of problem) t.channels)) says says'
+
+one_demand : OneWitness → ApartTablesHaveNoWitness → OneProblemWitness → SolvedTablesHaveNoWitness → (t : ChannelTable) (demand : Demand)
+    (r s : Report) → IsDemandJudgement t demand r → IsDemandJudgement t demand s → r ≡ s
+one_demand one no_witness one_problem no_problem t (Apart separation) r s = one_judgement one no_witness t separation r s
+one_demand one no_witness one_problem no_problem t (Solve problem) r s = one_problem_judgement one_problem no_problem t problem r s
+
+one_audit : OneWitness → ApartTablesHaveNoWitness → OneProblemWitness → SolvedTablesHaveNoWitness → (problem : Option Posed) (t : ChannelTable)
+    (d : Separation) (r s : Report) → IsAudit problem t d r → IsAudit problem t d s → r ≡ s
+one_audit one no_witness one_problem no_problem None t d r s = one_judgement one no_witness t d r s
+one_audit one no_witness one_problem no_problem (Some problem) t d r s = one_problem_judgement one_problem no_problem t problem r s
 
 -- there is one report on a list of identifiers, if there is one on a ring
 one_on_ring : OneRingFault → RingsHaveNoFault → (m t : ℕ) (x : List ℕ) (said : Report → Type 0)
@@ -269,9 +297,10 @@ one_refute_report one right p input r s (not_refuted has f known is says) (not_r
 
 pub one_report : OneReading → OneTextFault → OneRefusal → AcceptedProgramsHaveNoRefusal → OneRingFault
     → RingsHaveNoFault → OneWitness → ApartTablesHaveNoWitness
+    → OneProblemWitness → SolvedTablesHaveNoWitness
     → OneTableFault → TableTextsAreApart → TableTextsAreRead → OneListOfLines → OneRefutationFault → RefutationsAreRight
     → OneReport
-one_report one_reading one_text_fault one_refusal no_refusal one_fault no_fault one_witness no_witness one_table_fault
+one_report one_reading one_text_fault one_refusal no_refusal one_fault no_fault one_witness no_witness one_problem no_problem one_table_fault
     apart read one_list one_refutation right task =
     go task
   where
@@ -280,14 +309,11 @@ one_report one_reading one_text_fault one_refusal no_refusal one_fault no_fault 
         → (input : List ℕ) (r s : Report) → IsProgramReport m answer input r → IsProgramReport m answer input s → r ≡ s
     of_program = one_program_report one_reading one_text_fault one_refusal no_refusal
 
-    judged_once : (t : ChannelTable) (d : Separation) (r s : Report) → IsJudgement t d r → IsJudgement t d s → r ≡ s
-    judged_once = one_judgement one_witness no_witness
-
     go : (task : Task) (input : List ℕ) (r s : Report) → IsReport task input r → IsReport task input s → r ≡ s
     go (Check ids) = of_program ids _ (λ p r s. said_once _ _ _ r s refl)
     go Print = one_print one_reading one_text_fault
     go (Table ids workers near far) = of_program ids _ (λ p. one_table_text _ _)
-    go (Judge ids workers near far) = of_program ids _ (λ p. judged_once _ _)
+    go (Judge ids workers demand) = of_program ids _ (λ p. one_demand one_witness no_witness one_problem no_problem _ demand)
     go (Run ids ring segments) =
         of_program ids _ (λ p. one_on_ring one_fault no_fault _ _ _ _ (one_run p ring.items segments))
     go (Trace ids ring base) =
@@ -296,10 +322,10 @@ one_report one_reading one_text_fault one_refusal no_refusal one_fault no_fault 
         of_program ids _ (λ p. one_on_ring one_fault no_fault _ _ _ _ (one_explanation base p ring.items place))
     go (Plan ids ring workers) =
         of_program ids _ (λ p. one_on_ring one_fault no_fault _ _ _ _ (λ r s. said_once _ _ _ r s refl))
-    go Audit = one_table_report one_table_fault apart read IsJudgement judged_once
+    go (Audit problem) = one_table_report one_table_fault apart read (IsAudit problem) (one_audit one_witness no_witness one_problem no_problem problem)
     go (Apply ring) =
         one_table_report one_table_fault apart read _
         (λ t d. one_on_ring one_fault no_fault _ _ _ _ (one_by_table one_list t ring.items))
     go Migrate = one_table_report one_table_fault apart read IsTableText one_table_text
-    go (Formula m t channels near far) = λ input. one_formula_report (problem m t channels near far)
-    go (Refute m t channels near far) = one_refute_report one_refutation right (problem m t channels near far)
+    go (Formula m t channels demand) = λ input. one_formula_report (numbered m t channels demand)
+    go (Refute m t channels demand) = one_refute_report one_refutation right (numbered m t channels demand)

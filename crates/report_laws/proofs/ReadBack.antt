@@ -1,5 +1,5 @@
 -- Reports that are table texts, as inputs of migrate, audit and apply.
-use Rattle.std.proofs.Common.{◌≡◌, ℕ, List, [], length, append-nil, sym, subst, ◌∙◌, arith, lit≤}
+use Rattle.std.proofs.Common.{◌≡◌, ℕ, List, [], Some, length, append-nil, sym, subst, ◌∙◌, arith, lit≤}
 use Rattle.node_program.specs.Term.{ProgramTree}
 use Rattle.channel_tables.specs.Tables.{ChannelTable, IsTable}
 use Rattle.channel_tables.specs.declared.separation.Separation.{Separation}
@@ -12,11 +12,11 @@ use Rattle.table_text.specs.LineForms.{IsSeparation, IsSeparationOf}
 use Rattle.table_text.specs.TableText.{Written, written, text_of, table_text}
 use Rattle.reports.specs.declared.status.Status.{Status}
 use Rattle.reports.specs.declared.status.Status.TheVariants.{Done, Refused}
-use Rattle.reports.specs.Report.{Report, Says, HasChannels, IsApplyAnswer, IsAnswerOnRing, ring_fault, on_ring, place_lines, IsJudgement, IsTableText, program_refused, answered, text_fault, check_fault, IsTableReport, table_refused, of_table}
+use Rattle.reports.specs.Report.{Report, Says, HasChannels, IsApplyAnswer, IsAnswerOnRing, ring_fault, on_ring, place_lines, IsAudit, IsJudgement, IsTableText, program_refused, answered, text_fault, check_fault, IsTableReport, table_refused, of_table}
 use Rattle.node_program.specs.GlobalRounds.{channel_at}
 use Rattle.win_index.specs.Ring.{IsRing}
 use Rattle.reports.specs.Laws.{OneListOfLines}
-use Rattle.report_laws.specs.Laws.{MigrateKeepsNewTexts, MigrateTwiceIsOnce, AuditOfTableIsJudge, ApplyOfTableIsPlan}
+use Rattle.report_laws.specs.Laws.{MigrateKeepsNewTexts, MigrateTwiceIsOnce, AuditOfTableIsJudge, AuditOfTableSolves, ApplyOfTableIsPlan}
 
 -- a refusal is not done
 not_done : (status : Status) → status ≡ Refused → status ≡ Done → ⊥
@@ -81,6 +81,19 @@ module _ (texts_apart : TableTextsAreApart) (read : TableTextsAreRead) where
       let text : IsTableReport IsJudgement (table_text (table_of p m) s) q =
       subst (λ (bytes : List ℕ). IsTableReport IsJudgement bytes q) said.0 again in
       answered p reads accepted (on_text IsJudgement (table_of p m) s q (tables p m reads.limits accepted) range text)
+
+  pub audit_solves : ProgramTablesAreTables → AuditOfTableSolves
+  audit_solves tables m v w near far problem input r q is_near is_far (program_refused (text_fault refused)) done again =
+      absurd (not_done r.status refused.says.1 done)
+  audit_solves tables m v w near far problem input r q is_near is_far (program_refused (check_fault p f reads first says)) done again =
+      absurd (not_done r.status says.1 done)
+  audit_solves tables m v w near far problem input r q is_near is_far (answered p reads accepted said) done again =
+      let s : Separation = record { near = near; far = far } in
+      let range : IsSeparation s =
+      record { some_near = is_near.some; small_near = is_near.small; small_far = is_far } in
+      let text : IsTableReport (IsAudit (Some problem)) (table_text (table_of p m) s) q =
+      subst (λ (bytes : List ℕ). IsTableReport (IsAudit (Some problem)) bytes q) said.0 again in
+      answered p reads accepted (on_text (IsAudit (Some problem)) (table_of p m) s q (tables p m reads.limits accepted) range text)
 
   pub apply : ProgramTablesAreTables → TableHasTheChannelsOfRounds → OneListOfLines → ApplyOfTableIsPlan
   apply tables has one m v w near far ring input r q is_near is_far (program_refused (text_fault refused)) done again =

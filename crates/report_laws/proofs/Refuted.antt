@@ -1,5 +1,6 @@
 -- What a refuted formula and the lower bound say of tables and programs.
-use Rattle.std.proofs.Common.{◌≡◌, ◌⊎◌, ℕ, ◌+◌, ◌*◌, ◌≤◌, List, length, refl, sym, ◌∙◌, inl, inr, arith}
+use Rattle.std.proofs.Common.{◌≡◌, ◌⊎◌, ℕ, ◌+◌, ◌*◌, ◌≤◌, List, [], length, refl, sym, ◌∙◌, inl, inr, arith}
+use Rattle.std.proofs.lemmas.Option.{none-some}
 use Rattle.node_program.specs.Term.{ProgramTree}
 use Rattle.win_index.specs.Laws.{NumberOfWindow, WindowOfNumber, WindowsHaveNumbers, RingsHaveWindows, CountOfWindows, LengthOfArcs, ItemsOfArcs}
 use Rattle.win_index.specs.ShapeRange.{IsShape}
@@ -12,17 +13,22 @@ use Rattle.node_lang.specs.Laws.{OneReading}
 use Rattle.lower_bound.specs.Laws.{TablesNeedChannels, TablesNeedThree}
 use Rattle.table_fill.specs.Laws.{ProgramTablesAreTables}
 use Rattle.table_fill.specs.ProgramTables.{table_of}
-use Rattle.headline.specs.Laws.{ProgramTablesAreApart}
+use Rattle.headline.specs.Laws.{ProgramTablesAreApart, ProgramTablesSolve}
 use Rattle.table_formula.specs.Problems.{Problem, IsImpossible}
 use Rattle.table_formula.specs.RefutationLaws.{RefutationsAreSound}
 use Rattle.reports.specs.FormulaReports.{IsRefuteReport, not_asked, refuted, not_refuted}
 use Rattle.reports.specs.Report.{Report}
 use Rattle.reports.specs.declared.status.Status.TheVariants.{Done}
-use Rattle.plan_print.specs.TaskReport.{problem}
-use Rattle.report_laws.specs.Laws.{AsksForAsMuch, IsAcceptedText, IsRefuted, NoTableIfRefuted, NoProgramIfRefuted, ProgramsNeedChannels, ProgramsNeedThree, Fails, FailsOnARing}
+use Rattle.ring_problems.specs.declared.problem.Demand.TheVariants.{Apart, Solve}
+use Rattle.ring_problems.specs.Demands.{patterns_of}
+use Rattle.ring_problems.specs.Laws.{SolvedTablesHaveNoWitness}
+use Rattle.ring_problems.specs.Problems.{IsSolvedEverywhere}
+use Rattle.headline.specs.Headline.{ChannelsSolve}
+use Rattle.reports.specs.ProblemFaults.{problem as numbered}
+use Rattle.report_laws.specs.Laws.{AsksForAsMuch, IsAcceptedText, IsRefuted, NoTableIfRefuted, NoTableSolvesIfRefuted, NoProgramIfRefuted, NoProgramSolvesIfRefuted, ProgramsNeedChannels, ProgramsNeedThree, Fails, FailsOnARing}
 use Rattle.report_laws.proofs.JudgeAnswers.{JudgeAnswer, apart, not_apart}
-use Rattle.report_laws.proofs.SeenTables.{seen_table, seen_is_table, seen_is_apart}
-use Rattle.report_laws.proofs.ToldRounds.{judge_tells}
+use Rattle.report_laws.proofs.SeenTables.{seen_table, seen_is_table, seen_is_apart, seen_is_free, seen_solves}
+use Rattle.report_laws.proofs.ToldRounds.{judge_solves, judge_tells}
 
 -- a report with the status of a refuted formula is on a refutation of it, and the formula's numbers are a shape
 impossible : RefutationsAreSound → (p : Problem) (input : List ℕ) (r : Report) → IsRefuteReport p input r →
@@ -30,6 +36,10 @@ impossible : RefutationsAreSound → (p : Problem) (input : List ℕ) (r : Repor
 impossible sound p input r (not_asked refusal) done = let both = sym refusal.says.1 ∙ done in cc
 impossible sound p input r (refuted has is says) done = (sound p input is, has.shape)
 impossible sound p input r (not_refuted has f known is says) done = let both = sym says.1 ∙ done in cc
+
+-- a table has no pattern of none
+none_forbidden : (t : ChannelTable) → IsSolvedEverywhere t []
+none_forbidden t ring place is within bad = none-some bad.1 bad.2
 
 -- a table fails on a ring if its channels are not apart everywhere
 fails : (table : ChannelTable) (s : Separation) → ¬ IsApartEverywhere table s → JudgeAnswer table s →
@@ -45,7 +55,7 @@ enough_for_fewer few t ids a b fewer (inr enough) = inr (omega (arith, enough))
 pub no_table : RefutationsAreSound → LessIsApart → NumberOfWindow → WindowOfNumber → WindowsHaveNumbers
     → RingsHaveWindows → CountOfWindows → LengthOfArcs → ItemsOfArcs → NoTableIfRefuted
 no_table sound less number item have rings count arcs items m t channels s own table is keeps more rounds few asks are =
-    let known = impossible sound (problem m t channels s.near s.far) is.input is.report is.is_report is.done in
+    let known = impossible sound (numbered m t channels (Apart s)) is.input is.report is.is_report is.done in
     let enough = enough_for_fewer table.rounds t table.ids (extra s) (extra own) rounds asks.rings in
     known.0 (seen_table table m t) (record {
       table = seen_is_table count table m t keeps known.1;
@@ -55,6 +65,20 @@ no_table sound less number item have rings count arcs items m t channels s own t
       apart =
           seen_is_apart arcs items number item have rings table m t s more rounds
           (less table own s asks.near_more asks.far_more enough are);
+      solved = none_forbidden (seen_table table m t);
+    })
+
+pub no_table_solves : RefutationsAreSound → NumberOfWindow → WindowOfNumber → WindowsHaveNumbers
+    → RingsHaveWindows → CountOfWindows → LengthOfArcs → ItemsOfArcs → NoTableSolvesIfRefuted
+no_table_solves sound number item have rings count arcs items m t channels problem table is keeps more rounds few solved =
+    let known = impossible sound (numbered m t channels (Solve problem)) is.input is.report is.is_report is.done in
+    known.0 (seen_table table m t) (record {
+      table = seen_is_table count table m t keeps known.1;
+      ids = refl;
+      rounds = refl;
+      channels = few;
+      apart = seen_is_free arcs items number item have rings table m t more rounds;
+      solved = seen_solves arcs items number item have rings table m t (patterns_of problem) more rounds solved;
     })
 
 -- a program fails if the channels of its table are not apart everywhere
@@ -80,6 +104,16 @@ no_program refuted_has_none one_reading no_refusal no_witness tables apart_table
     program_fails one_reading no_refusal no_witness apart_tables judged ids own text p accepted
     (refuted_has_none m t channels s own (table_of p ids) is (tables p ids accepted.0.limits accepted.1) more
     rounds few asks)
+
+pub no_program_solves : NoTableSolvesIfRefuted → OneReading → AcceptedProgramsHaveNoRefusal → SolvedTablesHaveNoWitness
+    → ProgramTablesAreTables → ProgramTablesSolve → NoProgramSolvesIfRefuted
+unfolding table_of
+no_program_solves refuted_has_none one_reading no_refusal no_witness tables solving m t channels ids workers problem text p is accepted more
+    rounds few =
+    let not : ¬ ChannelsSolve p ids (patterns_of problem) =
+    λ are. refuted_has_none m t channels problem (table_of p ids) is (tables p ids accepted.0.limits accepted.1) more rounds few
+    ((solving p ids (patterns_of problem)).1 are) in
+    (not, λ r report. (judge_solves one_reading no_refusal no_witness solving ids workers problem text p r accepted report).1.1 not)
 
 pub programs_need : TablesNeedChannels → OneReading → AcceptedProgramsHaveNoRefusal → ApartTablesHaveNoWitness
     → ProgramTablesAreTables → ProgramTablesAreApart

@@ -16,9 +16,11 @@ use Rattle.win_index.proofs.Unused.{lacks, length-unused}
 use Rattle.channel_tables.specs.Tables.{ChannelTable, channel_of}
 use Rattle.table_fill.specs.Laws.{TableHasTheChannelsOfRounds, TableHasTheChannelsOfWindows}
 use Rattle.table_fill.specs.ProgramTables.{table_of, window_channel}
-use Rattle.headline.specs.Laws.{ProgramTablesAreApart}
+use Rattle.headline.specs.Laws.{ProgramTablesAreApart, ProgramTablesSolve}
+use Rattle.problem_bounds.specs.Laws as problem_bounds
+use Rattle.ring_problems.specs.Known.{independent_set, matching}
 use Rattle.lower_bound.specs.Laws.{IsFull, TablesNeedChannels, TablesNeedThree, TablesNeedFour, TablesNeedFive}
-use Rattle.report_laws.specs.Laws.{ChannelsAreBelow, RoundsNeedChannels, RoundsNeedThree, RoundsNeedFour, RoundsNeedFive}
+use Rattle.report_laws.specs.Laws.{ChannelsAreBelow, IndependentSetsNeedRounds, MatchingsNeedRounds, RoundsNeedChannels, RoundsNeedThree, RoundsNeedFour, RoundsNeedFive}
 
 -- a window that has not all identifiers lacks one
 missing : (k m : ℕ) (window : List ℕ) → k < m → IsWindow k m window → (x : ℕ) × IsWindow (suc k) m (window ++ x ∷ [])
@@ -87,3 +89,15 @@ unfolding table_of of_program
 rounds_need_five need apart_tables of_rounds of_windows tuples p m c s rounds ids below near far apart =
     need (of_program p m c) s (full_table of_rounds of_windows tuples p m c (omega (arith, rounds, ids)) below) near far rounds ids
     ((apart_tables p m s).1 apart)
+
+pub sets_need : problem_bounds.IndependentSetsNeedRounds → ProgramTablesSolve → TableHasTheChannelsOfRounds → TableHasTheChannelsOfWindows
+    → TuplesAreRings → IndependentSetsNeedRounds
+unfolding table_of of_program
+sets_need need solving of_rounds of_windows tuples p m long below solve =
+    need (of_program p m 2) (full_table of_rounds of_windows tuples p m 2 long below) (omega arith) ((solving p m independent_set).1 solve)
+
+pub matchings_need : problem_bounds.MatchingsNeedRounds → ProgramTablesSolve → TableHasTheChannelsOfRounds → TableHasTheChannelsOfWindows
+    → TuplesAreRings → MatchingsNeedRounds
+unfolding table_of of_program
+matchings_need need solving of_rounds of_windows tuples p m long below solve =
+    need (of_program p m 3) (full_table of_rounds of_windows tuples p m 3 long below) (omega arith) ((solving p m matching).1 solve)

@@ -15,6 +15,9 @@ use Rattle.win_index.specs.Windows.{windows, number_of, IsWindow}
 use Rattle.channel_tables.specs.Tables.{ChannelTable, IsTable, channel_of}
 use Rattle.channel_tables.specs.declared.separation.Separation.{Separation}
 use Rattle.channel_tables.specs.Apart.{extra, AreApart, IsApartEverywhere}
+use Rattle.ring_problems.specs.declared.pattern.Pattern.{Pattern}
+use Rattle.ring_problems.specs.Patterns.{Fits}
+use Rattle.ring_problems.specs.Problems.{IsSolvedEverywhere}
 
 -- the channel of a table at a list, 0 if it is no window
 abbrev channel_or_0 : ChannelTable → List ℕ → ℕ
@@ -36,6 +39,12 @@ some_number (Some n) h = refl
 some_channel : (f : ℕ → ℕ) (o : Option ℕ) → IsSome o → IsSome (option_map f o)
 some_channel f None h = cc
 some_channel f (Some n) h = refl
+
+-- two channels that there are differ by 0 or more
+apart_by_none : (a b : Option ℕ) → IsSome a → IsSome b → AreApart 0 a b
+apart_by_none (Some c) (Some d) here there = omega arith
+apart_by_none (Some c) None here there = cc
+apart_by_none None b here there = cc
 
 -- a ring is one for more identifiers and fewer rounds
 ring_more : (m n few rounds : ℕ) (ring : List ℕ) → m ≤ n → few ≤ rounds → IsRing m rounds ring → IsRing n few ring
@@ -177,3 +186,30 @@ module _ (len : LengthOfArcs) (item : ItemsOfArcs) where
           two_apart s.near _ _ _ _ (same place) (same (place + 1)) both.0,
           two_apart s.far _ _ _ _ (same place) (same (place + 2)) both.1,
         )
+
+    -- and it solves each problem that the table solves
+    pub seen_solves : (t : ChannelTable) (m rounds : ℕ) (problem : List Pattern) → m ≤ t.ids → t.rounds ≤ rounds
+        → IsSolvedEverywhere t problem → IsSolvedEverywhere (seen_table t m rounds) problem
+    seen_solves t m rounds problem le fewer solved ring place is within bad =
+        let same : (i : ℕ) → channel_of (seen_table t m rounds) (window_around ring rounds i)
+        ≡ channel_of t (window_around ring t.rounds i) =
+        λ i. same_channel t m rounds i ring le fewer is in
+        solved ring place (ring_more m t.ids t.rounds rounds ring le fewer is) within (
+          bad.0,
+          bad.1,
+          bad.2,
+          (
+            subst (Fits bad.1.first) (same (place + 0)) bad.3.0,
+            subst (Fits bad.1.second) (same (place + 1)) bad.3.1,
+            subst (Fits bad.1.third) (same (place + 2)) bad.3.2,
+          ),
+        )
+
+    -- and no channels are closer than 0
+    pub seen_is_free : (t : ChannelTable) (m rounds : ℕ) → m ≤ t.ids → t.rounds ≤ rounds
+        → IsApartEverywhere (seen_table t m rounds) (record { near = 0; far = 0 })
+    seen_is_free t m rounds le fewer ring place is long within =
+        let here : (i : ℕ) → IsSome (channel_of (seen_table t m rounds) (window_around ring rounds i)) =
+        λ i. some_channel (slice_index (seen_table t m rounds).entries) (number_of (2 * rounds + 1) m (window_around ring rounds i))
+        ((have (2 * rounds + 1) m (window_around ring rounds i)).1 (rings m rounds rounds i ring is (omega (arith, is.long)))) in
+        (apart_by_none _ _ (here place) (here (place + 1)), apart_by_none _ _ (here place) (here (place + 2)))

@@ -16,8 +16,11 @@ use Rattle.table_fill.specs.Laws.{TableHasTheChannelsOfRounds}
 use Rattle.table_fill.specs.ProgramTables.{table_of}
 use Rattle.channel_tables.specs.declared.separation.Separation.{Separation}
 use Rattle.channel_tables.specs.Laws.{ApartTablesHaveNoWitness}
-use Rattle.headline.specs.Headline.{ChannelsAreApart}
-use Rattle.headline.specs.Laws.{ProgramTablesAreApart}
+use Rattle.headline.specs.Headline.{ChannelsAreApart, ChannelsSolve}
+use Rattle.ring_problems.specs.declared.problem.Problem.{Problem}
+use Rattle.ring_problems.specs.Demands.{patterns_of}
+use Rattle.ring_problems.specs.Laws.{SolvedTablesHaveNoWitness}
+use Rattle.headline.specs.Laws.{ProgramTablesAreApart, ProgramTablesSolve}
 use Rattle.border_exchange.specs.SegmentCounts.{IsSegmentCount}
 use Rattle.reports.specs.declared.status.Status.TheVariants.{Done, No}
 use Rattle.reports.specs.Lines.{line, numbers_text}
@@ -27,8 +30,8 @@ use Rattle.value_trees.specs.Explanation.{explanation}
 use Rattle.value_trees.specs.Laws.{ShowsTrace, ExplanationsShowTraces}
 use Rattle.value_trees.specs.Trace.{register_lines, round_lines, row_line, trace_lines}
 use Rattle.reports.proofs.Joined.{joined_after}
-use Rattle.reports.specs.Report.{Report, Says, IsJudgement, good, bad, IsAnswerOnRing, ring_fault, on_ring, IsRunAnswer, out_of_range, ran, IsExplainAnswer, no_place, explained, text_refused, in_print, IsProgramReport, program_refused, answered}
-use Rattle.report_laws.specs.Laws.{IsAcceptedText, JudgeTellsRounds, RunTellsRounds, TraceTellsRounds, TraceEndsWithRun, ExplainTellsRounds, ExplainShowsTrace, PlanTellsRounds, TableTellsRounds, PrintsAreReadBack, SameForWorkers, SameForSegments}
+use Rattle.reports.specs.Report.{Report, Says, IsJudgement, good, bad, IsProblemJudgement, solved, broken, IsAnswerOnRing, ring_fault, on_ring, IsRunAnswer, out_of_range, ran, IsExplainAnswer, no_place, explained, text_refused, in_print, IsProgramReport, program_refused, answered}
+use Rattle.report_laws.specs.Laws.{IsAcceptedText, JudgeTellsRounds, JudgeTellsSolutions, RunTellsRounds, TraceTellsRounds, TraceEndsWithRun, ExplainTellsRounds, ExplainShowsTrace, PlanTellsRounds, TableTellsRounds, PrintsAreReadBack, SameForWorkers, SameForSegments}
 use Rattle.report_laws.proofs.OneReport.{accepted_or_refused}
 
 -- the report on an accepted program is that of the task on the program
@@ -61,6 +64,26 @@ pub judge_tells : OneReading → AcceptedProgramsHaveNoRefusal → ApartTablesHa
 judge_tells one_reading no_refusal no_witness tables m workers near far input p r text is =
     judgement_tells no_witness tables p m (record { near = near; far = far }) r
     (answer_on one_reading no_refusal m _ input p r text is)
+
+-- a judgement on a problem decides whether the channels of global rounds solve it
+solution_tells : SolvedTablesHaveNoWitness → ProgramTablesSolve
+    → (p : ProgramTree) (m : ℕ) (problem : Problem) (r : Report) → IsProblemJudgement (table_of p m) problem r
+    → ((r.status ≡ Done) ↔ ChannelsSolve p m (patterns_of problem)) × ((r.status ≡ No) ↔ (¬ ChannelsSolve p m (patterns_of problem)))
+solution_tells no_witness tables p m problem r (solved is says) =
+    let rounds = (tables p m (patterns_of problem)).0 is in (
+      (λ done. rounds, λ are. says.1),
+      (λ no. absurd (let both : Done ≡ No = sym says.1 ∙ no in cc), λ not. absurd (not rounds)),
+    )
+solution_tells no_witness tables p m problem r (broken ring place channels pattern witness says) =
+    let not : ¬ ChannelsSolve p m (patterns_of problem) =
+    λ are. no_witness (table_of p m) (patterns_of problem) ring place channels pattern ((tables p m (patterns_of problem)).1 are) witness in (
+      (λ done. absurd (let both : No ≡ Done = sym says.1 ∙ done in cc), λ are. absurd (not are)),
+      (λ no. not, λ n. says.1),
+    )
+
+pub judge_solves : OneReading → AcceptedProgramsHaveNoRefusal → SolvedTablesHaveNoWitness → ProgramTablesSolve → JudgeTellsSolutions
+judge_solves one_reading no_refusal no_witness tables m workers problem input p r text is =
+    solution_tells no_witness tables p m problem r (answer_on one_reading no_refusal m _ input p r text is)
 
 -- the report on a ring
 pub on_this_ring : RingsHaveNoFault → (m t : ℕ) (places : List ℕ) (said : Report → Type 0) (r : Report) →
@@ -166,7 +189,7 @@ table_tells one_reading no_refusal has m workers near far input p r text is =
     (answer_on one_reading no_refusal m _ input p r text is, has p m)
 
 pub same_for_workers : SameForWorkers
-same_for_workers m v w near far ring input r = (λ is. is, λ is. is, λ is. is)
+same_for_workers m v w near far demand ring input r = (λ is. is, λ is. is, λ is. is)
 
 -- the report of a run in one number of segments is one in another
 run_in_others : (m t : ℕ) (p : ProgramTree) (places : List ℕ) (g h : ℕ) (r : Report)

@@ -1,6 +1,6 @@
 -- The laws: a task has one report on an input, reports agree with global rounds, and prints and table texts are read
 -- back.
-use Rattle.std.specs.Prelude.{◌≡◌, ◌≢◌, ◌↔◌, ◌⊎◌, ℕ, ◌+◌, ◌*◌, ◌%◌, ◌<◌, ◌≤◌, List, [], ◌∷◌, ◌++◌, Vec, Some, ⊤, length, codes}
+use Rattle.std.specs.Prelude.{◌≡◌, ◌≢◌, ◌↔◌, ◌⊎◌, ℕ, ◌+◌, ◌*◌, ◌%◌, ◌<◌, ◌≤◌, List, [], ◌∷◌, ◌++◌, Vec, Some, None, ⊤, length, codes}
 use Rattle.std.specs.Int.{abs_diff}
 use Rattle.std.specs.declared.alloc.Global.{Global}
 use Rattle.node_program.specs.Term.{ProgramTree}
@@ -23,7 +23,13 @@ use Rattle.value_trees.specs.Explanation.{explanation}
 use Rattle.value_trees.specs.Laws.{ShowsTrace}
 use Rattle.value_trees.specs.Trace.{trace_lines}
 use Rattle.border_exchange.specs.SegmentCounts.{IsSegmentCount}
-use Rattle.headline.specs.Headline.{ChannelsAreApart}
+use Rattle.ring_problems.specs.declared.problem.Demand.{Demand}
+use Rattle.ring_problems.specs.declared.problem.Demand.TheVariants.{Apart, Solve}
+use Rattle.ring_problems.specs.declared.problem.Problem.{Problem}
+use Rattle.ring_problems.specs.Demands.{patterns_of}
+use Rattle.ring_problems.specs.Known.{independent_set, matching}
+use Rattle.ring_problems.specs.Problems.{IsSolvedEverywhere}
+use Rattle.headline.specs.Headline.{ChannelsAreApart, ChannelsSolve}
 use Rattle.table_text.specs.TableText.{table_text}
 use Rattle.table_text.specs.Texts.{IsTextOf}
 use Rattle.task_words.specs.declared.task.Task.{Task}
@@ -32,7 +38,7 @@ use Rattle.reports.specs.declared.status.Status.TheVariants.{Done, No}
 use Rattle.reports.specs.Lines.{line, numbers_text}
 use Rattle.table_formula.specs.declared.fault.RefuteError.TheVariants as refute
 use Rattle.table_formula.specs.RefutationNotes.{MayHaveAdvice}
-use Rattle.reports.specs.Causes.{Reason, of_ring, of_place, of_segments, of_refutation, of_no, of_no_tuples}
+use Rattle.reports.specs.Causes.{Reason, of_ring, of_place, of_segments, of_refutation, of_no, of_no_tuples, of_broken, of_idle}
 use Rattle.plan_print.specs.Notes.{IsNote}
 use Rattle.reports.specs.Report.{Report, Says, lines_of_places, place_lines}
 use Rattle.plan_print.specs.TaskReport.{IsReport}
@@ -58,9 +64,17 @@ IsAcceptedText input m p = Reads input p × IsAccepted m p
 abbrev pub JudgeTellsRounds : Type 0
 JudgeTellsRounds =
     (m workers near far : ℕ) (input : List ℕ) (p : ProgramTree) (r : Report) → IsAcceptedText input m p →
-    IsReport (Judge m workers near far) input r
+    IsReport (Judge m workers (Apart (record { near = near; far = far }))) input r
     → ((r.status ≡ Done) ↔ ChannelsAreApart p m (record { near = near; far = far }))
     × ((r.status ≡ No) ↔ (¬ ChannelsAreApart p m (record { near = near; far = far })))
+
+-- on a problem it has the status of a yes exactly if no ring has channels of global rounds that a pattern matches, and that of a no
+-- exactly if one has
+abbrev pub JudgeTellsSolutions : Type 0
+JudgeTellsSolutions =
+    (m workers : ℕ) (problem : Problem) (input : List ℕ) (p : ProgramTree) (r : Report) → IsAcceptedText input m p →
+    IsReport (Judge m workers (Solve problem)) input r
+    → ((r.status ≡ Done) ↔ ChannelsSolve p m (patterns_of problem)) × ((r.status ≡ No) ↔ (¬ ChannelsSolve p m (patterns_of problem)))
 
 -- the report of a run on a ring, in a number of segments in its range, is the line of the channels of global rounds
 abbrev pub RunTellsRounds : Type 0
@@ -129,11 +143,12 @@ TableTellsRounds =
     × ((ring : List ℕ) (place : ℕ) → IsRing m (length p.steps) ring → place < length ring
     → channel_of (table_of p m) (window_around ring (length p.steps) place) ≡ Some (channel_at p ring place))
 
--- The reports on an accepted program agree with global rounds: the status of a judge, the line of a run, the lines of a
+-- The reports on an accepted program agree with global rounds: the status of a judge of channels that are apart or solve a problem, the line of a run, the lines of a
 -- trace, which end with those of a run, those of an explanation, which shows what a trace and a run have, those of a
 -- plan, and the text of a table.
 pub record ReportsTellRounds : Type 0 where
   pub judge : JudgeTellsRounds
+  pub solve : JudgeTellsSolutions
   pub run : RunTellsRounds
   pub trace : TraceTellsRounds
   pub finish : TraceEndsWithRun
@@ -145,9 +160,9 @@ pub record ReportsTellRounds : Type 0 where
 -- a report is the same for every number of workers
 abbrev pub SameForWorkers : Type 0
 SameForWorkers =
-    (m v w near far : ℕ) (ring : Vec ℕ Global) (input : List ℕ) (r : Report)
+    (m v w near far : ℕ) (demand : Demand) (ring : Vec ℕ Global) (input : List ℕ) (r : Report)
     → (IsReport (Table m v near far) input r → IsReport (Table m w near far) input r)
-    × (IsReport (Judge m v near far) input r → IsReport (Judge m w near far) input r)
+    × (IsReport (Judge m v demand) input r → IsReport (Judge m w demand) input r)
     × (IsReport (Plan m ring v) input r → IsReport (Plan m ring w) input r)
 
 -- the report of a run is the same for every number of segments in its range
@@ -173,7 +188,14 @@ abbrev pub AuditOfTableIsJudge : Type 0
 AuditOfTableIsJudge =
     (m v w near far : ℕ) (input : List ℕ) (r s : Report) → IsNear near → IsFar far →
     IsReport (Table m v near far) input r → r.status ≡ Done
-    → IsReport Audit r.bytes s → IsReport (Judge m w near far) input s
+    → IsReport (Audit None) r.bytes s → IsReport (Judge m w (Apart (record { near = near; far = far }))) input s
+
+-- and on a problem it is that of judge on this problem
+abbrev pub AuditOfTableSolves : Type 0
+AuditOfTableSolves =
+    (m v w near far : ℕ) (problem : Problem) (input : List ℕ) (r s : Report) → IsNear near → IsFar far →
+    IsReport (Table m v near far) input r → r.status ≡ Done
+    → IsReport (Audit (Some problem)) r.bytes s → IsReport (Judge m w (Solve problem)) input s
 
 -- the report of apply on the report of table is that of plan
 abbrev pub ApplyOfTableIsPlan : Type 0
@@ -187,15 +209,16 @@ ApplyOfTableIsPlan =
 abbrev pub AuditedChannelsAreApart : Type 0
 AuditedChannelsAreApart =
     (input : List ℕ) (t : ChannelTable) (s : Separation) (ring : Vec ℕ Global) (judged r : Report)
-    → IsTextOf input t s → IsReport Audit input judged → judged.status ≡ Done
+    → IsTextOf input t s → IsReport (Audit None) input judged → judged.status ≡ Done
     → IsRing t.ids t.rounds ring.items → 2 * t.rounds + 1 + extra s ≤ length ring.items → IsReport (Apply ring) input r
     → (channel : ℕ → ℕ) × Says (lines_of_places ring.items channel) Done r
     × ((place : ℕ) → place < length ring.items
     → (s.near ≤ abs_diff (channel place) (channel (right_of ring.items place)))
     × (s.far ≤ abs_diff (channel place) (channel (right_of ring.items (right_of ring.items place)))))
 
--- the cause is a list that is no ring, a place that a ring has not, a number of segments, a no, a yes over no tuples, or a
--- fault of a refutation other than a line that has not its form or an end too early: its note has no advice
+-- the cause is a list that is no ring, a place that a ring has not, a number of segments, a no, a yes over no tuples or with a
+-- pattern that never matches, or a fault of a refutation other than a line that has not its form or an end too early: its note has
+-- no advice
 abbrev pub HasNoAdvice : Reason → Type 0
 HasNoAdvice (of_ring m t places f) = ⊤
 HasNoAdvice (of_place place places) = ⊤
@@ -205,6 +228,8 @@ HasNoAdvice (of_refutation (refute.At line f)) = ¬ MayHaveAdvice f
 HasNoAdvice (of_refutation refute.OutOfMemory) = ⊤
 HasNoAdvice (of_no ring places channels) = ⊤
 HasNoAdvice (of_no_tuples nodes ids) = ⊤
+HasNoAdvice (of_broken ring place channels pattern known idle) = ⊤
+HasNoAdvice (of_idle idle) = ⊤
 HasNoAdvice _ = ⊥
 
 -- such a cause has one note
@@ -213,10 +238,10 @@ OneNote = (input : List ℕ) (cause : Reason) (note other : List ℕ) → HasNoA
     IsNote input cause note → IsNote input cause other → note ≡ other
 
 -- the report of refute on a text is that the formula is refuted
-pub record IsRefuted (m t channels : ℕ) (s : Separation) : Type 0 where
+pub record IsRefuted (m t channels : ℕ) (demand : Demand) : Type 0 where
   pub input : List ℕ
   pub report : Report
-  pub is_report : IsReport (Refute m t channels s.near s.far) input report
+  pub is_report : IsReport (Refute m t channels demand) input report
   pub done : report.status ≡ Done
 
 -- a separation asks for at least as much as another one of so many identifiers and rounds. If far is 0 in the other one
@@ -230,9 +255,15 @@ pub record AsksForAsMuch (ids t : ℕ) (own s : Separation) : Type 0 where
 -- separation that asks for at least as much
 abbrev pub NoTableIfRefuted : Type 0
 NoTableIfRefuted =
-    (m t channels : ℕ) (s own : Separation) (table : ChannelTable) → IsRefuted m t channels s → IsTable table →
+    (m t channels : ℕ) (s own : Separation) (table : ChannelTable) → IsRefuted m t channels (Apart s) → IsTable table →
     m ≤ table.ids → table.rounds ≤ t
     → table.channels ≤ channels → AsksForAsMuch table.ids t own s → ¬ IsApartEverywhere table own
+
+-- and if the formula of a problem is refuted, no such table solves it
+abbrev pub NoTableSolvesIfRefuted : Type 0
+NoTableSolvesIfRefuted =
+    (m t channels : ℕ) (problem : Problem) (table : ChannelTable) → IsRefuted m t channels (Solve problem) → IsTable table →
+    m ≤ table.ids → table.rounds ≤ t → table.channels ≤ channels → ¬ IsSolvedEverywhere table (patterns_of problem)
 
 -- two channels of the table are too close on some ring
 abbrev pub FailsOnARing : ChannelTable → Separation → Type 0
@@ -243,14 +274,23 @@ FailsOnARing table s = (ring : List ℕ) × (places : ℕ × ℕ) × (channels :
 pub record Fails (m : ℕ) (s : Separation) (text : List ℕ) (p : ProgramTree) : Type 0 where
   pub rounds : ¬ ChannelsAreApart p m s
   pub ring : FailsOnARing (table_of p m) s
-  pub judged : (workers : ℕ) (r : Report) → IsReport (Judge m workers s.near s.far) text r → r.status ≡ No
+  pub judged : (workers : ℕ) (r : Report) → IsReport (Judge m workers (Apart s)) text r → r.status ≡ No
 
 -- and every accepted program with these numbers fails
 abbrev pub NoProgramIfRefuted : Type 0
 NoProgramIfRefuted =
-    (m t channels ids : ℕ) (s own : Separation) (text : List ℕ) (p : ProgramTree) → IsRefuted m t channels s →
+    (m t channels ids : ℕ) (s own : Separation) (text : List ℕ) (p : ProgramTree) → IsRefuted m t channels (Apart s) →
     IsAcceptedText text ids p → m ≤ ids
     → length p.steps ≤ t → p.channels ≤ channels → AsksForAsMuch ids t own s → Fails ids own text p
+
+-- and no accepted program with these numbers solves the problem: on some ring a pattern matches channels of its global rounds, and
+-- the report of a judge on its text is a no
+abbrev pub NoProgramSolvesIfRefuted : Type 0
+NoProgramSolvesIfRefuted =
+    (m t channels ids workers : ℕ) (problem : Problem) (text : List ℕ) (p : ProgramTree) → IsRefuted m t channels (Solve problem) →
+    IsAcceptedText text ids p → m ≤ ids → length p.steps ≤ t → p.channels ≤ channels
+    → (¬ ChannelsSolve p ids (patterns_of problem))
+    × ((r : Report) → IsReport (Judge ids workers (Solve problem)) text r → r.status ≡ No)
 
 -- an accepted program fails if it has more identifiers than the tower over those of its channels that are apart by near
 abbrev pub ProgramsNeedChannels : Type 0
@@ -270,6 +310,17 @@ abbrev pub RoundsNeedChannels : Type 0
 RoundsNeedChannels =
     (p : ProgramTree) (m c : ℕ) (s : Separation) → 2 * length p.steps + 2 ≤ m → ChannelsAreBelow p m c → 1 ≤ s.near
     → (s.far ≡ 0) ⊎ (2 * length p.steps + 3 ≤ m) → ChannelsAreApart p m s → m ≤ tower (2 * length p.steps) (spread c s.near)
+
+-- and if they are a maximal independent set on every ring, m is at most the tower of height 2t+2 over 3
+abbrev pub IndependentSetsNeedRounds : Type 0
+IndependentSetsNeedRounds =
+    (p : ProgramTree) (m : ℕ) → 2 * length p.steps + 2 ≤ m → ChannelsAreBelow p m 2 → ChannelsSolve p m independent_set
+    → m ≤ tower (2 * (length p.steps + 1)) 3
+
+-- if they are a maximal matching, m is at most the tower of height 2t over 3
+abbrev pub MatchingsNeedRounds : Type 0
+MatchingsNeedRounds =
+    (p : ProgramTree) (m : ℕ) → 2 * length p.steps + 2 ≤ m → ChannelsAreBelow p m 3 → ChannelsSolve p m matching → m ≤ tower (2 * length p.steps) 3
 
 -- with identifiers for a ring of 2t+3 nodes a program has more channels than twice near, or fails
 abbrev pub RoundsNeedThree : Type 0

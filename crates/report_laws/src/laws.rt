@@ -4,10 +4,11 @@
 ghost use Rattle.report_laws.specs.Laws as law;
 
 use channel_tables::{less_is_apart, one_witness, tuples_suffice};
-use headline::{program_tables_are_apart, tables_are_apart_on_rings};
+use headline::{program_tables_are_apart, program_tables_solve, tables_are_apart_on_rings};
 use lang_check::one_refusal;
 use lower_bound::{nearby_places_need_four, odd_rings_need_three, tables_need_channels};
 use node_lang::{first_fault, one_reading, one_text_fault, printed_is_read_back, reading_is_exact};
+use problem_bounds::{independent_sets_need_rounds, matchings_need_rounds};
 use reports::places::{one_list_of_lines, tables_have_channels};
 use table_fill::{
     program_tables_are_tables, table_has_the_channels_of_rounds, table_has_the_channels_of_windows,
@@ -32,6 +33,7 @@ pub fn one_report()
     one_refusal();
     one_ring_fault();
     one_witness();
+    ring_problems::one_witness();
     one_table_fault();
     table_texts_are_apart();
     table_texts_are_read();
@@ -47,14 +49,16 @@ pub fn each_task_has_a_report()
     first_fault();
     one_text_fault();
     tuples_suffice();
+    ring_problems::tuples_suffice();
     number_of_window();
+    rings_have_windows();
     windows_have_numbers();
     tables_have_channels();
     each_text_has_a_verdict();
 }
 
 /// The reports on an accepted program agree with synchronous rounds on rings (Linial 1992). The
-/// status of a judge says whether their channels are apart on every ring. The line of a run and the
+/// status of a judge says whether their channels are apart, or solve the problem, on every ring. The line of a run and the
 /// lines of a plan have their channels on the ring. The lines of a trace have the registers and the
 /// messages of the ring's places, and end with the report of a run. An explanation has the value of
 /// each part of each expression at its place; that of a whole expression is the number that a trace
@@ -67,8 +71,10 @@ pub fn reports_tell_rounds()
     one_refusal();
     one_ring_fault();
     one_witness();
+    ring_problems::one_witness();
     table_has_the_channels_of_rounds();
     program_tables_are_apart();
+    program_tables_solve();
     explanations_show_traces();
 }
 
@@ -83,11 +89,12 @@ pub fn prints_are_read_back()
 
 /// The report of `migrate` on a text of version 2 is that text, so a second `migrate` changes
 /// nothing. The report of `audit` on the report of `table` is that of `judge` with the same near
-/// and far, and the report of `apply` on it that of `plan`.
+/// and far, or on the same problem, and the report of `apply` on it that of `plan`.
 pub fn table_reports_are_read_back()
     ensures keeps { law.MigrateKeepsNewTexts }
     ensures twice { law.MigrateTwiceIsOnce }
     ensures audit { law.AuditOfTableIsJudge }
+    ensures solves { law.AuditOfTableSolves }
     ensures apply { law.ApplyOfTableIsPlan }
 {
     table_texts_are_apart();
@@ -113,17 +120,22 @@ pub fn audited_channels_are_apart()
 /// most its number of rounds and at most its number of channels keeps its separation, or one that
 /// asks for more; if far is 0 in the formula alone, the table must have identifiers for a ring of
 /// `2t+3` nodes.
-/// So every accepted program with these numbers fails on some ring, and the judge says no.
+/// So every accepted program with these numbers fails on some ring, and the judge says no. The same
+/// holds of the formula of a problem: no such table and no such program solves it.
 pub fn refuted_is_impossible()
     ensures table { law.NoTableIfRefuted }
     ensures program { law.NoProgramIfRefuted }
+    ensures table_solves { law.NoTableSolvesIfRefuted }
+    ensures program_solves { law.NoProgramSolvesIfRefuted }
 {
     refutations_are_sound();
     one_reading();
     one_refusal();
     one_witness();
+    ring_problems::one_witness();
     program_tables_are_tables();
     program_tables_are_apart();
+    program_tables_solve();
     less_is_apart();
     tuples_suffice();
     rings_have_windows();
@@ -155,6 +167,22 @@ pub fn programs_need_channels()
     tuples_suffice();
     number_of_window();
     windows_have_numbers();
+}
+
+/// Linial's lower bound (1992) for problems: if on every ring of identifiers below `m` the channels of
+/// `t` rounds of a program are a maximal independent set (channels 0 and 1), `m` is at most the tower
+/// of height `2t+2` over 3; if they are a maximal matching (0 to 2), that of height `2t` over 3. The
+/// program need not be accepted, and so has no limits.
+pub fn problems_need_rounds()
+    ensures sets { law.IndependentSetsNeedRounds }
+    ensures matchings { law.MatchingsNeedRounds }
+{
+    independent_sets_need_rounds();
+    matchings_need_rounds();
+    table_has_the_channels_of_rounds();
+    table_has_the_channels_of_windows();
+    tuples_are_rings();
+    program_tables_solve();
 }
 
 /// From `2t+3` identifiers on there is a ring of an odd number of nodes, so that a program of `t`
@@ -191,7 +219,8 @@ pub fn programs_need_four()
 }
 
 /// The note on a list that is no ring, on a place that a ring has not, on a number of segments, on
-/// a fault of a refutation, on a no or on a yes over no tuples is one text.
+/// a fault of a refutation, on a no, or on a yes over no tuples or with a pattern that never matches is
+/// one text.
 #[tactic(auto, using(crate::proofs::OneNote::one_note))]
 pub fn one_note()
     ensures { law.OneNote }

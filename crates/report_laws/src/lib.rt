@@ -6,6 +6,6 @@ mod laws;
 
 pub use laws::{
     audited_channels_are_apart, each_task_has_a_report, one_note, one_report, prints_are_read_back,
-    programs_need_channels, programs_need_four, programs_need_three, refuted_is_impossible,
-    reports_tell_rounds, table_reports_are_read_back,
+    problems_need_rounds, programs_need_channels, programs_need_four, programs_need_three,
+    refuted_is_impossible, reports_tell_rounds, table_reports_are_read_back,
 };

@@ -1,4 +1,4 @@
-use Rattle.report_laws.proofs.ToldRounds.{judge_tells, run_tells, trace_tells, trace_ends, explain_tells, explain_shows, plan_tells, table_tells}
+use Rattle.report_laws.proofs.ToldRounds.{judge_solves, judge_tells, run_tells, trace_tells, trace_ends, explain_tells, explain_shows, plan_tells, table_tells}
 use Rattle.report_laws.proofs.laws.reports_tell_rounds.Goals as goal
 
 pub returns : goal.returns
@@ -8,6 +8,7 @@ returns c =
     let ring = c.one_ring_fault.ensures.none in
     record {
       judge = judge_tells reading accepted c.one_witness.ensures.none c.program_tables_are_apart.ensures;
+      solve = judge_solves reading accepted c.one_witness-2.ensures.none c.program_tables_solve.ensures;
       run = run_tells reading accepted ring;
       trace = trace_tells reading accepted ring;
       finish = trace_ends reading accepted ring;

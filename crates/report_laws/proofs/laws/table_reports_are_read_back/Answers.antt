@@ -1,4 +1,4 @@
-use Rattle.report_laws.proofs.ReadBack.{keeps, twice, audit, apply}
+use Rattle.report_laws.proofs.ReadBack.{keeps, twice, audit, audit_solves, apply}
 use Rattle.report_laws.proofs.laws.table_reports_are_read_back.Goals as goal
 
 pub returns-clause-keeps : goal.returns-clause-keeps
@@ -10,6 +10,10 @@ returns-clause-twice c = twice c.table_texts_are_apart.ensures c.table_texts_are
 pub returns-clause-audit : goal.returns-clause-audit
 returns-clause-audit c =
     audit c.table_texts_are_apart.ensures c.table_texts_are_read.ensures c.program_tables_are_tables.ensures
+
+pub returns-clause-solves : goal.returns-clause-solves
+returns-clause-solves c =
+    audit_solves c.table_texts_are_apart.ensures c.table_texts_are_read.ensures c.program_tables_are_tables.ensures
 
 pub returns-clause-apply : goal.returns-clause-apply
 returns-clause-apply c =
