@@ -52,6 +52,7 @@ static char *is_true;                   /* by place of a literal */
 static int *reasons;                    /* by place of a literal */
 static int *marks, mark;                /* by place of a literal: marked where it is the latest mark */
 static struct list units, trail, hints;
+static struct list originals;           /* the formula's clauses with a literal twice; the first ones after it are these without that */
 
 /* Ends with a message. */
 static void fail(const char *form, ...) {
@@ -207,7 +208,7 @@ static void watch(int number) {
 /* Puts a clause there, once. */
 static void put(int number) {
     clauses[number].is_there = 1;
-    if (clauses[number].length == 1)
+    if (clauses[number].length < 2)
         append(&units, number);
     else
         watch(number);
@@ -265,15 +266,16 @@ static int visit(int is_needed, int false_literal) {
     return 0;
 }
 
-/* Sets the literals of the clauses of one literal that are needed, or of the others; returns one whose literal is false, or 0. */
+/* Sets the literals of the clauses of one literal that are needed, or of the others; returns one whose literal is false or that has
+ * none, or 0. */
 static int visit_units(int is_needed) {
     for (long each = 0; each < units.count; each++) {
         struct clause *clause = &clauses[units.at[each]];
-        int literal = clause->literals[0];
         if (clause->is_needed != is_needed)
             continue;
-        if (is_true[place_of(-literal)])
+        if (!clause->length || is_true[place_of(-clause->literals[0])])
             return units.at[each];
+        int literal = clause->literals[0];
         if (!is_true[place_of(literal)])
             set(literal, units.at[each]);
     }
@@ -340,12 +342,40 @@ static void tell(long done, long count) {
     fprintf(stderr, "lrat: %ld of %ld steps are left\n", count - done, count);
 }
 
+/* Adds a clause, and returns its number. If it is in a chain, a later line can take it away. */
+static int add(int *head, int *literals, int length, unsigned hash) {
+    int number = ++clause_count;
+    clauses[number] = (struct clause){literals, length, head ? *head : 0, hash, 0, 0};
+    if (head)
+        *head = number;
+    return number;
+}
+
+/* Adds the clauses of the formula. Those with a literal twice are not in a chain; after all others they are added without that, as
+ * steps of the proof. */
+static void add_formula(struct lines given, int *heads, unsigned modulus, struct list *history) {
+    unsigned hash;
+    int length, *literals;
+    for (long each = 0; each < given.count; each++) {
+        literals = literals_of(given.at[each], &length, &hash);
+        int is_twice = length < given.at[each].length;
+        int number = add(is_twice ? NULL : &heads[hash % modulus], literals, length, hash);
+        if (is_twice)
+            append(&originals, number);
+    }
+    for (long each = 0; each < originals.count; each++) {
+        struct clause original = clauses[originals.at[each]];
+        literals = memcpy(sized(NULL, original.length * sizeof(int)), original.literals, original.length * sizeof(int));
+        append(history, add(&heads[original.hash % modulus], literals, original.length, original.hash));
+    }
+}
+
 /* Reads both files. Returns the steps of the proof: clauses that are added, by their number, or taken away, by its negative. The last
  * one adds the empty clause, and the clauses after it are there. */
 static struct list load(const char *formula, const char *proof) {
     struct lines given = read_lines(formula, 0), steps = read_lines(proof, 1);
     struct list history = {NULL, 0, 0};
-    size_t places = 2 * (size_t)variable_count + 2, most = given.count + steps.count + 2;
+    size_t places = 2 * (size_t)variable_count + 2, most = 2 * given.count + steps.count + 2;
     if (most > INT_MAX / 2)
         fail("the proof has too many steps");
     marks = zeroed(places, sizeof(int)), is_true = zeroed(places, 1), reasons = zeroed(places, sizeof(int));
@@ -354,13 +384,12 @@ static struct list load(const char *formula, const char *proof) {
     unsigned modulus = (unsigned)most;
     int *heads = zeroed(modulus, sizeof(int)), length = 1;
     formula_count = (int)given.count;
-    for (long each = 0; each <= given.count + steps.count; each++) {
+    add_formula(given, heads, modulus, &history);
+    for (long each = 0; each <= steps.count; each++) {
         struct line line = {0, 0, 0};
         unsigned hash;
-        if (each < given.count)
-            line = given.at[each];
-        else if (each < given.count + steps.count)
-            line = steps.at[each - given.count];
+        if (each < steps.count)
+            line = steps.at[each];
         int *literals = literals_of(line, &length, &hash);
         if (line.is_deleted) {
             int number = take_same(heads, modulus, length, hash);
@@ -368,12 +397,7 @@ static struct list load(const char *formula, const char *proof) {
                 append(&history, -number);
             continue;
         }
-        int number = ++clause_count, *head = &heads[hash % modulus];
-        clauses[number] = (struct clause){literals, length, *head, hash, 0, 0};
-        *head = number;
-        if (each < given.count)
-            continue;
-        append(&history, number);
+        append(&history, add(&heads[hash % modulus], literals, length, hash));
         if (!length)
             break;
     }
@@ -405,7 +429,8 @@ static struct step *needed_steps(struct list history, long *count) {
         clause->is_there = 0;
         if (!clause->is_needed)
             continue;
-        int found = conflict(clause);
+        long original = number - formula_count - 1L;
+        int found = original < originals.count ? originals.at[original] : conflict(clause);
         if (!found) {
             fputs("lrat: the proof is not whole, or not by unit propagation alone: ", stderr);
             for (int literal = 0; literal < clause->length; literal++)

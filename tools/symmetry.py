@@ -2,8 +2,9 @@
 
 A clique of windows has distinct channels. Where near and far are at most 1 all channels are alike, so these are fixed to 0, 1, 2 ..;
 elsewhere one window is fixed to a channel, since all windows are alike, and that channel is refuted for each window, and by the mirror
-of the channels its opposite. The identifiers that no fixed window has are alike too. So there is a window for each of them whose
-channels rise, and a case for each list of channels that rise. Each such step is a line with an exchange, which `nbhd refute` checks.
+of the channels its opposite, unless patterns are forbidden, which need not allow the mirror. The identifiers that no fixed window has are
+alike too. So there is a window for each of them whose channels rise, and a case for each list of channels that rise. Each such step is a
+line with an exchange, which `nbhd refute` checks.
 """
 
 from collections import deque
@@ -15,14 +16,20 @@ class Damaged(Exception):
     """What is wrong with the proof of a case."""
 
 
-class Question:
-    """The formula of a number of channels, and which windows are fixed or rise."""
+def skip_head(file):
+    """Reads the head of a formula, and returns the number of the clauses, which follow in the file."""
+    return int(next(words for words in (line.split() for line in file) if words[0] in ("p", b"p"))[3])
 
-    def __init__(self, ids, rounds, channels, near, far):
+
+class Question:
+    """The formula of a number of channels, and which windows are fixed or rise. `forbidden` are patterns in place of near and far."""
+
+    def __init__(self, ids, rounds, channels, near, far, forbidden=()):
         self.ids, self.rounds, self.channels, self.near, self.far = ids, rounds, channels, near, far
         self.windows = [*permutations(range(ids), 2 * rounds + 1)]
         self.numbers = {window: number for number, window in enumerate(self.windows)}
-        self.are_channels_alike = near <= 1 and far <= 1
+        self.has_mirror = not forbidden
+        self.are_channels_alike = near <= 1 and far <= 1 and not forbidden
         self.fixed = self.clique() if self.are_channels_alike else self.windows[:1]
         used = {it for window in self.fixed for it in window}
         last = self.fixed[-1][1:]
@@ -67,8 +74,9 @@ class Question:
 
 
 def units(question, low):
-    """The clauses that no window has a channel below `low`, nor one of their mirror."""
-    channels = sorted({*range(low), *range(question.channels - low, question.channels)})
+    """The clauses that no window has a channel below `low`, nor one of their mirror if there is that."""
+    mirror = range(question.channels - low, question.channels) if question.has_mirror else ()
+    channels = sorted({*range(low), *mirror})
     return [[-question.literal(window, channel)] for window in question.windows for channel in channels]
 
 
@@ -89,7 +97,7 @@ class Refutation:
         self.lemmas, self.by_literal = [], {}
         kept = {question.numbers[window] for window in question.fixed + question.rising}
         with open(formula, encoding="ascii") as file:
-            self.clause_count = int(next(file).split()[3])
+            self.clause_count = skip_head(file)
             for number, line in enumerate(file, 1):
                 clause = [*map(int, line.split()[:-1])]
                 if all((abs(it) - 1) // question.channels in kept for it in clause):
@@ -97,9 +105,10 @@ class Refutation:
         self.newest = self.clause_count
 
     def index(self, number, clause):
-        """Notes a clause by its literals."""
+        """Notes a clause by its literals, but for those that are there twice."""
         for it in clause:
-            self.by_literal.setdefault(it, []).append((number, clause))
+            if clause.count(it) == 1:
+                self.by_literal.setdefault(it, []).append((number, clause))
 
     def write(self, *words):
         self.file.write(" ".join(map(str, words)) + "\n")
@@ -136,9 +145,9 @@ class Refutation:
         return found
 
     def everywhere(self, number, clause):
-        """Adds what a clause becomes by all exchanges of identifiers and by the mirror."""
+        """Adds what a clause becomes by all exchanges of identifiers and by the mirror if there is that."""
         pairs = [("i", *two) for two in combinations(range(self.question.ids), 2)]
-        return self.images(number, clause, [*pairs, ("m",)])
+        return self.images(number, clause, [*pairs, ("m",)] if self.question.has_mirror else pairs)
 
     def insert(self, name, path, assumed, lemmas):
         """Adds the steps of a case's proof, each with the assumed literals that it rests on. Returns the last clause and its number."""
