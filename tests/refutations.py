@@ -9,6 +9,7 @@ from itertools import permutations
 from math import perm
 from pathlib import Path
 from random import Random
+from typing import NamedTuple
 
 import formulas
 
@@ -19,21 +20,60 @@ NUMBER, LITERAL = re.compile(rb"[0-9]+"), re.compile(rb"-?[0-9]+")
 FORM, NOT_ASCENDING, UNKNOWN_VARIABLE, UNKNOWN_HINT, NOT_UNIT, NO_CONFLICT, NO_EMPTY_CLAUSE = "L2", "L3", "L4", "L5", "L6", "L7", "L8"
 NO_EXCHANGE = "L9"
 
-# Identifiers, rounds, channels, near and far of problems without a table.
+
+class Separated(NamedTuple):
+    """A problem: tables of so many rounds and channels that keep a separation."""
+
+    ids: int
+    rounds: int
+    channels: int
+    near: int
+    far: int
+
+    def clauses(self):
+        return formulas.clauses(*self)
+
+    def size(self):
+        return formulas.size(*self)
+
+    def words(self):
+        return formulas.words(*self)
+
+    def allows(self, exchange):
+        """Whether the tables that solve the problem do so after an exchange."""
+        if exchange[0] == b"i":
+            return max(exchange[1:]) < self.ids
+        return exchange[0] == b"m" or max(exchange[1:]) < self.channels and self.near <= 1 and self.far <= 1
+
+    def any_exchange(self, numbers):
+        """An exchange that is allowed."""
+        letter = numbers.choice([b"i", b"m", b"c"] if self.near <= 1 and self.far <= 1 else [b"i", b"m"])
+        count = 0 if letter == b"m" else 2
+        return (letter, *(numbers.randrange(self.ids if letter == b"i" else self.channels) for _ in range(count)))
+
+    def refuted(self):
+        """The line for a refutation."""
+        return f"refuted: ids {self.ids} rounds {self.rounds} channels {self.channels} near {self.near} far {self.far}\n"
+
+
+# Problems without a table.
 PROBLEMS = [
-    (2, 0, 1, 1, 0),
-    (3, 0, 2, 1, 0),
-    (3, 0, 4, 2, 1),
-    (3, 0, 3, 1, 2),
-    (4, 0, 3, 1, 1),
-    (4, 1, 1, 1, 0),
-    (4, 1, 2, 2, 0),
-    (5, 1, 2, 1, 0),
-    (5, 1, 3, 2, 0),
-    (5, 1, 2, 1, 1),
-    (5, 0, 4, 1, 0),
-    (4, 0, 5, 2, 1),
-    (5, 1, 3, 1, 1),
+    Separated(*problem)
+    for problem in [
+        (2, 0, 1, 1, 0),
+        (3, 0, 2, 1, 0),
+        (3, 0, 4, 2, 1),
+        (3, 0, 3, 1, 2),
+        (4, 0, 3, 1, 1),
+        (4, 1, 1, 1, 0),
+        (4, 1, 2, 2, 0),
+        (5, 1, 2, 1, 0),
+        (5, 1, 3, 2, 0),
+        (5, 1, 2, 1, 1),
+        (5, 0, 4, 1, 0),
+        (4, 0, 5, 2, 1),
+        (5, 1, 3, 1, 1),
+    ]
 ]
 
 
@@ -95,14 +135,6 @@ def exchange_in(words):
     return None, words
 
 
-def is_allowed(problem, exchange):
-    """Whether the tables that solve a problem do so after an exchange."""
-    ids, _, channels, near, far = problem
-    if exchange[0] == b"i":
-        return max(exchange[1:]) < ids
-    return exchange[0] == b"m" or max(exchange[1:]) < channels and near <= 1 and far <= 1
-
-
 @cache
 def windows(ids, rounds):
     """The windows in order, and their numbers."""
@@ -112,7 +144,7 @@ def windows(ids, rounds):
 
 def exchanged(problem, exchange, literal):
     """What a literal becomes by an exchange."""
-    ids, rounds, channels, *_ = problem
+    channels = problem.channels
     letter, *two = exchange
     window, channel = divmod(abs(literal) - 1, channels)
 
@@ -120,7 +152,7 @@ def exchanged(problem, exchange, literal):
         return sum(two) - it if it in two else it
 
     if letter == b"i":
-        listed, numbers = windows(ids, rounds)
+        listed, numbers = windows(problem.ids, problem.rounds)
         window = numbers[tuple(map(other, listed[window]))]
     else:
         channel = channels - 1 - channel if letter == b"m" else other(channel)
@@ -145,8 +177,8 @@ def follow(clauses, clause, hints):
 
 def first_fault(problem, text):
     """The first fault of a text and its line, `None` for a refutation."""
-    clauses = dict(enumerate(formulas.clauses(*problem), 1))
-    variables, newest = formulas.size(*problem)
+    clauses = dict(enumerate(problem.clauses(), 1))
+    variables, newest = problem.size()
     lines = text.split(b"\n")
     for place, line in enumerate(lines, 1):
         try:
@@ -160,7 +192,7 @@ def first_fault(problem, text):
                     raise Fault(NOT_ASCENDING)
                 if any(abs(it) > variables for it in clause):
                     raise Fault(UNKNOWN_VARIABLE)
-                if exchange and not is_allowed(problem, exchange):
+                if exchange and not problem.allows(exchange):
                     raise Fault(NO_EXCHANGE)
                 follow(clauses, [exchanged(problem, exchange, it) for it in clause] if exchange else clause, hints)
                 if not clause:
@@ -176,12 +208,7 @@ def report(problem, text):
     if len(text) > MAX_BYTES:
         return "refutation fault L1\n", 3
     fault = first_fault(problem, text)
-    return (f"refutation fault {fault}\n", 3) if fault else (refuted(*problem), 0)
-
-
-def refuted(ids, rounds, channels, near, far):
-    """The line for a refutation."""
-    return f"refuted: ids {ids} rounds {rounds} channels {channels} near {near} far {far}\n"
+    return (f"refutation fault {fault}\n", 3) if fault else (problem.refuted(), 0)
 
 
 class Search:
@@ -190,7 +217,7 @@ class Search:
     def __init__(self, problem, numbers):
         self.numbers = numbers
         self.clauses, self.places, self.steps = {}, {}, []
-        for clause in formulas.clauses(*problem):
+        for clause in problem.clauses():
             self.add(clause)
         self.close([])
 
@@ -204,7 +231,7 @@ class Search:
     def propagate(self, decisions):
         """The true literals in order, each with the clause that it is the last one of, and a clause without a literal left."""
         reasons = {it: None for it in decisions}
-        units = [name for name, clause in self.clauses.items() if len(clause) == 1]
+        units = [name for name, clause in self.clauses.items() if len(clause) < 2]
         order = [*decisions]
         for place in range(-1, 10**9):
             if place >= len(order):
@@ -239,26 +266,19 @@ def written(word, numbers):
     return f"{word:09}" if isinstance(word, int) and numbers.random() < 0.002 else str(word)
 
 
-def any_exchange(problem, numbers):
-    """An exchange that tables of a problem allow."""
-    ids, _, channels, near, far = problem
-    letter = numbers.choice([b"i", b"m", b"c"] if near <= 1 and far <= 1 else [b"i", b"m"])
-    return (letter, *(numbers.randrange(ids if letter == b"i" else channels) for _ in range(0 if letter == b"m" else 2)))
-
-
 def refutation(problem, numbers, has_exchanges=False):
     """The text of a refutation: numbers with gaps, deletions, comments and leading zeros here and there. With exchanges some steps add
     what a clause becomes by an exchange, and from that the clause."""
     steps = Search(problem, numbers).steps
     last_uses = {hint: name for name, _, hints in steps for hint in hints}
-    count = formulas.size(*problem)[1]
+    count = problem.size()[1]
     lines, names, newest = [], {}, count
     for name, clause, hints in steps:
         newest += numbers.choice([1, 1, 1, 2, 10])
         names[name] = newest
         reasons, words = [names.get(it, it) for it in hints], []
         if has_exchanges and numbers.random() < 0.4:
-            exchange = any_exchange(problem, numbers)
+            exchange = problem.any_exchange(numbers)
             words = [exchange[0].decode(), *exchange[1:]]
             lines.append([newest, *words, *(exchanged(problem, exchange, it) for it in clause), 0, *reasons, 0])
             reasons = [newest]
@@ -360,7 +380,7 @@ DAMAGES = [
 EXCHANGE_DAMAGES = [other_letter, *DAMAGES[1:]]
 
 # Texts for a problem with 15 clauses and 6 variables. The first clauses are 1 2, 3 4 and 5 6, and the fourth is -1 -3.
-SMALL = (3, 0, 2, 1, 0)
+SMALL = Separated(3, 0, 2, 1, 0)
 TEXTS = [
     "",
     "\n",
@@ -488,7 +508,7 @@ TEXTS = [
 
 def small_refutation():
     """A refutation of the small problem: of the first window's channels each leads to a conflict."""
-    names = {tuple(clause): name for name, clause in enumerate(formulas.clauses(*SMALL), 1)}
+    names = {tuple(clause): name for name, clause in enumerate(SMALL.clauses(), 1)}
     not_first = [names[-1, -3], names[3, 4], names[-1, -5], names[5, 6], names[-4, -6]]
     not_second = [1, names[-2, -4], 2, names[-2, -6], 3, names[-3, -5]]
     return f"16 -1 0 {' '.join(map(str, not_first))} 0", f"17 0 16 {' '.join(map(str, not_second))} 0"
@@ -509,28 +529,28 @@ def small_texts():
 def kept():
     """The refutations and the tables of examples/least, by the names of their files."""
     for path in sorted(FOLDER.glob("*")):
-        problem = [int(re.search(rf"{name}(\d+)", path.name)[1]) for name in ["ids", "rounds", "channels", "near", "far"]]
+        problem = Separated(*(int(re.search(rf"{name}(\d+)", path.name)[1]) for name in Separated._fields))
         if ".lrat" in path.suffixes:
             text = lzma.decompress(path.read_bytes()) if path.suffix == ".xz" else path.read_bytes()
-            yield f"refute {formulas.words(*problem)}", text, refuted(*problem), 0
+            yield f"refute {problem.words()}", text, problem.refuted(), 0
         else:
-            ids, rounds, _, _, far = problem
-            yield "audit", path.read_bytes(), f"yes: {perm(ids, 2 * rounds + 2 + (far > 0))} tuples\n", 0
+            count = perm(problem.ids, 2 * problem.rounds + 2 + (problem.far > 0))
+            yield "audit", path.read_bytes(), f"yes: {count} tuples\n", 0
 
 
 def rows():
     yield from kept()
     for text in small_texts():
         text = text.encode("latin-1")
-        yield f"refute {formulas.words(*SMALL)}", text, *report(SMALL, text)
+        yield f"refute {SMALL.words()}", text, *report(SMALL, text)
     for text, line in [(MAX_BYTES * b" ", "refutation fault L2 line 1\n"), (MAX_BYTES * b" " + b" ", "refutation fault L1\n")]:
-        yield f"refute {formulas.words(*SMALL)}", text, line, 3
+        yield f"refute {SMALL.words()}", text, line, 3
     for has_exchanges, damages in [(False, DAMAGES), (True, EXCHANGE_DAMAGES)]:
         numbers = Random(20261127)
         for turn in range(COUNT):
             problem = PROBLEMS[turn % len(PROBLEMS)]
-            line, right = f"refute {formulas.words(*problem)}", refutation(problem, numbers, has_exchanges)
-            yield line, right, refuted(*problem), 0
+            line, right = f"refute {problem.words()}", refutation(problem, numbers, has_exchanges)
+            yield line, right, problem.refuted(), 0
             for damage in damages:
                 text = damage(right, numbers)
                 yield line, text, *report(problem, text)
