@@ -559,15 +559,55 @@ def kept():
             yield f"audit --problem {name}", text, f"yes: {tuple_count(ids, rounds, problem.patterns)} tuples\n", 0
 
 
+def turned(window):
+    """The channel of weak2_6 in examples/: the last bit, turned where both neighbours have the same one."""
+    left, own, right = (it & 1 for it in window)
+    return own ^ (left == own == right)
+
+
+def turned_near_ends(window):
+    """That of weak2_12: turned where both neighbours have the same last bit, but not of both neighbours the same holds."""
+    bits = [it & 1 for it in window]
+    is_inside = [len({*bits[place - 1 : place + 2]}) == 1 for place in [1, 2, 3]]
+    return bits[2] ^ (is_inside[1] and not (is_inside[0] and is_inside[2]))
+
+
+def taken(window):
+    """That of matching_bits: an even node is matched to an odd one on its right."""
+    left, own, right = (it & 1 for it in window)
+    return 1 if (own, right) == (0, 1) else 2 if (left, own) == (0, 1) else 0
+
+
+# The names of programs of examples/ that are right, with identifiers, rounds and the problem; and of those that are wrong, with their rule.
+RIGHT = [
+    ("mis_12", 12, 3, KNOWN["mis"]),
+    ("mis_10", 10, 4, KNOWN["mis"]),
+    ("matching_12", 12, 3, KNOWN["matching"]),
+    ("greedy3_12", 12, 3, ["0,0", "1,1", "2,2", "0,2,0", "1,2,1", "2,1,2"]),
+    ("weak2_6", 6, 1, KNOWN["weak2"]),
+    ("weak2_12", 10, 2, KNOWN["weak2"]),
+    ("weak2_23", 23, 2, KNOWN["weak2"]),
+]
+WRONG = [
+    ("mis_7", 7, 2, KNOWN["mis"], lambda window: int(0 in window[::2])),
+    ("weak2_6", 7, 1, KNOWN["weak2"], turned),
+    ("weak2_12", 11, 2, KNOWN["weak2"], turned_near_ends),
+    ("matching_bits", 8, 1, KNOWN["matching"], taken),
+]
+
+
 def examples():
-    """Verdicts on the programs of examples/ that are for maximal independent sets: one is right, the other not on all rings of six nodes."""
-    patterns = [pattern(it) for it in KNOWN["mis"]]
-    right, wrong = ((EXAMPLES / f"{name}.txt").read_bytes() for name in ["mis_12", "mis_7"])
-    channels = [int(0 in window[::2]) for window in windows(7, 2)[0]]
-    for workers in [1, 4]:
-        options = f"--problem mis --workers {workers}"
-        yield f"judge --ids 12 {options}", right, f"yes: {tuple_count(12, 3, patterns)} tuples\n", 0
-        yield f"judge --ids 7 {options}", wrong, *verdict(7, 2, patterns, channels)
+    """Verdicts on the programs of examples/ that are for problems."""
+    for name, ids, rounds, words in RIGHT:
+        patterns = [pattern(it) for it in words]
+        text, line = (EXAMPLES / f"{name}.txt").read_bytes(), f"yes: {tuple_count(ids, rounds, patterns)} tuples\n"
+        for workers in [1, 4]:
+            yield f"judge --ids {ids} {options(patterns)} --workers {workers}", text, line, 0
+    for name, ids, rounds, words, rule in WRONG:
+        patterns, channels = [pattern(it) for it in words], [int(rule(window)) for window in windows(ids, rounds)[0]]
+        answer = verdict_of_tuples(ids, rounds, patterns, channels)
+        for workers in [1, 4]:
+            yield f"judge --ids {ids} {options(patterns)} --workers {workers}", (EXAMPLES / f"{name}.txt").read_bytes(), *answer
 
 
 def rows():
