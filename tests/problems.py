@@ -1,7 +1,7 @@
 """Problems of forbidden patterns: audits of random tables, verdicts on programs, formulas, and refutations, right ones and damaged ones. A
 row has the words, the input, the standard output and the exit status. The expected values are those of a second implementation, which is
 here, from docs/LANGUAGE.md. Whether a table solves a problem is asked of each place of each ring of each length; tuples are gone through
-only for the least bad one, and for wider tables, whose rings are too many. What is in examples/problems was found by other programs (docs/LEAST.md), and has to be accepted."""
+only for the least bad one, and for wider tables, whose rings are too many. What is in examples/problems was found by other programs (docs/PROBLEMS.md), and has to be accepted."""
 
 import lzma
 import re
@@ -549,14 +549,16 @@ def made():
 def kept():
     """The refutations and the tables of examples/problems, by the names of their files."""
     for path in sorted((EXAMPLES / "problems").glob("*")):
-        name, *sizes = re.fullmatch(r"(\w+)_rounds(\d+)_ids(\d+)_channels(\d+)\..*", path.name).groups()
+        name, *sizes = re.fullmatch(r"([\w-]+)_rounds(\d+)_ids(\d+)_channels(\d+)\..*", path.name).groups()
         rounds, ids, count = map(int, sizes)
-        problem = Forbidding(ids, rounds, count, tuple(map(pattern, KNOWN[name])))
+        words = KNOWN.get(name) or [it.replace("-", ",").replace("x", "*") for it in name.split("_")]
+        problem = Forbidding(ids, rounds, count, tuple(map(pattern, words)))
+        asked = f"--problem {name}" if name in KNOWN else options(problem.patterns)
         text = lzma.decompress(path.read_bytes()) if path.suffix == ".xz" else path.read_bytes()
         if ".lrat" in path.suffixes:
-            yield f"refute --ids {ids} --rounds {rounds} --channels {count} --problem {name}", text, problem.refuted(), 0
+            yield f"refute --ids {ids} --rounds {rounds} --channels {count} {asked}", text, problem.refuted(), 0
         else:
-            yield f"audit --problem {name}", text, f"yes: {tuple_count(ids, rounds, problem.patterns)} tuples\n", 0
+            yield f"audit {asked}", text, f"yes: {tuple_count(ids, rounds, problem.patterns)} tuples\n", 0
 
 
 def turned(window):
