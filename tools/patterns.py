@@ -1,11 +1,14 @@
-"""Forbidden patterns: how the tools read the words --forbid and --problem, and what a pattern asks of the channels of places in a row."""
+"""Forbidden patterns: how the tools read the words --forbid and --problem, and sizes, and what a pattern asks of the channels of places in a
+row."""
 
 import argparse
 import hashlib
 import re
 from itertools import permutations
+from math import perm
 
 MAX_PATTERNS, MAX_CHANNEL, MOST_LETTERS = 256, (1 << 32) - 1, 150
+MAX_IDS, MAX_ROUNDS, MAX_WINDOWS = 1024, 4, 1 << 22
 PATTERN = re.compile(r"(?:[0-9]+|\*)(?:,(?:[0-9]+|\*)){0,2}")
 # The problems of a course, with their patterns.
 KNOWN = {
@@ -21,6 +24,29 @@ def pattern(word):
     if not entries or any(entry is not None and entry > MAX_CHANNEL for entry in entries):
         raise argparse.ArgumentTypeError(f"{word!r} is no pattern of one to three channels or `*`, as in 1,1 or 0,*,0")
     return (*entries, None, None)[:3]
+
+
+def number(least, most):
+    """A reader of numbers in this range."""
+
+    def read(word):
+        if not word.isdecimal() or not least <= int(word) <= most:
+            raise argparse.ArgumentTypeError(f"{word!r} is not a number from {least} to {most}")
+        return int(word)
+
+    return read
+
+
+def add_size(parser):
+    """Adds the words for the numbers of identifiers and of rounds."""
+    parser.add_argument("--ids", type=number(2, MAX_IDS), required=True, metavar="M", help="the number of identifiers")
+    parser.add_argument("--rounds", type=number(0, MAX_ROUNDS), required=True, metavar="T", help="the number of rounds")
+
+
+def check_size(parser, given):
+    """Refuses numbers of identifiers and of rounds that no table has."""
+    if given.ids < 2 * given.rounds + 2 or perm(given.ids, 2 * given.rounds + 1) > MAX_WINDOWS:
+        parser.error(f"no table has {given.rounds} rounds and {given.ids} identifiers")
 
 
 def add_options(parser, near=int, far=int):
