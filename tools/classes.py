@@ -4,20 +4,32 @@ The identifiers are parted into classes, the first of them into the first class 
 classes, none of which comes more often than it has identifiers, since those of a window are distinct; its table gives a window the
 channel of its classes. Where there is a rule there is a table; where there is none there may be other tables.
 
+The text of a rule has the lines `nbhd-rule 1`, `rounds T ids M channels C near P far Q` and `classes A B ..`, with the number of
+identifiers of each class, and then the channels of all lists of classes in lexicographic order, each as a digit or a small letter; their
+lines may be broken anywhere.
+
 A rule may also turn: if `turn` is above 1, classes 0 to `turn-1` are exchanged in a circle, and so are the next ones, without those at
 the end that are too few; the channels too if all forbidden patterns stay forbidden. A list of classes that are turned has the channel of
 the list, turned. So few lists are asked.
 """
 
+import re
+import string
 import subprocess
 import time
-from math import comb
+from itertools import permutations
+from math import comb, perm
 from typing import NamedTuple
+
+from patterns import MAX_ROUNDS, MAX_WINDOWS
 
 # The exit statuses of a solver, and what is said of them.
 ANSWERS = {10: "yes", 20: "no", 0: "open"}
 # The most clauses of a formula, and of how many parts of the time it has one.
 MOST_CLAUSES, PART = 2_500_000, 3
+# The signs of the channels in the text of a rule, and how many are in a line.
+SIGNS, IN_LINE = string.digits + string.ascii_lowercase, 100
+HEAD = re.compile(r"nbhd-rule 1\nrounds (\d) ids (\d{1,4}) channels (\d+) near (\d+) far (\d+)\nclasses (\d+(?: \d+)*)\n([0-9a-z\n]*)")
 
 
 class Failure(Exception):
@@ -137,16 +149,19 @@ class Formula:
 
     def solve(self, seconds):
         """Asks cadical for a rule. Returns its answer, and the channel of each list of classes if there is a rule."""
-        lines = [f"{' '.join(map(str, clause))} 0\n" for clause in self.clauses()]
-        head = f"p cnf {len(self.asked) * self.demand.channels} {len(lines)}\n"
-        words = ["cadical", "-q", "-t", str(max(1, round(seconds)))]
-        ran = subprocess.run(words, input=head + "".join(lines), capture_output=True, text=True)
+        text, count = bytearray(), 0
+        for clause in self.clauses():
+            text += f"{' '.join(map(str, clause))} 0\n".encode()
+            count += 1
+        head = f"p cnf {len(self.asked) * self.demand.channels} {count}\n"
+        words = ["cadical", "--sat", "-q", "-t", str(max(1, round(seconds)))]
+        ran = subprocess.run(words, input=head.encode() + text, capture_output=True)
         answer = ANSWERS.get(ran.returncode)
         if not answer:
-            raise Failure(f"cadical failed with the status {ran.returncode}: {ran.stderr.strip()}")
+            raise Failure(f"cadical failed with the status {ran.returncode}: {ran.stderr.decode(errors='replace').strip()}")
         if answer != "yes":
             return answer, None
-        true = {int(word) for line in ran.stdout.splitlines() if line.startswith("v") for word in line.split()[1:]}
+        true = {int(word) for line in ran.stdout.splitlines() if line.startswith(b"v") for word in line.split()[1:]}
         channel_of = {
             window: next(channel for channel, variable in enumerate(self.variables[window]) if variable in true)
             for window in lists(self.sizes, 2 * self.demand.rounds + 1)
@@ -154,14 +169,67 @@ class Formula:
         return answer, channel_of
 
 
+class Rule(NamedTuple):
+    """The channel of each list of classes, with what its table is to keep."""
+
+    demand: Demand
+    sizes: list
+    channel_of: dict
+
+    def text(self):
+        """The text of the rule."""
+        signs = "".join(SIGNS[channel] for channel in self.channel_of.values())
+        lines = [signs[place : place + IN_LINE] for place in range(0, len(signs), IN_LINE)]
+        return "\n".join(["nbhd-rule 1", self.shape(), f"classes {' '.join(map(str, self.sizes))}", *lines, ""])
+
+    def shape(self):
+        """The second line of the text of the rule and of its table."""
+        it = self.demand
+        return f"rounds {it.rounds} ids {sum(self.sizes)} channels {it.channels} near {it.near} far {it.far}"
+
+    def table(self):
+        """The text of the table, in parts."""
+        yield f"nbhd-table 2\n{self.shape()}\n"
+        class_of = [place for place, size in enumerate(self.sizes) for _ in range(size)]
+        ids, endings = range(len(class_of)), {}
+        words = [f"{it} " for it in ids]
+        for beginning in permutations(ids, 2 * self.demand.rounds):
+            own = tuple(map(class_of.__getitem__, beginning))
+            if own not in endings:
+                # (without a class that has no identifier left)
+                channels = [self.channel_of.get((*own, class_of[it])) for it in ids]
+                endings[own] = [f"{it} : {channel}\n" for it, channel in zip(ids, channels)]
+            first, last = "".join(map(words.__getitem__, beginning)), endings[own]
+            yield first + first.join([last[it] for it in ids if it not in beginning])
+        yield "end\n"
+
+
+def read_rule(text):
+    """The rule of a text."""
+    if not (found := HEAD.fullmatch(text)):
+        raise Failure("this is not the text of a rule, which begins with `nbhd-rule 1`, a line as that of a table, and `classes A B ..`")
+    rounds, ids, channels, near, far = map(int, found.groups()[:5])
+    sizes, signs = [*map(int, found[6].split())], found[7].replace("\n", "")
+    if sum(sizes) != ids or 0 in sizes:
+        raise Failure(f"the classes have {sum(sizes)} identifiers, not {ids}, or one of them has none")
+    if rounds > MAX_ROUNDS or ids < 2 * rounds + 2 or perm(ids, 2 * rounds + 1) > MAX_WINDOWS:
+        raise Failure(f"no table has {rounds} rounds and {ids} identifiers")
+    if len(signs) != count_lists(sizes, 2 * rounds + 1):
+        raise Failure(f"there are {len(signs)} channels for {count_lists(sizes, 2 * rounds + 1)} lists of classes")
+    if any(sign not in SIGNS[:channels] for sign in signs):
+        raise Failure(f"a channel is not below {channels}")
+    channel_of = dict(zip(lists(sizes, 2 * rounds + 1), map(SIGNS.index, signs)))
+    return Rule(Demand(rounds, channels, near, far, []), sizes, channel_of)
+
+
 def attempts(demand, ids):
     """The numbers of classes, from few to many, each with how many of them are turned: all first, which is the smallest formula, then all
     in two circles or more, and at last none."""
-    forbidden = demand.patterns()
-    in_row = 2 + any(third is not None for *_, third in forbidden)
+    thirds, length = [third for *_, third in demand.patterns()], 2 * demand.rounds + 1
+    of_two = thirds.count(None)
     for count in range(1, ids + 1):
         sizes = sizes_of(ids, count)
-        clauses = count_lists(sizes, 2 * demand.rounds + in_row) * len(forbidden)
+        clauses = count_lists(sizes, length + 1) * of_two + count_lists(sizes, length + 2) * (len(thirds) - of_two)
         yield from ((sizes, turn) for turn in range(count, 0, -1) if count % turn == 0 and clauses <= MOST_CLAUSES * turn)
 
 
