@@ -153,7 +153,7 @@ test("least: what is known of fewer channels", () => {
   assert.equal(fewerChannels(1, 22, 1, 0, 6).example, undefined);
   assert.equal(said(1, 8, 1, 0, 4), "Fewer channels? No: with 3 channels there is none.");
   assert.equal(said(1, 8, 1, 0, 3), "No program does it with so few: with 3 channels there is no table.");
-  assert.equal(said(3, 8, 1, 0, 3), undefined);
+  assert.equal(said(4, 10, 1, 0, 3), undefined);
 });
 
 test("least: the rule without a round, for every number of identifiers", () => {
