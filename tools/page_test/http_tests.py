@@ -11,7 +11,7 @@ import time
 from pathlib import Path
 
 from server import Server
-from steps import CV1, PROGRAM, ROOT, STEPS
+from steps import CV1, PROGRAM, ROOT, STEPS, nbhd
 
 JSON = {"Content-Type": "application/json"}
 CHECK = {"command": "check", "options": {"ids": "8"}, "text": CV1}
@@ -91,7 +91,12 @@ def bodies(server):
     changes = [{"command": value} for value in ("audit", ["check"], "--help", None)]
     changes += [{"text": value} for value in (5, None)]
     changes += [{"options": value} for value in (None, ["ids"], {"ring": "1"}, {"workers": "64"}, {"help": ""})]
-    changes += [{"options": {"ids": value}} for value in (8, "8\0", "\ud800", "9" * 9000)]
+    changes += [{"options": {"ids": value}} for value in (8, "8\0", "\ud800", "9" * 9000, ["8"])]
+    # Lists of patterns with too many characters in all, and values that are no lists of words.
+    lists = (["1,1"] * 2001, [""] * 8001, ["1" * 8000], "1,1", ["1,1", 1], [["1,1"]], {"1,1": "1"}, ["1,1\0"], ["\ud800"], [], None)
+    changes += [{"command": "judge", "options": {"ids": "8", "forbid": value}} for value in lists]
+    changes += [{"command": "judge", "options": {"ids": "8", "problem": value}} for value in (["mis"], None)]
+    changes += [{"options": {"ids": "8", name: value}} for name, value in (("forbid", ["1,1"]), ("problem", "mis"))]
     for body in broken + [json.dumps({**CHECK, **change}).encode() for change in changes]:
         STEPS.equal(f"body {body[:60]}", server.ask("POST /nbhd", JSON, body)[0], 400)
     headers = (
@@ -121,6 +126,14 @@ def long_requests(server):
     for ids in ("--help", "8 --help", "8;id", "$(id)", ""):
         STEPS.equal(f"ids {ids}", server.run("check", {"ids": ids}, CV1)[1].get("status"), 2)
     STEPS.equal("ring -h", server.run("trace", {"ids": "8", "ring": "-h"}, CV1)[1].get("status"), 2)
+    for options in ({"forbid": ["-h"]}, {"forbid": ["1,1", "--help"]}, {"forbid": [""]}, {"problem": "--help"}, {"problem": "none"}):
+        STEPS.equal(f"judge {options}", server.run("judge", {"ids": "8", **options}, CV1)[1].get("status"), 2)
+    STEPS.equal("too many patterns", server.run("judge", {"ids": "8", "forbid": ["1,1"] * 257}, CV1)[1].get("status"), 2)
+    words = ["--ids", "8", "--forbid", "9,9", "--forbid", "0,*,0"]
+    answer = server.run("judge", {"ids": "8", "forbid": ["9,9", "0,*,0"]}, CV1)
+    STEPS.equal("two patterns", (answer[0], answer[1].get("out")), (200, nbhd(CV1, "judge", *words)))
+    answer = server.run("judge", {"ids": "8", "problem": "mis"}, CV1)
+    STEPS.equal("a problem", (answer[0], answer[1].get("out")), (200, nbhd(CV1, "judge", "--ids", "8", "--problem", "mis")))
     linial = (ROOT / "examples/linial_poly.txt").read_text(encoding="ascii")
     refused = {"refused": "the output is longer than 8 MB"}
     STEPS.equal("a table over 8 MB", server.run("table", {"ids": "102"}, linial), (503, refused))

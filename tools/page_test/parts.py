@@ -67,6 +67,8 @@ def documents():
 def server_parts():
     body = b'{"command": "trace", "options": {"ids": "8", "ring": "-h"}, "text": "\\u00e9"}'
     STEPS.equal("words and text", orders.words_and_text(body), (["trace", "--ids=8", "--ring=-h"], "\u00e9".encode()))
+    body = b'{"command": "judge", "options": {"ids": "8", "forbid": ["0,0", "-h"]}, "text": ""}'
+    STEPS.equal("words of patterns", orders.words_and_text(body), (["judge", "--ids=8", "--forbid=0,0", "--forbid=-h"], b""))
     for broken in (b"", b"null", b'{"command": "table", "options": {"ring": "1"}, "text": ""}'):
         STEPS.equal(f"no words: {broken}", refused(orders.words_and_text, broken), 400)
     files = page_files(ROOT)
