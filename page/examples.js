@@ -2,6 +2,7 @@
 
 import { byId, html } from "./dom.js";
 import { roundsOf } from "./language.js";
+import { PROBLEMS, problemOf } from "./problems.js";
 import { change, exampleAsking, exampleOf, isLinked, state } from "./state.js";
 
 /** The examples: name, title, text, and the number of identifiers that a comment recommends, else 8. */
@@ -21,6 +22,8 @@ export function fillExamples(examples) {
   for (const example of examples) {
     const count = roundsOf(example.text);
     const facts = [example.name, count === 1 ? "1 round" : `${count} rounds`, `${example.ids} identifiers`];
+    const problem = PROBLEMS[problemOf(example.text)];
+    if (problem) facts.push(problem.title);
     list.append(html("button", { type: "button", onclick: () => take(example, count) },
       html("span", { class: "title" }, example.title), html("span", { class: "aside" }, facts.join(" · "))));
   }
@@ -62,8 +65,8 @@ function showAnswer() {
   byId("answer").href = `docs/ANSWERS.html#${example ? example.name.replace(/\.txt$/, "") : "what-to-try"}`;
 }
 
-/** Takes an example with its number of identifiers, a new ring if the current one is no ring for it, and the start of its run if
- * the number of steps is another one, unless the end was shown. */
+/** Takes an example with its number of identifiers, its problem, a new ring if the current one is no ring for it, and the start of its
+ * run if the number of steps is another one, unless the end was shown. A problem that was chosen stays if the example names none. */
 function take(example, rounds) {
   byId("examples").hidePopover();
   const ids = Number(example.ids);
@@ -72,8 +75,10 @@ function take(example, rounds) {
   const fits = ring.length >= least && ring.every((identifier) => identifier < ids);
   const next = fits ? state.ring : spread(Math.max(least, Math.min(8, ids)), ids);
   const step = state.step === "end" || roundsOf(state.text) === rounds ? state.step : "";
+  const isChosen = state.problem !== problemOf(state.text);
+  const problem = isChosen && problemOf(example.text) === "differ" ? state.problem : problemOf(example.text);
   taken = example.text;
-  change({ text: example.text, ids: example.ids, ring: next, step }, { keep: true });
+  change({ text: example.text, ids: example.ids, problem, ring: next, step }, { keep: true });
 }
 
 /** Ctrl-Z takes the choice of an example back, as the browser's Back does, while its text is as it was chosen. */

@@ -1,7 +1,8 @@
 // The page as a whole: after a change of the state the text is checked, and the open view is updated.
 
 import { byId } from "./dom.js";
-import { change, exampleOf, followAddress, link, missingExample, onChange, state } from "./state.js";
+import { QUESTIONS } from "./demand.js";
+import { change, exampleOf, followAddress, link, missingNames, onChange, state } from "./state.js";
 import { onEdit, showText } from "./editor.js";
 import { fillExamples, loadExamples, showExample, undoByKey } from "./examples.js";
 import { startHelp } from "./help.js";
@@ -15,7 +16,8 @@ const VIEWS = { run: updateRun, judge: updateJudge, table: updateTable, graph: u
 // The views that a value of the state belongs to. The text and the number of identifiers belong to all views.
 const USERS = {
   ring: ["run", "table"], step: ["run"], why: ["run"], base: ["run"],
-  near: ["judge", "graph"], far: ["judge", "graph"], prefix: ["table"], arrange: ["graph"], large: ["run", "judge"],
+  problem: ["run", "judge", "table", "graph"], near: ["judge", "graph"], far: ["judge", "graph"],
+  forbid: ["run", "judge", "table", "graph"], prefix: ["table"], arrange: ["graph"], large: ["run", "judge"],
 };
 const PAUSE_MS = 250;
 
@@ -38,11 +40,14 @@ function update(changed) {
   }
 }
 
-/** Says that the link names an example that is not there. */
+/** Says that the link names an example or a problem that is not there. */
 function showMissing() {
-  const name = missingExample();
-  byId("missing").textContent = name === null ? "" : `There is no example ${name}: this is ${exampleOf(state.text)?.name ?? "no text"}.`;
-  byId("missing").hidden = name === null;
+  const { example, problem } = missingNames();
+  const said = [];
+  if (example) said.push(`There is no example ${example}: this is ${exampleOf(state.text)?.name ?? "no text"}.`);
+  if (problem) said.push(`There is no problem ${problem}: the judge asks for “${QUESTIONS[state.problem]}”.`);
+  byId("missing").textContent = said.join(" ");
+  byId("missing").hidden = said.length === 0;
 }
 
 async function checkAndUpdate() {

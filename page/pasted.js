@@ -2,8 +2,10 @@
 
 import { ask, drop } from "./ask.js";
 import { byId, coded } from "./dom.js";
+import { demandOf } from "./demand.js";
 import { change, state } from "./state.js";
 import { readRefusal } from "./faults.js";
+import { lookOf } from "./look.js";
 import { drawRing } from "./ring.js";
 import { whyNoRing, withCommas } from "./ring-text.js";
 import { readPlaces } from "./table.js";
@@ -32,7 +34,7 @@ function show(places, why) {
   refused.hidden = why === "";
   byId("pasted-say").textContent = places ? `The channels from place 0 on: ${places.channels.join(" ")}.` : "";
   const label = `Ring of ${places?.ring.length} nodes by the table`;
-  const drawing = places && drawRing({ ...places, digits: 0, label });
+  const drawing = places && drawRing({ ...places, look: lookOf(demandOf(state), places.channels), digits: 0, label });
   byId("pasted-stage").replaceChildren(...(drawing ? [drawing.image] : []));
 }
 

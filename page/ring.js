@@ -24,11 +24,11 @@ export function measure(n, digits = 0, sentDigits = 0) {
 }
 
 /**
- * Draws the ring with the identifiers `ring`; `channels` and `labels` may be missing; a label is the `text` beside a node, with its
- * `title`. `show` gives the texts of a list of numbers. `label` is the drawing's text for screen readers. Returns the image with its
- * sizes, layers and nodes.
+ * Draws the ring with the identifiers `ring`; `channels` with their `look`, and `labels` may be missing; a label is the `text` beside a
+ * node, with its `title`. `show` gives the texts of a list of numbers. `label` is the drawing's text for screen readers. Returns the image
+ * with its sizes, layers and nodes.
  */
-export function drawRing({ ring, channels, labels, digits, sentDigits, label, show = (values) => values.map(String), margin = 0 }) {
+export function drawRing({ ring, channels, look, labels, digits, sentDigits, label, show = (values) => values.map(String), margin = 0 }) {
   const size = measure(ring.length, digits, sentDigits);
   const width = size.width + 2 * margin;
   const height = size.height + 2 * margin;
@@ -40,14 +40,11 @@ export function drawRing({ ring, channels, labels, digits, sentDigits, label, sh
     layers[name] = svg("g", { class: name });
     image.append(layers[name]);
   }
-  for (let place = 0; place < ring.length; place += 1) {
-    const equal = channels && channels[place] === channels[(place + 1) % ring.length];
-    layers.links.append(drawLink(size, place, equal));
-  }
+  for (let place = 0; place < ring.length; place += 1) layers.links.append(drawLink(size, place, look?.links[place] ?? []));
   const names = show(ring);
   const channelNames = channels && show(channels);
   const nodes = names.map((name, place) => {
-    const channel = channels && { number: channels[place], text: channelNames[place] };
+    const channel = channels && { number: channels[place], text: channelNames[place], look: look?.nodes[place] ?? [] };
     const node = drawNode(size, place, name, channel, labels?.[place]);
     layers.nodes.append(node);
     return node;
@@ -55,30 +52,35 @@ export function drawRing({ ring, channels, labels, digits, sentDigits, label, sh
   return { image, size, layers, nodes };
 }
 
-/** A link, which keeps 5 from both discs. Whether there is room for it and its arrowhead is the same for all links of a ring. */
-function drawLink({ n, node, radius, free }, place, equal) {
+/** A link, which keeps 5 from both discs. Whether there is room for it and its arrowhead is the same for all links of a ring. The line
+ * of a pair goes from disc to disc, so that it is seen in every ring. */
+function drawLink({ n, node, radius, free }, place, look) {
   const off = (node + 5) / radius / (2 * Math.PI);
-  const group = svg("g", { class: equal ? "link equal" : "link" });
+  const group = svg("g", { class: ["link", ...look].join(" ") });
   const [from, to] = [place / n + off, (place + 1) / n - off];
+  const edge = node / radius / (2 * Math.PI);
+  if (look.includes("pair")) group.append(svg("path", { d: arc(place / n + edge, (place + 1) / n - edge, radius), class: "pair-line" }));
   if (free <= 10) return group;
   group.append(svg("path", { d: arc(from, to, radius), class: "link-line" }));
   if (free > 15) group.append(arrowhead(to, radius, n <= 20 ? 9 : 5));
   return group;
 }
 
-/** A node: its disc and the text of its identifier, with its channel `{ number, text }` and label if there are any. */
+/** A node: its disc and the text of its identifier, with its channel `{ number, text, look }` and label if there are any. */
 export function drawNode(size, place, identifier, channel, label) {
   const turn = place / size.n;
-  const group = svg("g", { class: "node" });
+  const look = channel?.look ?? [];
+  const isPlain = channel === undefined || look.includes("outside");
+  const group = svg("g", { class: ["node", ...look].join(" ") });
   group.dataset.place = place;
   moveNode(group, size, turn);
   const disc = { r: size.node, class: "disc" };
-  disc.style = { fill: channel === undefined ? "" : colourOf(channel.number), strokeWidth: size.numbered ? "" : "0.6px" };
+  disc.style = { fill: isPlain ? "" : colourOf(channel.number), strokeWidth: size.numbered ? "" : "0.6px" };
   group.append(svg("circle", disc));
   if (size.numbered) {
     const digits = String(identifier).length;
     const font = Math.min(size.node * 0.95, (size.node * 2.3) / Math.max(digits, 2));
-    const kind = channel === undefined ? "identifier" : "identifier on-colour";
+    const kind = isPlain ? "identifier" : "identifier on-colour";
     group.append(svg("text", { class: kind, "font-size": font }, identifier));
   } else {
     group.append(svg("title", {}, identifier));

@@ -1,11 +1,15 @@
 // The state of the page. It is kept in the fragment of the address, so that a link can carry an exercise.
 
+import { QUESTIONS } from "./demand.js";
+import { problemOf } from "./problems.js";
 import { withCommas } from "./ring-text.js";
 
 // The step of a run is its number, `end` for the last one, and empty for the start; `why` is the place of the node that is explained.
-// The base is that of a run's numbers; `large` is `1` for a class.
+// The base is that of a run's numbers; `large` is `1` for a class. The problem is `differ`, `distance` for near and far, one of those that
+// have a name, or `own` for the patterns of `forbid`; without one it is that which the text names, or `distance` if there is near or far.
 const DEFAULTS = {
-  view: "run", ids: "8", ring: "5,1,3,7", step: "", why: "", base: "10", near: "1", far: "0", prefix: "", arrange: "channel", large: "",
+  view: "run", ids: "8", ring: "5,1,3,7", step: "", why: "", base: "10", problem: "", near: "1", far: "0", forbid: "", prefix: "",
+  arrange: "channel", large: "",
 };
 const BASES = ["2", "10"];
 const FIRST = "cv1.txt";
@@ -17,7 +21,7 @@ const listeners = [];
 let examples = [];
 let written = "";
 let linked = "";
-let missing = null; // the name of the link's example, if there is none such
+let missing = {}; // the names of the example and of the problem that the link asks for, if there is none such
 let timer;
 let first = true; // before the first change nothing is shown, so all values count as changed
 
@@ -78,8 +82,8 @@ export function link() {
 /** Whether the text is that of the address, as it was read. */
 export const isLinked = () => state.text === linked;
 
-/** The name of an example that the link asks for and that is not there, until the text is changed; else `null`. */
-export const missingExample = () => (isLinked() ? missing : null);
+/** The names of the `example` and of the `problem` that the link asks for and that are not there, until the text is changed. */
+export const missingNames = () => (isLinked() ? missing : {});
 
 export const exampleOf = (text) => examples.find((example) => example.text === text);
 
@@ -100,9 +104,13 @@ function read() {
   if (!BASES.includes(values.base)) values.base = DEFAULTS.base;
   const named = said.example ?? FIRST;
   const example = examples.find(({ name }) => name === named);
-  missing = example || said.text !== undefined ? null : named;
+  missing = { example: example || said.text !== undefined ? null : named, problem: null };
   values.text = said.text ?? (example ?? examples[0])?.text ?? "";
   linked = values.text;
+  if (!Object.hasOwn(QUESTIONS, values.problem)) {
+    missing.problem = said.problem || null;
+    values.problem = said.near || said.far ? "distance" : problemOf(values.text);
+  }
   written = location.hash;
   change(values);
 }
@@ -116,8 +124,11 @@ function write(asNewEntry = false) {
 
 function fragment() {
   const example = exampleOf(state.text);
-  const parts = Object.entries(DEFAULTS)
-    .filter(([name, value]) => ["view", "ids", "ring"].includes(name) || state[name] !== value)
+  const defaults = { ...DEFAULTS, problem: problemOf(state.text) };
+  // Near and far are said where they are asked, as a link with them and without a problem asks them.
+  const isSaid = (name) => state.problem === "distance" || !["near", "far"].includes(name);
+  const parts = Object.entries(defaults)
+    .filter(([name, value]) => ["view", "ids", "ring"].includes(name) || (state[name] !== value && isSaid(name)))
     .map(([name]) => `${name}=${escape(state[name])}`);
   parts.push(example ? `example=${escape(example.name)}` : `text=${escape(state.text)}`);
   return "#" + parts.join("&");

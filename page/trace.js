@@ -39,12 +39,17 @@ export function sentenceOf(step, ring) {
     return `Round ${step.round}: with what came from both sides each node assigns its registers. `
       + `What a node now holds depends only on its window: the ${seen} identifiers within distance ${step.round}.`;
   }
-  const pairs = equalPairs(step.channels);
-  if (pairs.length === 0) return "`finish` gives each node its channel. On this ring neighbours’ channels differ.";
+  return "`finish` gives each node its channel.";
+}
+
+/** A sentence on neighbours with equal channels. */
+export function equalSentence(channels, ring) {
+  const pairs = equalPairs(channels);
+  if (pairs.length === 0) return "On this ring neighbours’ channels differ.";
   const [p] = pairs;
   const [a, b] = [ring[p], ring[(p + 1) % ring.length]];
   const others = ["", "; so has 1 other pair"][pairs.length - 1] ?? `; so have ${pairs.length - 1} other pairs`;
-  return `\`finish\` gives each node its channel. Neighbours ${a} and ${b} have the same channel${others}.`;
+  return `Neighbours ${a} and ${b} have the same channel${others}.`;
 }
 
 /** The places whose right neighbour has the same channel. */

@@ -1,11 +1,20 @@
 // Reading what `nbhd judge` prints.
 
-/** Reads `no: ring A B .. place P channel X`, or `.. places P Q channels X Y`; `null` for any other line. */
+/**
+ * Reads `no: ring A B .. place P channel X`, `.. places P Q channels X Y` or `.. places P Q R channels X Y Z`; `null` for any other line.
+ */
 export function readNo(line) {
-  const match = line.match(/^no: ring ([\d ]+) places? (\d+)(?: (\d+))? channels? (\d+)(?: (\d+))?$/);
+  const match = line.match(/^no: ring ([\d ]+) places? ([\d ]+) channels? ([\d ]+)$/);
   if (!match) return null;
-  const ring = match[1].split(" ").map(Number);
-  const first = Number(match[2]);
-  const second = match[3] === undefined ? (first + 1) % ring.length : Number(match[3]);
-  return { ring, places: [first, second], channels: [Number(match[4]), Number(match[5] ?? match[4])] };
+  const [ring, places, channels] = match.slice(1).map((numbers) => numbers.split(" ").map(Number));
+  if (places.length > 1) return { ring, places, channels };
+  // Of one place the right neighbour has the same channel.
+  return { ring, places: [places[0], (places[0] + 1) % ring.length], channels: [channels[0], channels[0]] };
+}
+
+/** What the notes of a verdict on a problem say: what is `wrong` on the ring of a no, and all `others`, as sentences without an end. */
+export function readNotes(text) {
+  const lines = text.split("\n").filter((line) => line.startsWith("nbhd: ")).map((line) => line.slice("nbhd: ".length));
+  const wrong = lines.map((line) => line.match(/^on the ring [\d,]+ (.*)$/)?.[1]);
+  return { wrong: wrong.find((part) => part !== undefined), others: lines.filter((_, i) => wrong[i] === undefined) };
 }

@@ -1,7 +1,9 @@
 // Run: the drawing of a ring, and the steps of its run.
 
 import { ask, drop } from "./ask.js";
+import { demandOf, sentenceOn } from "./demand.js";
 import { byId, coded, html } from "./dom.js";
+import { lookOf } from "./look.js";
 import { clamp, whyNoNumber } from "./numbers.js";
 import { change, state } from "./state.js";
 import { drawRing, drawWindow, hasRoomForNames, say } from "./ring.js";
@@ -99,7 +101,10 @@ function show({ moving = false } = {}) {
   stage.classList.toggle("idle", !step);
   markRows(step ? rowsOfStep(state.text, step) : null);
   for (const name of ["back", "play", "forward"]) byId(name).disabled = !step;
-  byId("run-say").replaceChildren(...(step ? coded(sentenceOf(step, shown(ring))) : []));
+  const demand = demandOf(state);
+  const channels = step?.channels;
+  byId("run-say").replaceChildren(...(step ? coded(sentenceOf(step, shown(ring))) : []),
+    ...(channels ? coded(` ${sentenceOn(demand, channels, shown(ring), shown(channels))}`) : []));
   drawing = null;
   if (!ring) return stage.replaceChildren();
   if (steps) {
@@ -111,7 +116,7 @@ function show({ moving = false } = {}) {
   }
   const focused = stage.contains(document.activeElement) ? document.activeElement.dataset.place : undefined;
   drawing = drawRing({
-    ring, channels: step?.channels, digits: digits[0], sentDigits: digits[1],
+    ring, channels, look: channels && lookOf(demand, channels), digits: digits[0], sentDigits: digits[1],
     labels: step && shown(step.registers[register])
       .map((value) => ({ text: named ? `r0=${value}` : value, title: `r${register} = ${value}` })),
     show: shown,
@@ -147,7 +152,8 @@ function showStep(step, moving) {
 /** Gives a node its description for screen readers, and its keys. */
 function describe(node, place, ring, step) {
   const held = step ? step.registers.map((values, j) => `r${j} ${values[place]}`).join(", ") : "";
-  const channel = step?.channels ? `, channel ${step.channels[place]}` : "";
+  const wrong = node.matches(".broken") ? ", in a forbidden pattern" : "";
+  const channel = step?.channels ? `, channel ${step.channels[place]}${wrong}` : "";
   node.setAttribute("tabindex", place === Math.min(tabStop, ring.length - 1) ? "0" : "-1");
   node.setAttribute("role", "button");
   node.setAttribute("aria-label",

@@ -4,7 +4,7 @@ import re
 import time
 from pathlib import Path
 
-from steps import CV1, LDB, ROOT, STEPS
+from steps import CV1, LDB, PAIRS, ROOT, STEPS
 
 # Pairs of visible texts of a drawing that overlap. Rotated texts are left out: their rectangles are larger than they are.
 OVERLAPS = """(() => {
@@ -34,6 +34,13 @@ LOOKS = {
     "judge-no": {"view": "judge", "ids": "8", "ring": RING, "text": LDB},
     "judge-far": {"view": "judge", "ids": "8", "ring": RING, "example": "cv1.txt", "far": "1"},
     "judge-yes": {"view": "judge", "ids": "8", "ring": RING, "example": "cv1.txt"},
+    "judge-set": {"view": "judge", "ids": "12", "ring": RING, "example": "mis_12.txt"},
+    "judge-set-no": {"view": "judge", "ids": "7", "ring": RING, "example": "mis_7.txt"},
+    "judge-matching-no": {"view": "judge", "ids": "8", "ring": RING, "text": PAIRS, "problem": "matching"},
+    "judge-own": {"view": "judge", "ids": "8", "ring": RING, "example": "cv1.txt", "problem": "own", "forbid": "1,1 0,*,0"},
+    "run-set": {"view": "run", "ids": "12", "ring": "3,1,4,0,5,9,2,6,10,8,7,11", "example": "mis_12.txt"},
+    "run-set-no": {"view": "run", "ids": "7", "ring": "1,2,3,4,5,6", "example": "mis_7.txt"},
+    "run-matching": {"view": "run", "ids": "8", "ring": "7,0,6,1,5,2", "text": PAIRS, "problem": "matching"},
     "table": {"view": "table", "ids": "8", "ring": RING, "example": "cv1.txt", "prefix": "1"},
     "graph": {"view": "graph", "ids": "5", "ring": RING, "text": LDB},
     "graph-120": {"view": "graph", "ids": "6", "ring": RING, "example": "cv1.txt"},

@@ -4,16 +4,21 @@ import assert from "node:assert/strict";
 import { readFileSync } from "node:fs";
 import { test } from "node:test";
 
+import { classOf } from "../../page/classes.js";
+import { classSentence, demandOf, sentenceOn } from "../../page/demand.js";
 import { readRefusal } from "../../page/faults.js";
 import { headRows, OPERATIONS, partTokens, pieces, roundsOf, rowsOfStep } from "../../page/language.js";
 import { fewerChannels, knownChannels } from "../../page/least.js";
+import { lookOf } from "../../page/look.js";
 import { clamp, whyNoNumber } from "../../page/numbers.js";
 import { numerals, widthOf } from "../../page/numerals.js";
+import { brokenPlaces, channelsNamed, readPattern, spanOf, textOf, wordsOf } from "../../page/patterns.js";
+import { fewerRounds, knownRounds, PROBLEMS, problemOf } from "../../page/problems.js";
 import { readRing, whyNoRing, withCommas } from "../../page/ring-text.js";
 import { countChannels, edgesOf, leastBytes, readPlaces, readTable } from "../../page/table.js";
-import { equalPairs, nameOf, sentenceOf, stepsOf } from "../../page/trace.js";
+import { equalPairs, equalSentence, nameOf, sentenceOf, stepsOf } from "../../page/trace.js";
 import { branchesOf, sourceOf, treesIn, treesOf } from "../../page/trees.js";
-import { readNo } from "../../page/verdict.js";
+import { readNo, readNotes } from "../../page/verdict.js";
 
 const FAULTY = "rounds 1\nchannels 6\nregisters 1\nstart\nr0 = id\nround\n  send lift 0\n";
 const TABLE = "nbhd-table 2\nrounds 0 ids 3 channels 2 near 1 far 0\n0 : 0\n1 : 1\n2 : 0\nend\n";
@@ -134,16 +139,169 @@ test("trace: the steps of a run", () => {
 test("trace: sentences", () => {
   const steps = stepsOf(TRACE);
   assert.match(sentenceOf(steps[2], [5, 1, 3, 7]), /the 3 identifiers within distance 1\.$/);
-  assert.match(sentenceOf(steps[3], [5, 1, 3, 7]), /neighbours’ channels differ\.$/);
+  assert.equal(sentenceOf(steps[3], [5, 1, 3, 7]), "`finish` gives each node its channel.");
+  assert.match(equalSentence([2, 4, 3, 5], [5, 1, 3, 7]), /neighbours’ channels differ\.$/);
   assert.deepEqual(equalPairs([1, 1, 2, 1]), [0, 3]);
-  const said = sentenceOf({ kind: "finish", channels: [1, 1, 2, 1] }, [5, 1, 3, 7]);
-  assert.match(said, /Neighbours 5 and 1 have the same channel; so has 1 other pair\.$/);
+  assert.equal(equalSentence([1, 1, 2, 1], [5, 1, 3, 7]), "Neighbours 5 and 1 have the same channel; so has 1 other pair.");
 });
 
 test("verdict: a no of neighbours and one at distance two", () => {
   assert.deepEqual(readNo("no: ring 0 1 2 3 place 3 channel 0"), { ring: [0, 1, 2, 3], places: [3, 0], channels: [0, 0] });
   assert.deepEqual(readNo("no: ring 0 2 1 places 0 2 channels 0 1"), { ring: [0, 2, 1], places: [0, 2], channels: [0, 1] });
   assert.equal(readNo("yes: 24 tuples"), null);
+});
+
+test("verdict: a no to a problem, and its notes", () => {
+  const no = readNo("no: ring 1 2 3 4 5 6 places 2 3 4 channels 0 0 1");
+  assert.deepEqual(no, { ring: [1, 2, 3, 4, 5, 6], places: [2, 3, 4], channels: [0, 0, 1] });
+  const idle = "the pattern 7,7 never matches: all channels are below 2";
+  const found = readNotes(`nbhd: on the ring 1,2,3,4,5,6 node 4 is not in the set, and neither is a neighbour\nnbhd: ${idle}\n`);
+  assert.deepEqual(found, { wrong: "node 4 is not in the set, and neither is a neighbour", others: [idle] });
+  assert.deepEqual(readNotes(""), { wrong: undefined, others: [] });
+});
+
+test("patterns: words, entries and texts", () => {
+  assert.deepEqual(wordsOf(" 1,1\n0,0,0\t*  "), ["1,1", "0,0,0", "*"]);
+  const read = (word) => readPattern(word);
+  assert.deepEqual([read("1,1"), read("0,*,0"), read("1,*,*"), read("*"), read("007"), read("4294967295")],
+    [[1, 1], [0, null, 0], [1], [null], [7], [4294967295]]);
+  for (const word of ["", "1,,1", "1,", "1,2,3,4", "-1", "+1", "a", "1;1", "1, 1", "4294967296", "99999999999999999999"]) {
+    assert.equal(read(word), null, word);
+  }
+  assert.deepEqual(["1,1", "0,*,0", "1,*,*", "*,*", "007"].map((word) => textOf(read(word))), ["1,1", "0,*,0", "1", "*", "7"]);
+  assert.deepEqual(["1", "1,1", "*,1", "*,*,1"].map((word) => spanOf(read(word))), [2, 2, 2, 3]);
+  assert.equal(channelsNamed([[0, null, 2], [1]]), 3);
+});
+
+test("patterns: where a ring breaks them, going round", () => {
+  const places = (words, channels) => brokenPlaces(wordsOf(words).map(readPattern), channels).map(({ place }) => place);
+  assert.deepEqual(places("0,0,0 1,1", [0, 1, 0, 1]), []);
+  assert.deepEqual(places("0,0,0 1,1", [0, 1, 0, 0]), [2]);
+  assert.deepEqual(places("0,0,0 1,1", [0, 1, 0, 0, 0]), [2, 3]);
+  assert.deepEqual(places("0,1", [1, 0]), [1]);
+  // On a ring of two nodes the third place is the first one.
+  assert.deepEqual(places("0,1,0", [0, 1]), [0]);
+  assert.deepEqual(places("0,*,0", [0, 1, 2, 0]), []);
+  assert.deepEqual(places("0,*,0", [0, 1, 0, 2]), [0, 2]);
+});
+
+/** All lists of so many channels below a number. */
+const lists = (length, channels) => Array.from({ length: channels ** length }, (_, number) =>
+  Array.from({ length }, (_unused, place) => Math.floor(number / channels ** place) % channels));
+
+test("problems: their patterns are those of docs/LANGUAGE.md", () => {
+  const page = readFileSync(new URL("../../docs/LANGUAGE.md", import.meta.url), "utf-8");
+  const rows = page.slice(page.indexOf("| Problem | Patterns |")).split("\n\n")[0].split("\n").slice(2);
+  const found = rows.map((row) => row.split(" | ").map((cell) => [...cell.matchAll(/`([^`]*)`/g)].map(([, code]) => code)));
+  assert.deepEqual(Object.entries(PROBLEMS).map(([name, { patterns }]) => [[name], patterns]), found.map(([name, patterns]) => [name, patterns]));
+});
+
+test("problems: no pattern matches exactly where the definition holds", () => {
+  const definitions = {
+    mis: (at, n) => (place) => (at(place) === 1 ? at(place + 1) !== 1 : at(place + n - 1) === 1 || at(place + 1) === 1),
+    // A partner has the other channel, and of two neighbours one has a partner.
+    matching: (at, n) => (place) => ({
+      0: at(place + 1) !== 0 && at(place + n - 1) !== 0, 1: at(place + 1) === 2, 2: at(place + n - 1) === 1,
+    })[at(place)],
+    weak2: (at, n) => (place) => at(place) !== at(place + 1) || at(place) !== at(place + n - 1),
+  };
+  for (const [name, { patterns }] of Object.entries(PROBLEMS)) {
+    const read = patterns.map(readPattern);
+    for (let n = 2; n <= 7; n += 1) {
+      for (const channels of lists(n, channelsNamed(read))) {
+        const holds = channels.map((_, place) => place).every(definitions[name]((place) => channels[place % n], n));
+        assert.equal(brokenPlaces(read, channels).length === 0, holds, `${name} ${channels}`);
+      }
+    }
+  }
+});
+
+test("problems: the one that a comment names", () => {
+  assert.equal(problemOf("# A set.\n# Problem: mis.\nrounds 1"), "mis");
+  for (const text of ["", "# Problem: none", "# The Problem: mis", "# Problem: hasOwnProperty"]) assert.equal(problemOf(text), "differ");
+});
+
+test("problems: what is known of fewer rounds", () => {
+  const [mis, weak] = ["0,0,0 1,1", "0,0,0 1,1,1"];
+  assert.deepEqual([2, 4, 5, 7, 8, 12].map((ids) => knownRounds(mis, ids)), [[-1, 0], [0, 1], [1, undefined], [1, 2], [2, 3], [2, 3]]);
+  const said = (...words) => fewerRounds(...words)?.says;
+  assert.equal(said(mis, 12, 3), "Fewer rounds? For 12 identifiers there is a table of 3 rounds, and none of 2 rounds.");
+  assert.equal(said(mis, 7, 2), "Fewer rounds? For 7 identifiers there is a table of 2 rounds, and none of one round.");
+  assert.equal(said(mis, 4, 1), "Fewer rounds? For 4 identifiers there is a table of one round, and none without a round.");
+  assert.equal(said(mis, 2, 0), "Fewer rounds? For 2 identifiers there is a table without a round.");
+  assert.equal(said(mis, 8, 2), "No program of so few rounds does it: for 8 identifiers there is no table of 2 rounds.");
+  assert.equal(said(mis, 8, 0), "No program of so few rounds does it: for 8 identifiers there is no table of 2 rounds.");
+  assert.equal(fewerRounds(mis, 12, 3).example, "mis_12.txt");
+  assert.equal(fewerRounds(mis, 7, 2).example, undefined);
+  assert.equal(said(weak, 13, 2), "Fewer rounds? For 13 identifiers there is none of one round; more is not known.");
+  assert.equal(said("1,1", 8, 2), undefined);
+  assert.equal(said("1,1 0,0,0", 12, 3), said(mis, 12, 3));
+});
+
+test("classes: those of the literature", () => {
+  const found = (words, channels) => classOf(wordsOf(words).map(readPattern), channels)?.kind;
+  for (const { patterns } of Object.values(PROBLEMS)) assert.equal(found(patterns.join(" "), channelsNamed(patterns.map(readPattern))), "log*");
+  assert.deepEqual([found("0,0 1,1 2,2", 3), found("0,0 1,1", 2), found("1,1", 2), found("*", 2)], ["log*", "global", "constant", "none"]);
+  // Channels that differ at distance two also: with three of them on rings of lengths that three divides, with four on all that are long.
+  const distant = (count) => Array.from({ length: count }, (_, c) => `${c},${c} ${c},*,${c}`).join(" ");
+  assert.deepEqual([found(distant(3), 3), found(distant(4), 4)], ["global", "log*"]);
+  assert.equal(found("0,0", 25), undefined);
+  assert.deepEqual(classOf([[0]], 2), { kind: "constant", channel: 1 });
+  assert.match(classSentence([[1, 1]]), /^On every ring all nodes may have channel 0,/);
+});
+
+test("classes: all problems of two channels, by the rings that have a solution", () => {
+  const rows = lists(3, 2);
+  for (let chosen = 0; chosen < 2 ** rows.length; chosen += 1) {
+    const patterns = rows.filter((_, i) => (chosen >> i) & 1);
+    const has = (n) => lists(n, 2).some((channels) => brokenPlaces(patterns, channels).length === 0);
+    const is = (...row) => patterns.some((pattern) => pattern.join() === row.join());
+    // All rings of 6 nodes and more have one if long ones do: the automaton has four states.
+    const solved = Array.from({ length: 8 }, (_, i) => has(i + 2));
+    const wanted = !is(0, 0, 0) || !is(1, 1, 1) ? "constant" : solved.slice(4).every(Boolean) ? "log*" : solved.some(Boolean) ? "global" : "none";
+    assert.equal(classOf(patterns, 2).kind, wanted, patterns.join(" "));
+  }
+});
+
+test("demand: what the state asks", () => {
+  const state = { problem: "differ", near: "3", far: "2", forbid: " 1,1\n0,*,0 " };
+  assert.deepEqual(demandOf(state), { near: 1, far: 0, options: { near: "1", far: "0" } });
+  assert.deepEqual(demandOf({ ...state, problem: "distance" }), { near: 3, far: 2, options: { near: "3", far: "2" } });
+  assert.match(demandOf({ ...state, problem: "distance", far: "" }).why, /^A number is wanted/);
+  assert.deepEqual(demandOf({ ...state, problem: "mis" }), { name: "mis", patterns: [[0, 0, 0], [1, 1]], options: { problem: "mis" } });
+  assert.deepEqual(demandOf({ ...state, problem: "own" }), { patterns: [[1, 1], [0, null, 0]], options: { forbid: ["1,1", "0,*,0"] } });
+  const refused = demandOf({ ...state, problem: "own", forbid: "1,,1" });
+  assert.deepEqual(refused, { patterns: null, options: { forbid: ["1,,1"] } });
+  assert.match(demandOf({ ...state, problem: "own", forbid: " " }).why, /^Write patterns/);
+  for (const odd of ["1,1\u200b", "1,é", "\u00001", "\ud800"]) {
+    assert.match(demandOf({ ...state, problem: "own", forbid: `0,0 ${odd}` }).why, / is no pattern: /);
+  }
+  assert.match(demandOf({ ...state, problem: "own", forbid: "1,1 ".repeat(2000) }).why, /more than 7000 characters/);
+});
+
+test("demand: sentences on one ring", () => {
+  const said = (problem, channels, forbid = "") =>
+    sentenceOn(demandOf({ problem, near: "1", far: "0", forbid }), channels, ["a", "b", "c", "d"].slice(0, channels.length), channels.map(String));
+  assert.equal(said("mis", [1, 0, 1, 0]), "On this ring the nodes with channel 1 are a maximal independent set.");
+  // Channels that the problem does not have make no set.
+  assert.equal(said("mis", [2, 2, 2, 2]), "On this ring no channels in a row match a forbidden pattern, 0,0,0 1,1.");
+  assert.equal(said("mis", [0, 0, 0, 1]), "Node b is not in the set, and neither is a neighbour.");
+  assert.equal(said("mis", [1, 1, 1, 0]), "Node a is in the set, and so is its right neighbour; another place is wrong too.");
+  assert.equal(said("own", [0, 0, 1, 0], "0,0 0,1,0"), "The pattern 0,0 is forbidden: node a and its right neighbour have channel 0; 2 other places are wrong too.");
+  assert.equal(said("own", [0, 2, 1], "*,2,1"), "The pattern *,2,1 is forbidden: node b has channel 2, its left neighbour 0 and its right neighbour 1.");
+  assert.equal(said("own", [0, 1], "0"), "The pattern 0 is forbidden: node a has channel 0, and its right neighbour 1.");
+  assert.equal(said("own", [0, 1], "0,,"), "The list of forbidden patterns is refused; Judge says why.");
+  assert.equal(said("differ", [0, 1, 1]), "Neighbours b and c have the same channel.");
+});
+
+test("look: what is red, and what a problem looks like", () => {
+  const look = (problem, channels, forbid) => lookOf(demandOf({ problem, near: "1", far: "0", forbid }), channels);
+  assert.deepEqual(look("differ", [0, 0, 1]), { nodes: [[], [], []], links: [["equal"], [], []] });
+  const set = look("mis", [1, 0, 0, 0, 2]);
+  assert.deepEqual(set.nodes, [[], ["broken", "outside"], ["broken", "outside"], ["broken", "outside"], []]);
+  assert.deepEqual(set.links, [[], ["broken"], ["broken"], [], []]);
+  assert.deepEqual(look("matching", [2, 0, 1]).links, [[], [], ["pair"]]);
+  assert.deepEqual(look("own", [0, 0], "1,,1").links, [[], []]);
 });
 
 test("least: what is known of fewer channels", () => {

@@ -61,6 +61,11 @@ class Page:
             f"(document.querySelector(`{selector}`))"
         )
 
+    def choose(self, selector, value):
+        """Chooses the option of a field with this value."""
+        change = "e.dispatchEvent(new Event('change', { bubbles: true }))"
+        self.value(f"(e => {{ e.focus(); e.value = {json.dumps(value)}; {change}; }})(document.querySelector(`{selector}`))")
+
     def listen(self):
         """Notes from now on what the page asks of nbhd."""
         note = "window.fetch = (...words) => { window.asked.push(words[1]?.body); return ask(...words); }"
@@ -69,7 +74,7 @@ class Page:
     def asked(self, command, option):
         """The values of an option in what the page asked a command of nbhd, in order."""
         bodies = [json.loads(body) for body in self.value("window.asked") if body]
-        return [body["options"][option] for body in bodies if body["command"] == command]
+        return [body["options"][option] for body in bodies if body["command"] == command and option in body["options"]]
 
     def call(self, module, expression):
         """The value of an expression over a module `m` of the page."""

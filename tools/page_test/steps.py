@@ -8,6 +8,9 @@ from common import ROOT, Checks, program_path
 PROGRAM = program_path()
 CV1 = (ROOT / "examples/cv1.txt").read_text(encoding="ascii")
 LDB = (ROOT / "programs/ldb.txt").read_text(encoding="ascii")
+# A matching that is wrong: a node with a lesser right neighbour takes it as its partner.
+PAIRS = "rounds 1 channels 3 registers 1 start r0 = id round send left r0 send right r0 "
+PAIRS += "r0 = if(lt(R, r0), 1, if(lt(r0, L), 2, 0)) finish r0"
 
 
 class Steps:

@@ -185,6 +185,11 @@ SMALL = {
     "a large ring": {"ids": "32", "ring": ",".join(str(7 * i % 32) for i in range(24))},
     "yes": {"view": "judge"},
     "no": {"view": "judge", "example": "ldb.txt"},
+    "distance two": {"view": "judge", "far": "1"},
+    "a set": {"view": "judge", "ids": "12", "example": "mis_12.txt"},
+    "a no of a set": {"view": "judge", "ids": "7", "example": "mis_7.txt"},
+    "own patterns": {"view": "judge", "problem": "own", "forbid": "1,1 0,*,0 " * 20},
+    "refused patterns": {"view": "judge", "problem": "own", "forbid": "1,,1"},
     "table": {"view": "table"},
     "a long table": {"view": "table", "ids": "32"},
     "graph": {"view": "graph", "ids": "5"},
@@ -227,6 +232,8 @@ def numbers(page):
     page.fill("#ids", "8")
     page.wait("a number again", "document.querySelector('.check.good') && document.querySelector('#ids').ariaInvalid === 'false'")
     page.click("#tab-judge")
+    page.choose("#problem", "distance")
+    page.wait("near and far", "document.querySelector('#near').checkVisibility() && document.querySelector('#verdict .word')")
     for name in ("near", "far"):
         page.fill(f"#{name}", "")
         page.wait(f"no {name}", "/^A number is wanted: by how much/.test(document.querySelector('#verdict').textContent)")
@@ -335,7 +342,7 @@ def binary(page):
     STEPS.equal("registers in binary", page.texts(".ring .label"), [f"r0={value}" for value in in_base_two(trace["round 1 r0"])])
     page.browser.key("ArrowLeft")
     STEPS.equal("messages in binary", page.texts(".message.right text"), in_base_two(trace["round 1 right"]))
-    page.value("(e => { e.value = '10'; e.dispatchEvent(new Event('change', { bubbles: true })); })(document.querySelector('#base'))")
+    page.choose("#base", "10")
     page.wait("decimal again", "document.querySelector('.message.right text').textContent === '5' && !location.hash.includes('base=')")
 
 

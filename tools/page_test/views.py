@@ -129,8 +129,7 @@ def run(page):
     two = "rounds 0 channels 8 registers 2 start r0 = id r1 = add(id, 10) finish r0"
     page.open(view="run", ids="8", ring=ring, text=two)
     page.wait_ring("a ring of two registers", ring)
-    choose = "(e => { e.value = '1'; e.dispatchEvent(new Event('change', { bubbles: true })); })"
-    page.value(f"{choose}(document.querySelector('#shown-register select'))")
+    page.choose("#shown-register select", "1")
     STEPS.equal("the second register", page.texts(".ring .label"), ["15", "11", "13", "17"])
     STEPS.equal("its titles", page.value(LABEL_TITLES), ["r1 = 15", "r1 = 11", "r1 = 13", "r1 = 17"])
 
@@ -355,8 +354,9 @@ def judge_distances(page):
     STEPS.equal("nothing is known without a ring", page.count(".verdict .fewer"), 0)
     page.open(view="judge", ids="8", ring="5,1,3,7", example="cv1.txt")
     page.wait("the yes for 8 identifiers", "document.querySelector('.verdict.yes')")
-    page.fill("#far", "1")
+    page.choose("#problem", "distance")
     page.wait("the no at distance two", NO_DRAWN)
+    STEPS.equal("it is asked with 1 and 1", page.value("['near', 'far'].map(id => document.getElementById(id).value)"), ["1", "1"])
     line = nbhd(CV1, "judge", *IDS, "--near", "1", "--far", "1")
     found = re.fullmatch(r"no: ring ([\d ]+) places (\d+) (\d+) channels (\d+) (\d+)\n", line)
     ring = found[1].split()
@@ -515,13 +515,16 @@ def links(page):
     page.wait("the address follows the text", "location.hash.includes('%25')")
     page.browser.open(page.value("location.href"))
     STEPS.equal("the address leads to the text", page.value("document.querySelector('#text').value"), text)
-    for example in (1, 2, 3):
+    first_steps = {
+        1: (".ring .label", "Cole and Vishkin"),
+        2: (".verdict.no", "LDB: "),
+        3: (".check.bad", "Program of the link"),
+        4: (".verdict.yes", "A maximal independent set"),
+    }
+    for example, (shown, name) in first_steps.items():
         page.open(view="run", example="cv1.txt", ids="8", ring="5,1,3,7")
         page.wait("the page", "document.querySelector('.check.good')")
         page.click(f".steps a:nth-of-type({example})")
-        shown, name = {
-            1: (".ring .label", "Cole and Vishkin"), 2: (".verdict.no", "LDB: "), 3: (".check.bad", "Program of the link")
-        }[example]
         page.wait(f"first step {example}", f"document.querySelector('{shown}')")
         STEPS.check(f"first step {example}: its name", page.text("#example-name").startswith(name), page.text("#example-name"))
         if example == 2:
