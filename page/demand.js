@@ -69,7 +69,8 @@ export function wrongAt({ name }, { place, pattern }, channels, ring, shown) {
     : ` has channel ${texts[1]}, its left neighbour ${texts[0]} and its right neighbour ${texts[2]}`);
 }
 
-const NO_PATTERNS = "The list of forbidden patterns is refused; Judge says why.";
+/** What the other views say where the list of patterns is none. */
+export const NO_PATTERNS = "The list of forbidden patterns is refused; Judge says why.";
 
 /** What is asked, on one ring with these channels: that it is so, or what is wrong. `ring` and `shown` are texts as for `wrongAt`. */
 export function sentenceOn(demand, channels, ring, shown) {

@@ -1,15 +1,18 @@
 // Graph: the neighbourhood graph. Its vertices are the windows, and its edges go from each window to those of the right neighbour.
-// Neighbours' channels differ by at least `near` on every ring exactly if no edge joins windows with channels closer than that.
+// Neighbours' channels differ by at least `near` on every ring exactly if no edge joins windows with channels closer than that. A
+// problem is solved on every ring exactly if no path of two or three windows has channels that match a forbidden pattern.
 
 import { ask, drop } from "./ask.js";
 import { byId, html, point, svg } from "./dom.js";
 import { change, state } from "./state.js";
 import { badge, badgeImage } from "./channels.js";
+import { demandOf, NO_PATTERNS, patternsText } from "./demand.js";
 import { edgesOf, readTable } from "./table.js";
 import { PROGRAM_REFUSED, readRefusal } from "./faults.js";
-import { whyNoNumber } from "./numbers.js";
+import { wrongPaths } from "./paths.js";
 
 const MOST = 120;
+const SHOWN = 24;
 const FEW = [4, 5, 6]; // the numbers of identifiers that are offered
 const drawing = byId("drawing");
 const sentence = byId("graph-say");
@@ -17,12 +20,15 @@ const cycles = byId("arrange").querySelector("[value=cycle]");
 
 export async function updateGraph(checked) {
   for (const choice of byId("arrange").querySelectorAll("input")) choice.checked = choice.value === state.arrange;
-  const why = whyNoNumber("near", state.near);
-  if (byId("graph-near").value !== state.near) byId("graph-near").value = state.near;
-  byId("graph-near").setAttribute("aria-invalid", why !== null);
+  const demand = demandOf(state);
+  const near = state.problem === "distance" ? state.near : "1";
+  byId("graph-distance").hidden = demand.patterns !== undefined;
+  if (byId("graph-near").value !== near) byId("graph-near").value = near;
+  byId("graph-near").setAttribute("aria-invalid", demand.why !== undefined);
   drop("table");
   if (checked.refusal) return showNothing(PROGRAM_REFUSED);
-  if (why) return showNothing(why);
+  if (demand.patterns === null) return showNothing(NO_PATTERNS);
+  if (demand.why) return showNothing(demand.why);
   const { ids, windows, rounds } = checked.accepted;
   // With 2t+2 identifiers each window has one successor, so the graph consists of disjoint cycles.
   cycles.disabled = ids !== 2 * rounds + 2;
@@ -33,7 +39,7 @@ export async function updateGraph(checked) {
   const answer = await ask("table", "table", { ids: state.ids }, state.text);
   if (answer === undefined) return undefined;
   if (answer.status !== 0) return showNothing(readRefusal(answer, state.text).line);
-  return show(readTable(answer.out));
+  return show(readTable(answer.out), demand);
 }
 
 /** Buttons for few identifiers, or where the rounds allow none of them, which programs have few enough windows. */
@@ -60,26 +66,27 @@ function showNothing(...why) {
   byId("edges").replaceChildren();
 }
 
-function show(table) {
+function show(table, demand) {
   const edges = edgesOf(table);
-  const close = edges.filter((edge) => isClose(table, edge));
+  const paths = wrongPaths(table, edges, demand);
   sentence.className = "say";
-  sentence.textContent = sentenceOn(table, edges.length, close.length);
+  sentence.textContent = `${table.windows.length} windows, ${edges.length.toLocaleString("en")} edges. ${sentenceOn(paths.length, demand)}`;
   const arrange = cycles.disabled && state.arrange === "cycle" ? "channel" : state.arrange;
   byId("arrange").querySelector(`[value=${arrange}]`).checked = true;
   const places = arrange === "cycle" ? cyclePlaces(edges) : circlePlaces(table, arrange);
-  drawing.replaceChildren(draw(table, edges, places));
-  showClose(table, close);
+  drawing.replaceChildren(draw(table, edges, places, new Set(paths.flatMap((path) => path.slice(1).map((b, i) => `${path[i]} ${b}`)))));
+  showWrong(table, paths, demand);
 }
 
-const isClose = ({ channels }, [a, b]) => Math.abs(channels[a] - channels[b]) < Number(state.near);
-
-function sentenceOn({ windows }, edges, close) {
-  const joined = ["None joins", "1 joins"][close] ?? `${close.toLocaleString("en")} join`;
-  const near = Number(state.near);
+function sentenceOn(count, { near, far, patterns }) {
+  const number = count.toLocaleString("en");
+  if (patterns) {
+    const paths = ["No path of windows has", "1 path of windows has"][count] ?? `${number} paths of windows have`;
+    return `${paths} channels that are forbidden in a row: ${patternsText(patterns)}.`;
+  }
+  const joined = ["None joins", "1 joins"][count] ?? `${number} join`;
   const channels = near === 1 ? "windows with equal channels" : `windows whose channels differ by less than ${near}`;
-  const far = Number(state.far) > 0 ? " Distance two is no edge here: the judge looks at it." : "";
-  return `${windows.length} windows, ${edges.toLocaleString("en")} edges. ${joined} ${channels}.${far}`;
+  return `${joined} ${channels}.${far > 0 ? " Distance two is no edge here: the judge looks at it." : ""}`;
 }
 
 /** All windows on one circle, in their order, or by channel with a gap between channels. */
@@ -125,7 +132,8 @@ function cyclePlaces(edges) {
   return { at, width: columns * side, height: rows * side, left: -side / 2, top: -side / 2, bend: -0.7 };
 }
 
-function draw(table, edges, { at, width, height, left, top, bend }) {
+/** The graph with its windows at these places, and the edges of the set `red`, each as its two windows. */
+function draw(table, edges, { at, width, height, left, top, bend }, red) {
   const { windows, channels } = table;
   const image = svg("svg", { class: "graph", viewBox: `${left} ${top} ${width} ${height}`, width, height, role: "group",
     "aria-label": `Neighbourhood graph of ${windows.length} windows. Arrow keys move between them.` });
@@ -137,7 +145,7 @@ function draw(table, edges, { at, width, height, left, top, bend }) {
   const lines = { plain: svg("g", { class: "edges" }), close: svg("g", { class: "edges close" }) };
   const drawn = edges.map(([a, b]) => {
     const line = drawEdge(spot(at[a]), spot(at[b]), at[a].centre, { off: small + 4, bend, headed: edges.length <= 80 });
-    lines[isClose(table, [a, b]) ? "close" : "plain"].append(line);
+    lines[red.has(`${a} ${b}`) ? "close" : "plain"].append(line);
     return { a, b, line };
   });
   const points = windows.map((window, i) => {
@@ -213,18 +221,21 @@ function pointLabel(window, { turn }, [x, y], along) {
   return svg("text", { class: "window-name", x, y: y + dy * 5, "text-anchor": anchor }, window);
 }
 
-function showClose({ windows, channels }, close) {
-  if (close.length === 0) return byId("edges").replaceChildren();
-  const badges = ([a, b]) => [...new Set([channels[a], channels[b]])].map((channel) => badgeImage(channel));
+/** The paths of windows whose channels are wrong, as a list. */
+function showWrong({ windows, channels }, paths, { near, patterns }) {
+  if (paths.length === 0) return byId("edges").replaceChildren();
+  const close = near === 1 ? "Edges between equal channels" : "Edges between channels that are too close";
+  const channelsOf = (path) => path.map((i) => channels[i]);
+  const badges = (path) => (patterns ? channelsOf(path) : [...new Set(channelsOf(path))]).map((channel) => badgeImage(channel));
   return byId("edges").replaceChildren(
-    html("h3", {}, state.near === "1" ? "Edges between equal channels" : "Edges between channels that are too close"),
-    html("ul", { class: "close-edges" }, close.slice(0, 24).map(([a, b]) =>
-      html("li", {}, html("span", { class: "code" }, `${windows[a]} → ${windows[b]}`), badges([a, b])))),
-    close.length > 24 ? html("p", { class: "aside" }, `and ${(close.length - 24).toLocaleString("en")} more`) : "",
+    html("h3", {}, patterns ? "Paths with forbidden channels" : close),
+    html("ul", { class: paths.some((path) => path.length > 2) ? "close-edges long" : "close-edges" }, paths.slice(0, SHOWN).map((path) =>
+      html("li", {}, html("span", { class: "code" }, path.map((i) => windows[i]).join(" → ")), badges(path)))),
+    paths.length > SHOWN ? html("p", { class: "aside" }, `and ${(paths.length - SHOWN).toLocaleString("en")} more`) : "",
   );
 }
 
 export function startGraph() {
   byId("arrange").addEventListener("change", (event) => change({ arrange: event.target.value }));
-  byId("graph-near").addEventListener("input", (event) => change({ near: event.target.value }));
+  byId("graph-near").addEventListener("input", ({ target }) => change({ problem: "distance", near: target.value }));
 }

@@ -41,6 +41,7 @@ LOOKS = {
     "run-set": {"view": "run", "ids": "12", "ring": "3,1,4,0,5,9,2,6,10,8,7,11", "example": "mis_12.txt"},
     "run-set-no": {"view": "run", "ids": "7", "ring": "1,2,3,4,5,6", "example": "mis_7.txt"},
     "run-matching": {"view": "run", "ids": "8", "ring": "7,0,6,1,5,2", "text": PAIRS, "problem": "matching"},
+    "graph-set": {"view": "graph", "ids": "5", "ring": RING, "text": LDB, "problem": "mis"},
     "table": {"view": "table", "ids": "8", "ring": RING, "example": "cv1.txt", "prefix": "1"},
     "graph": {"view": "graph", "ids": "5", "ring": RING, "text": LDB},
     "graph-120": {"view": "graph", "ids": "6", "ring": RING, "example": "cv1.txt"},

@@ -12,6 +12,7 @@ import { fewerChannels, knownChannels } from "../../page/least.js";
 import { lookOf } from "../../page/look.js";
 import { clamp, whyNoNumber } from "../../page/numbers.js";
 import { numerals, widthOf } from "../../page/numerals.js";
+import { wrongPaths } from "../../page/paths.js";
 import { brokenPlaces, channelsNamed, readPattern, spanOf, textOf, wordsOf } from "../../page/patterns.js";
 import { fewerRounds, knownRounds, PROBLEMS, problemOf } from "../../page/problems.js";
 import { readRing, whyNoRing, withCommas } from "../../page/ring-text.js";
@@ -302,6 +303,16 @@ test("look: what is red, and what a problem looks like", () => {
   assert.deepEqual(set.links, [[], ["broken"], ["broken"], [], []]);
   assert.deepEqual(look("matching", [2, 0, 1]).links, [[], [], ["pair"]]);
   assert.deepEqual(look("own", [0, 0], "1,,1").links, [[], []]);
+});
+
+test("paths: those of windows whose channels are wrong", () => {
+  const table = readTable(TABLE);
+  const edges = edgesOf(table);
+  const found = (problem, forbid) => wrongPaths(table, edges, demandOf({ problem, near: "1", far: "0", forbid }));
+  assert.deepEqual(found("differ"), [[0, 2], [2, 0]]);
+  // The windows are 0, 1 and 2 with the channels 0, 1 and 0, and any two different ones follow one another.
+  assert.deepEqual(found("own", "1,0 0,0,0"), [[1, 0], [1, 2], [0, 2, 0], [2, 0, 2]]);
+  assert.deepEqual(found("own", "1,*,1"), [[1, 0, 1], [1, 2, 1]]);
 });
 
 test("least: what is known of fewer channels", () => {

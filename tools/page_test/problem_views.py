@@ -346,5 +346,32 @@ def problem_refused(page):
     STEPS.equal("nbhd is not asked", page.asked("judge", "ids"), [])
 
 
+def problem_graph(page):
+    """The graph marks the paths of windows whose channels match a pattern."""
+    weak = example("weak2.txt")
+    cases = [("mis", (), LDB, 5), ("own", ("2", "0,1"), CV1, 4), ("weak2", (), weak, 4), ("mis", (), PAIRS, 4)]
+    for problem, patterns, program, ids in cases:
+        name = f"the graph of {problem} {' '.join(patterns)}"
+        page.open(view="graph", ids=str(ids), text=program, **state_of(problem, patterns))
+        page.wait(name, "document.querySelectorAll('.graph .point').length")
+        words = list(patterns) or KNOWN[problem]
+        lines = nbhd(program, "table", "--ids", str(ids)).splitlines()
+        channels = {window: int(channel) for window, channel in (line.split(" : ") for line in lines if " : " in line)}
+        after = {w: [v for v in channels if v.split()[:-1] == w.split()[1:] and v.split()[-1] not in w.split()] for w in channels}
+        paths = [path for w in channels for v in after[w] for path in [(w, v), *((w, v, u) for u in after[v])]]
+        rows = {path: [channels[window] for window in path] for path in paths}
+        wrong = [path for path in paths if any(span(it) == len(path) and matches(it, rows[path]) for it in map(pattern, words))]
+        red = {pair for path in wrong for pair in zip(path, path[1:])}
+        STEPS.equal(f"{name}: its red edges", page.count(".graph .edges.close .edge"), len(red))
+        listed = [" → ".join(path) for path in sorted(wrong, key=len)]
+        STEPS.equal(f"{name}: its paths", sorted(page.texts(".close-edges .code")), sorted(listed[:24]))
+        count = {0: "No path of windows has", 1: "1 path of windows has"}.get(len(wrong), f"{len(wrong)} paths of windows have")
+        said = page.text("#graph-say")
+        STEPS.check(f"{name}: its sentence", said.endswith(f" {count} channels that are forbidden in a row: {' '.join(words)}."), said)
+        STEPS.equal(f"{name}: no field for near", page.value("document.querySelector('#graph-near').checkVisibility()"), False)
+    page.open(view="graph", ids="4", text=LDB, problem="own", forbid="1,,1")
+    page.wait("refused patterns", "/Judge says why/.test(document.querySelector('#graph-say').textContent)")
+
+
 PROBLEM_VIEWS = [problem_choice, problem_links, problem_examples, problem_runs, problem_sentences, problem_no, problem_yes]
-PROBLEM_VIEWS += [problem_sets, problem_refused]
+PROBLEM_VIEWS += [problem_sets, problem_refused, problem_graph]
