@@ -174,6 +174,7 @@ def screens(page):
         page.open(**START)
         page.wait_ring(f"the ring at {width}", "5,1,3,7")
         STEPS.check(f"the ring begins on the first screen at {width}", page.value(f"{INSIDE}(document.querySelector('.node .disc'))"))
+        STEPS.check(f"the ring's field has room at {width}", page.value("document.querySelector('#ring').clientWidth > 150"))
         page.click("[popovertarget=help]")
         STEPS.check(f"the help at {width} is not too wide", page.value("(e => e.scrollWidth <= e.clientWidth)(document.querySelector('#help'))"))
     page.browser.size(1280, 900)
