@@ -305,6 +305,9 @@ def paper(page):
     trace = nbhd(CV1, "trace", "--ids", "8", "--ring", "5,1,3,7").replace("ring", "node", 1)
     runs = {"a run": ({}, CV1, trace), "a long program": ({"text": long}, long, "start r0 5 1 3 7")}
     runs["a no"] = ({"view": "judge", "example": "ldb.txt"}, LDB, "On the ring 0 1 2 3 the nodes 1 and 2 are neighbours and both have channel 0.")
+    wrong = (ROOT / "examples/mis_7.txt").read_text(encoding="ascii")
+    set_no = {"view": "judge", "example": "mis_7.txt", "ids": "7"}
+    runs["a no of a set"] = (set_no, wrong, "On the ring 1 2 3 4 5 6 node 4 is not in the set, and neither is a neighbour.")
     runs["a yes"] = ({"view": "judge"}, CV1, "On every ring of 4 to 8 distinct identifiers below 8, neighbours’ channels differ.")
     for name, (state, text, shown) in runs.items():
         page.open(**{**START, **state})
@@ -475,6 +478,8 @@ def large(page):
                     inside = "(r => (b => r.top >= b.top && r.bottom <= b.bottom)(document.querySelector('#editor').getBoundingClientRect()))"
                     seen = f"{inside}(document.querySelector('.row.now').getBoundingClientRect())"
                     STEPS.check(f"they are in sight at {width}, step {step}", page.value(seen))
+                    if height >= 1000:
+                        STEPS.check(f"the sentence of step {step} is in sight", page.value(f"{INSIDE}(document.querySelector('#run-say'))"))
                     page.click("#forward")
                 STEPS.check(f"large at {width}: nothing is too wide", page.value("document.documentElement.scrollWidth <= innerWidth"))
     page.browser.size(1280, 900)
