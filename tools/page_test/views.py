@@ -529,6 +529,8 @@ def links(page):
         STEPS.check(f"first step {example}: its name", page.text("#example-name").startswith(name), page.text("#example-name"))
         if example == 2:
             STEPS.equal("the rule that fails is LDB", page.value("document.querySelector('#text').value"), LDB)
+    page.click("#tab-run")
+    page.wait("the last one has a ring to run", "document.querySelector('#stage .label')")
     page.fill("#text", CV1 + "\n")
     STEPS.equal("the name of an edited text", page.text("#example-name"), "Own program")
 
