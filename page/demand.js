@@ -86,7 +86,7 @@ export function sentenceOn(demand, channels, ring, shown) {
 
 const CLASSES = {
   constant: ({ channel }) => `On every ring all nodes may have channel ${channel}, so no round is needed.`,
-  "log*": () => "On rings of all lengths `n` it takes about log* `n` rounds: a constant number is not enough.",
+  "log*": () => "On long rings of `n` nodes it takes about log* `n` rounds: a constant number is not enough.",
   global: () => "There are such channels on rings of some lengths only, and there it takes about as many rounds as the ring has nodes.",
   none: () => "There are no such channels on any ring.",
 };

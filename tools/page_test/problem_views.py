@@ -273,7 +273,7 @@ def problem_yes(page):
     STEPS.equal("its identifiers", page.count("#witness .place"), 9)
     known = "Fewer rounds? For 12 identifiers there is a table of 3 rounds, and none of 2 rounds. What is known"
     STEPS.equal("what is known", page.texts("#verdict .fewer"), [known])
-    kind = "On rings of all lengths n it takes about log* n rounds: a constant number is not enough."
+    kind = "On long rings of n nodes it takes about log* n rounds: a constant number is not enough."
     STEPS.equal("its class", page.texts("#verdict .kind"), [kind])
     page.open(view="judge", **START, example="cv1.txt", problem="own", forbid="99,99 0,0")
     page.wait("a yes to own patterns", DRAWN.format("yes"))
