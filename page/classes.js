@@ -9,7 +9,7 @@ const MOST_CHANNELS = 24;
 /**
  * The class of the problem of these patterns with so many channels: `{ kind, channel }`, where `kind` is `constant` if all nodes may
  * have the same channel, `channel`; `log*` if there are solutions on all rings that are long enough; `global` if there are some on rings
- * of some lengths alone; and `none` without any. Too many channels give `undefined`.
+ * of some lengths alone; and `unsolvable` without any. Too many channels give `undefined`.
  */
 export function classOf(patterns, channels) {
   if (channels > MOST_CHANNELS) return undefined;
@@ -22,7 +22,7 @@ export function classOf(patterns, channels) {
   steps.forEach((ends, state) => ends.forEach((end) => back[end].push(state)));
   const periods = steps.map((_, state) => periodOf(steps, back, state));
   if (periods.includes(1)) return { kind: "log*" };
-  return { kind: periods.some((period) => period > 0) ? "global" : "none" };
+  return { kind: periods.some((period) => period > 0) ? "global" : "unsolvable" };
 }
 
 /** The greatest common divisor of the lengths of the closed walks from a state, 0 if there are none. */

@@ -88,7 +88,7 @@ const CLASSES = {
   constant: ({ channel }) => `On every ring all nodes may have channel ${channel}, so no round is needed.`,
   "log*": () => "On long rings of `n` nodes it takes about log* `n` rounds: a constant number is not enough.",
   global: () => "There are such channels on rings of some lengths only, and there it takes about as many rounds as the ring has nodes.",
-  none: () => "There are no such channels on any ring.",
+  unsolvable: () => "There are no such channels on any ring.",
 };
 
 /** How many rounds a problem takes on rings of all lengths, as a sentence, for the channels that its patterns name. */

@@ -45,14 +45,25 @@ export function problemOf(text) {
 // refuted for one more, `7 ..` if more is open, and `all 12` if these are all that such tables can have. The channels are those that
 // the patterns name.
 const KNOWN = [
-  ["0,0,0 1,1", "2", "4", "7", "all 12"],
+  ["0,0 1,1", "2", "4", "6", "8"],
   ["0,0 1,0 1,1 0,2 2,2", "2", "4", "6", "all 12"],
-  ["0,0,0 1,1,1", "2", "6", "7 ..", "all 12"],
+  ["0,0,0 1,1", "2", "4", "7", "all 12"],
+  ["0,0 1,1 2,2 0,2,0 1,2,1 2,1,2", "2", "4", "6", "all 12"],
+  ["0,0 1,1 2,2", "3", "6", "all 23", "all 12"],
+  ["0,0,0 1,1,1", "2", "6", "all 23", "all 12"],
+  ["0,0,0 1,1,1 2,2,2", "3", "16 ..", "all 23", "all 12"],
 ];
 
-// The problem, the rounds and the most identifiers of examples that solve it.
+// The patterns, the rounds and the most identifiers of examples that solve a problem.
 const EXAMPLES = [
-  ["mis", 3, 12, "mis_12.txt"],
+  ["0,0 1,1", 3, 8, "two_colours_8.txt"],
+  ["0,0 1,0 1,1 0,2 2,2", 3, 12, "matching_12.txt"],
+  ["0,0,0 1,1", 3, 12, "mis_12.txt"],
+  ["0,0 1,1 2,2 0,2,0 1,2,1 2,1,2", 3, 12, "greedy3_12.txt"],
+  ["0,0 1,1 2,2", 2, 23, "three_23.txt"],
+  ["0,0,0 1,1,1", 1, 6, "weak2_6.txt"],
+  ["0,0,0 1,1,1", 2, 23, "weak2_23.txt"],
+  ["0,0,0 1,1,1 2,2,2", 2, 23, "weak2_23.txt"],
 ];
 
 /** Whether two lists of patterns have the same ones. */
@@ -87,8 +98,8 @@ export function fewerRounds(patterns, ids, own) {
   if (enough === undefined) {
     return refuted < 0 ? undefined : { says: `Fewer rounds? For ${many} there is ${none}; more is not known.` };
   }
-  const example = EXAMPLES.find(([name, rounds, most]) =>
-    areSame(PROBLEMS[name].patterns.join(" "), patterns) && rounds === enough && ids <= most);
-  const says = `Fewer rounds? For ${many} there is a table ${ofRounds(enough)}${refuted < 0 ? "" : `, and ${none}`}.`;
+  const example = EXAMPLES.find(([list, rounds, most]) => areSame(list, patterns) && rounds === enough && ids <= most);
+  const open = enough > refuted + 1 ? "; more is not known" : "";
+  const says = `Fewer rounds? For ${many} there is a table ${ofRounds(enough)}${refuted < 0 ? "" : `, and ${none}`}${open}.`;
   return { says, example: example?.[3] };
 }

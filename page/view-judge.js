@@ -60,7 +60,7 @@ const mostChannels = ({ channels, bound }) => Math.min(channels, bound + 1);
 const link = (href, words) => html("a", { href, target: "_blank" }, words);
 
 /** What is known of fewer channels, or for a problem of fewer rounds, and how many rounds it takes on rings of all lengths. */
-function fewer(accepted, { near, far, patterns }) {
+function fewer(accepted, { near, far, name, patterns }) {
   const most = mostChannels(accepted);
   const aside = (kind, ...parts) => [html("p", { class: `aside ${kind}` }, ...parts)];
   if (patterns && most > channelsNamed(patterns)) {
@@ -68,9 +68,12 @@ function fewer(accepted, { near, far, patterns }) {
   }
   const { ids, rounds } = accepted;
   const known = patterns ? fewerRounds(patternsText(patterns), ids, rounds) : fewerChannels(rounds, ids, near, far, most);
-  const source = link(patterns ? "docs/LEAST.html#fewest-rounds" : "docs/LEAST.html#what-is-known", "What is known");
+  const source = link(patterns ? "docs/PROBLEMS.html#what-is-known" : "docs/LEAST.html#what-is-known", "What is known");
   const isOther = known?.example && known.example !== exampleOf(state.text)?.name;
-  const example = isOther ? [" ", link(`#view=judge&ids=${ids}&example=${known.example}`, known.example)] : null;
+  // The example may ask something else.
+  const own = name ? `&problem=${name}` : `&problem=own&forbid=${patternsText(patterns ?? []).replaceAll(" ", "+")}`;
+  const question = patterns ? own : "";
+  const example = isOther ? [" ", link(`#view=judge&ids=${ids}${question}&example=${known.example}`, known.example)] : null;
   const kind = patterns && classSentence(patterns);
   return [...(known ? aside("fewer", known.says, example, " ", source) : []), ...(kind ? aside("kind", coded(kind)) : [])];
 }

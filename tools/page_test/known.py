@@ -10,7 +10,7 @@ NAME = re.compile(r"rounds(\d+)_ids(\d+)_channels(\d+)_near(\d+)_far(\d+)")
 EXAMPLE = re.compile(r'^  \[(\d+), (\d+), (\d+), "(\w+\.txt)"\],$', re.MULTILINE)
 ROW = re.compile(r"^  \[([\d, ]+)\],$", re.MULTILINE)
 PROBLEM_NAME = re.compile(r"(.+)_rounds(\d+)_ids(\d+)_channels(\d+)")
-PROBLEM_EXAMPLE = re.compile(r'^  \["(\w+)", (\d+), (\d+), "(\w+\.txt)"\],$', re.MULTILINE)
+PROBLEM_EXAMPLE = re.compile(r'^  \["([\d,* ]+)", (\d+), (\d+), "(\w+\.txt)"\],$', re.MULTILINE)
 PROBLEM_ROW = re.compile(r'^  \[("[\d,* ]+"(?:, "(?:all )?\d+(?: \.\.)?")+)\],$', re.MULTILINE)
 # The most identifiers that tables of so many rounds can have.
 LIMITS = [1024, 162, 23, 12, 10]
@@ -37,7 +37,7 @@ def known():
 def known_rounds():
     module = (ROOT / "page/problems.js").read_text(encoding="ascii")
     rows = {row[0]: row[1:] for row in (re.findall('"([^"]*)"', row) for row in PROBLEM_ROW.findall(module))}
-    STEPS.equal("what the page knows of rounds", rows, documented_rounds(rows))
+    STEPS.equal("what the page knows of rounds", rows, documented_rounds())
     for patterns, cells in rows.items():
         limits = [int(cell[4:]) for cell in cells if cell.startswith("all ")]
         STEPS.equal(f"all identifiers of {patterns}", limits, [LIMITS[i] for i, cell in enumerate(cells) if cell.startswith("all ")])
@@ -51,26 +51,19 @@ def known_rounds():
         most = int(re.search(r"\d+", cells[rounds])[0])
         is_known = cells[rounds].isdigit() and most < ids if ".lrat" in path.suffixes else ids <= most
         STEPS.check(f"what {path.name} shows", is_known and channels == channels_named(patterns), cells)
-    for problem, rounds, ids, name in PROBLEM_EXAMPLE.findall(module):
+    for patterns, rounds, ids, name in PROBLEM_EXAMPLE.findall(module):
         text = (ROOT / "examples" / name).read_text(encoding="ascii")
+        words = [word for pattern in patterns.split() for word in ("--forbid", pattern)]
         STEPS.check(f"{name} has as few rounds", f"rounds {rounds}\n" in text)
-        STEPS.equal(f"{name} solves {problem}", nbhd(text, "judge", "--ids", ids, "--problem", problem)[:5], "yes: ")
+        STEPS.equal(f"{name} solves {patterns}", nbhd(text, "judge", "--ids", ids, *words)[:5], "yes: ")
 
 
-def documented_rounds(rows):
-    """The rows of docs/PROBLEMS.md; without it these rows with what docs/LEAST.md has of them."""
-    page = ROOT / "docs/PROBLEMS.md"
-    if page.exists():
-        table = cells_below(page, "| Problem | Patterns | No round |")
-        return {" ".join(re.findall("`([^`]*)`", patterns)): [cell for cell in cells if cell] for _, patterns, *cells in table}
-    found = {" ".join(KNOWN[name.strip("`")]): cells for name, _, *cells in cells_below(ROOT / "docs/LEAST.md", "| Problem | Channels |")}
-    return {patterns: found[patterns] + cells[len(found[patterns]) :] for patterns, cells in rows.items()}
-
-
-def cells_below(page, head):
-    """The cells of each row of the table of a page whose first line begins so."""
-    table = page.read_text(encoding="utf-8").split(f"\n{head}", 1)[1].split("\n\n")[0]
-    return [line.strip("| ").split(" | ") for line in table.splitlines()[2:]]
+def documented_rounds():
+    """The patterns of the rows of docs/PROBLEMS.md, with the cell of each number of rounds."""
+    table = (ROOT / "docs/PROBLEMS.md").read_text(encoding="utf-8").split("\n| Problem | Patterns ", 1)[1].split("\n\n")[0].splitlines()
+    count = len(re.findall(r"\| (?:No|\d+) rounds?\b", table[0]))
+    cells = [line.strip("| ").split(" | ") for line in table[2:]]
+    return {" ".join(re.findall("`([^`]*)`", patterns)): found[:count] for _, patterns, *found in cells}
 
 
 def channels_named(patterns):

@@ -234,7 +234,12 @@ test("problems: what is known of fewer rounds", () => {
   assert.equal(said(mis, 8, 0), "No program of so few rounds does it: for 8 identifiers there is no table of 2 rounds.");
   assert.equal(fewerRounds(mis, 12, 3).example, "mis_12.txt");
   assert.equal(fewerRounds(mis, 7, 2).example, undefined);
-  assert.equal(said(weak, 13, 2), "Fewer rounds? For 13 identifiers there is none of one round; more is not known.");
+  assert.equal(said(weak, 13, 2), "Fewer rounds? For 13 identifiers there is a table of 2 rounds, and none of one round.");
+  assert.equal(fewerRounds(weak, 13, 2).example, "weak2_23.txt");
+  assert.equal(said(mis, 13, 2), "No program of so few rounds does it: for 13 identifiers there is no table of 2 rounds.");
+  assert.equal(said("0,0 1,1", 9, 4), "Fewer rounds? For 9 identifiers there is none of 3 rounds; more is not known.");
+  const three = "0,0,0 1,1,1 2,2,2";
+  assert.equal(said(three, 20, 2), "Fewer rounds? For 20 identifiers there is a table of 2 rounds, and none without a round; more is not known.");
   assert.equal(said("1,1", 8, 2), undefined);
   assert.equal(said("1,1 0,0,0", 12, 3), said(mis, 12, 3));
 });
@@ -242,13 +247,24 @@ test("problems: what is known of fewer rounds", () => {
 test("classes: those of the literature", () => {
   const found = (words, channels) => classOf(wordsOf(words).map(readPattern), channels)?.kind;
   for (const { patterns } of Object.values(PROBLEMS)) assert.equal(found(patterns.join(" "), channelsNamed(patterns.map(readPattern))), "log*");
-  assert.deepEqual([found("0,0 1,1 2,2", 3), found("0,0 1,1", 2), found("1,1", 2), found("*", 2)], ["log*", "global", "constant", "none"]);
+  assert.deepEqual([found("0,0 1,1 2,2", 3), found("0,0 1,1", 2), found("1,1", 2), found("*", 2)], ["log*", "global", "constant", "unsolvable"]);
   // Channels that differ at distance two also: with three of them on rings of lengths that three divides, with four on all that are long.
   const distant = (count) => Array.from({ length: count }, (_, c) => `${c},${c} ${c},*,${c}`).join(" ");
   assert.deepEqual([found(distant(3), 3), found(distant(4), 4)], ["global", "log*"]);
   assert.equal(found("0,0", 25), undefined);
   assert.deepEqual(classOf([[0]], 2), { kind: "constant", channel: 1 });
   assert.match(classSentence([[1, 1]]), /^On every ring all nodes may have channel 0,/);
+});
+
+test("classes: those of docs/PROBLEMS.md", () => {
+  const page = readFileSync(new URL("../../docs/PROBLEMS.md", import.meta.url), "utf-8");
+  const [head, , ...rows] = page.slice(page.indexOf("| Problem | Patterns |")).split("\n\n")[0].split("\n").map((row) => row.split(" | "));
+  const at = head.findIndex((cell) => cell.startsWith("Long rings"));
+  assert.ok(at > 0 && rows.length > 5);
+  for (const row of rows) {
+    const patterns = [...row[1].matchAll(/`([^`]*)`/g)].map(([, word]) => readPattern(word));
+    assert.equal(classOf(patterns, channelsNamed(patterns)).kind, row[at].replace(/[ |]*$/, ""), row[0]);
+  }
 });
 
 test("classes: all problems of two channels, by the rings that have a solution", () => {
@@ -259,7 +275,7 @@ test("classes: all problems of two channels, by the rings that have a solution",
     const is = (...row) => patterns.some((pattern) => pattern.join() === row.join());
     // All rings of 6 nodes and more have one if long ones do: the automaton has four states.
     const solved = Array.from({ length: 8 }, (_, i) => has(i + 2));
-    const wanted = !is(0, 0, 0) || !is(1, 1, 1) ? "constant" : solved.slice(4).every(Boolean) ? "log*" : solved.some(Boolean) ? "global" : "none";
+    const wanted = !is(0, 0, 0) || !is(1, 1, 1) ? "constant" : solved.slice(4).every(Boolean) ? "log*" : solved.some(Boolean) ? "global" : "unsolvable";
     assert.equal(classOf(patterns, 2).kind, wanted, patterns.join(" "));
   }
 });

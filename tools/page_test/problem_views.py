@@ -275,6 +275,13 @@ def problem_yes(page):
     STEPS.equal("what is known", page.texts("#verdict .fewer"), [known])
     kind = "On long rings of n nodes it takes about log* n rounds: a constant number is not enough."
     STEPS.equal("its class", page.texts("#verdict .kind"), [kind])
+    page.open(view="judge", ids="8", example="greedy3_12.txt", problem="own", forbid="1,1 2,2 0,0")
+    page.wait("the yes of a colouring", DRAWN.format("yes"))
+    known = "Fewer rounds? For 8 identifiers there is a table of 2 rounds, and none of one round. three_23.txt What is known"
+    STEPS.equal("what is known of it", page.texts("#verdict .fewer"), [known])
+    linked = page.value("[...document.querySelectorAll('.fewer a')].map(e => e.getAttribute('href'))")
+    asked = "#view=judge&ids=8&problem=own&forbid=1,1+2,2+0,0&example=three_23.txt"
+    STEPS.equal("its links", linked, [asked, "docs/PROBLEMS.html#what-is-known"])
     page.open(view="judge", **START, example="cv1.txt", problem="own", forbid="99,99 0,0")
     page.wait("a yes to own patterns", DRAWN.format("yes"))
     words = options("own", ("99,99", "0,0"))
