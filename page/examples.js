@@ -2,7 +2,8 @@
 
 import { byId, html } from "./dom.js";
 import { roundsOf } from "./language.js";
-import { PROBLEMS, problemOf } from "./problems.js";
+import { QUESTIONS } from "./demand.js";
+import { askedBy } from "./problems.js";
 import { change, exampleAsking, exampleOf, isLinked, state } from "./state.js";
 
 /** The examples: name, title, text, and the number of identifiers that a comment recommends, else 8. */
@@ -22,8 +23,8 @@ export function fillExamples(examples) {
   for (const example of examples) {
     const count = roundsOf(example.text);
     const facts = [example.name, count === 1 ? "1 round" : `${count} rounds`, `${example.ids} identifiers`];
-    const problem = PROBLEMS[problemOf(example.text)];
-    if (problem) facts.push(problem.title);
+    const { problem } = askedBy(example.text);
+    if (problem !== "differ") facts.push(QUESTIONS[problem]);
     list.append(html("button", { type: "button", onclick: () => take(example, count) },
       html("span", { class: "title" }, example.title), html("span", { class: "aside" }, facts.join(" · "))));
   }
@@ -75,10 +76,11 @@ function take(example, rounds) {
   const fits = ring.length >= least && ring.every((identifier) => identifier < ids);
   const next = fits ? state.ring : spread(Math.max(least, Math.min(8, ids)), ids);
   const step = state.step === "end" || roundsOf(state.text) === rounds ? state.step : "";
-  const isChosen = state.problem !== problemOf(state.text);
-  const problem = isChosen && problemOf(example.text) === "differ" ? state.problem : problemOf(example.text);
+  const [before, asked] = [askedBy(state.text), askedBy(example.text)];
+  const isChosen = state.problem !== before.problem || (state.problem === "own" && state.forbid !== before.forbid);
+  const stays = isChosen && asked.problem === "differ";
   taken = example.text;
-  change({ text: example.text, ids: example.ids, problem, ring: next, step }, { keep: true });
+  change({ text: example.text, ids: example.ids, ring: next, step, ...(stays ? {} : asked) }, { keep: true });
 }
 
 /** Ctrl-Z takes the choice of an example back, as the browser's Back does, while its text is as it was chosen. */

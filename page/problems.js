@@ -1,6 +1,8 @@
 // The problems that have a name: their patterns, what their channels mean, what a yes says, and what is wrong where a ring breaks them,
 // in the words of nbhd; and what is known of the fewest rounds, as docs/PROBLEMS.md has it.
 
+import { wordsOf } from "./patterns.js";
+
 /**
  * `wrong` takes the channels of the three places from a broken one on, and how many places the pattern names; it gives how many places
  * further the node is with which something is wrong, and what.
@@ -35,10 +37,15 @@ export const PROBLEMS = {
   },
 };
 
-/** The problem that a comment of a program names, as `# Problem: mis`; else `differ`, that neighbours differ. */
-export function problemOf(text) {
+/**
+ * What a comment of a program asks, as values of the state: `# Problem: mis` names a problem, `# Forbid: 0,0 1,1` has patterns; else
+ * neighbours differ.
+ */
+export function askedBy(text) {
   const name = text.match(/^# Problem: ([a-z0-9]+)/m)?.[1];
-  return Object.hasOwn(PROBLEMS, name ?? "") ? name : "differ";
+  if (Object.hasOwn(PROBLEMS, name ?? "")) return { problem: name, forbid: "" };
+  const words = wordsOf(text.match(/^# Forbid: (.*)/m)?.[1] ?? "");
+  return words.length ? { problem: "own", forbid: words.join(" ") } : { problem: "differ", forbid: "" };
 }
 
 // The patterns of a problem; then for no round, one round and so on the most identifiers for which a table solves it: `4` if it is

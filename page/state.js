@@ -1,12 +1,12 @@
 // The state of the page. It is kept in the fragment of the address, so that a link can carry an exercise.
 
 import { QUESTIONS } from "./demand.js";
-import { problemOf } from "./problems.js";
+import { askedBy } from "./problems.js";
 import { withCommas } from "./ring-text.js";
 
 // The step of a run is its number, `end` for the last one, and empty for the start; `why` is the place of the node that is explained.
 // The base is that of a run's numbers; `large` is `1` for a class. The problem is `differ`, `distance` for near and far, one of those that
-// have a name, or `own` for the patterns of `forbid`; without one it is that which the text names, or `distance` if there is near or far.
+// have a name, or `own` for the patterns of `forbid`. Without one it is what its numbers or patterns ask, or what the text does.
 const DEFAULTS = {
   view: "run", ids: "8", ring: "5,1,3,7", step: "", why: "", base: "10", problem: "", near: "1", far: "0", forbid: "", prefix: "",
   arrange: "channel", large: "",
@@ -109,7 +109,7 @@ function read() {
   linked = values.text;
   if (!Object.hasOwn(QUESTIONS, values.problem)) {
     missing.problem = said.problem || null;
-    values.problem = said.near || said.far ? "distance" : problemOf(values.text);
+    Object.assign(values, said.near || said.far ? { problem: "distance" } : said.forbid ? { problem: "own" } : askedBy(values.text));
   }
   written = location.hash;
   change(values);
@@ -124,9 +124,10 @@ function write(asNewEntry = false) {
 
 function fragment() {
   const example = exampleOf(state.text);
-  const defaults = { ...DEFAULTS, problem: problemOf(state.text) };
-  // Near and far are said where they are asked, as a link with them and without a problem asks them.
-  const isSaid = (name) => state.problem === "distance" || !["near", "far"].includes(name);
+  const defaults = { ...DEFAULTS, ...askedBy(state.text) };
+  // Numbers and patterns are said where they are asked, as a link with them and without a problem asks them.
+  const uses = { near: "distance", far: "distance", forbid: "own" };
+  const isSaid = (name) => !uses[name] || uses[name] === state.problem;
   const parts = Object.entries(defaults)
     .filter(([name, value]) => ["view", "ids", "ring"].includes(name) || (state[name] !== value && isSaid(name)))
     .map(([name]) => `${name}=${escape(state[name])}`);

@@ -14,7 +14,7 @@ import { clamp, whyNoNumber } from "../../page/numbers.js";
 import { numerals, widthOf } from "../../page/numerals.js";
 import { wrongPaths } from "../../page/paths.js";
 import { brokenPlaces, channelsNamed, readPattern, spanOf, textOf, wordsOf } from "../../page/patterns.js";
-import { fewerRounds, knownRounds, PROBLEMS, problemOf } from "../../page/problems.js";
+import { askedBy, fewerRounds, knownRounds, PROBLEMS } from "../../page/problems.js";
 import { readRing, whyNoRing, withCommas } from "../../page/ring-text.js";
 import { countChannels, edgesOf, leastBytes, readPlaces, readTable } from "../../page/table.js";
 import { equalPairs, equalSentence, nameOf, sentenceOf, stepsOf } from "../../page/trace.js";
@@ -217,9 +217,12 @@ test("problems: no pattern matches exactly where the definition holds", () => {
   }
 });
 
-test("problems: the one that a comment names", () => {
-  assert.equal(problemOf("# A set.\n# Problem: mis.\nrounds 1"), "mis");
-  for (const text of ["", "# Problem: none", "# The Problem: mis", "# Problem: hasOwnProperty"]) assert.equal(problemOf(text), "differ");
+test("problems: what a comment asks", () => {
+  assert.deepEqual(askedBy("# A set.\n# Problem: mis.\nrounds 1"), { problem: "mis", forbid: "" });
+  assert.deepEqual(askedBy("# Forbid: 0,0  1,*,1 \nrounds 1"), { problem: "own", forbid: "0,0 1,*,1" });
+  for (const text of ["", "# Problem: none", "# The Problem: mis", "# Problem: hasOwnProperty", "# Forbid: \n"]) {
+    assert.deepEqual(askedBy(text), { problem: "differ", forbid: "" });
+  }
 });
 
 test("problems: what is known of fewer rounds", () => {

@@ -95,6 +95,10 @@ def problem_links(page):
     page.wait("its address has no numbers", "!/near|far|problem/.test(location.hash)")
     page.choose("#problem", "distance")
     page.wait("the numbers are there again", "location.hash.includes('problem=distance&near=2&far=1')")
+    page.open(view="judge", **START, example="cv1.txt", forbid="0,0")
+    page.wait("a link with patterns", chosen.format("own", "yes"))
+    page.open(view="judge", ids="12", example="greedy3_at_once.txt")
+    page.wait("a link to a program that has patterns", chosen.format("own", "no"))
     page.open(view="judge", ids="12", example="mis_12.txt")
     page.wait("a link to a program that names its problem", chosen.format("mis", "yes"))
     page.choose("#problem", "differ")
@@ -122,21 +126,30 @@ def problem_examples(page):
     page.wait("a choice stays", chosen.format("weak2", "local_min.txt"))
     page.value(take.format("mis_7.txt"))
     page.wait("an example with a problem replaces it", chosen.format("mis", "mis_7.txt"))
+    page.value(take.format("greedy3_12.txt"))
+    page.wait("an example with patterns", chosen.format("own", "greedy3_12.txt") + " && document.querySelector('.verdict.yes')")
+    patterns = asked_by(example("greedy3_12.txt"))
+    STEPS.equal("its patterns", page.value("document.querySelector('#forbid').value.split(' ')"), patterns)
+    page.wait("its address is short", "!/problem|forbid/.test(location.hash)")
+    page.fill("#forbid", "1,1")
+    page.wait("other patterns", "location.hash.includes('forbid=1,1&')")
+    page.value(take.format("cv1.txt"))
+    page.wait("they stay", chosen.format("own", "cv1.txt") + " && document.querySelector('#forbid').value === '1,1'")
     facts = page.value("[...document.querySelectorAll('#examples .aside')].map(e => e.textContent)")
-    named = [fact.split(" ")[0] for fact in facts if any(fact.endswith(title) for title in titles(page).values())]
-    wanted = [path.name for path in sorted((ROOT / "examples").glob("*.txt")) if problem_of(path.read_text(encoding="ascii"))]
-    STEPS.equal("which examples are named with a problem", sorted(named), wanted)
+    titles = dict(page.value("[...document.querySelector('#problem').options].map(e => [e.value, e.textContent])"))
+    for fact in facts:
+        name, *_, last = fact.split(" · ")
+        folder = "programs" if name == "ldb.txt" else "examples"
+        asked = asked_by((ROOT / folder / name).read_text(encoding="ascii"))
+        wanted = titles[asked if isinstance(asked, str) else "own"] if asked else ""
+        STEPS.check(f"{name} is listed with what it asks", last == wanted if wanted else last.endswith(" identifiers"), fact)
 
 
-def titles(page):
-    """The words of the choice for the problems that have a name."""
-    return dict(page.value("[...document.querySelector('#problem').options].map(e => [e.value, e.textContent])")[2:-1])
-
-
-def problem_of(program):
-    """The problem that a comment of a program names, as docs/GALLERY.md reads it."""
-    found = re.search(r"^# Problem: ([a-z0-9]*)", program, re.MULTILINE)
-    return found[1] if found and found[1] in KNOWN else ""
+def asked_by(program):
+    """The problem that a comment of a program names, or the list of its patterns, as docs/GALLERY.md reads them; else nothing."""
+    name = re.search(r"^# Problem: ([a-z0-9]*)", program, re.MULTILINE)
+    words = re.search(r"^# Forbid: (.*)", program, re.MULTILINE)
+    return name[1] if name else words[1].split() if words else ""
 
 
 # Programs with a problem, their identifiers, and rings to run. Each ring is that of a no too.
