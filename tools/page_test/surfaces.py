@@ -44,7 +44,7 @@ def documents(page):
         return
     for width, height in ((1280, 900), (390, 844), (320, 568)):
         page.browser.size(width, height)
-        for name in ("README", "docs/TUTORIAL", "docs/LANGUAGE", "docs/LEAST"):
+        for name in ("README", "docs/TUTORIAL", "docs/LANGUAGE", "docs/LEAST", "docs/PROBLEMS"):
             page.browser.call("Page.navigate", url=f"{page.url}{name}.html")
             page.wait(f"{name} at {width}", "document.readyState === 'complete' && document.querySelector('main h1')")
             STEPS.check(f"{name} at {width}: nothing is too wide", page.value("document.documentElement.scrollWidth <= innerWidth"))
