@@ -4,7 +4,7 @@
 
 import { matches } from "./patterns.js";
 
-const MOST_CHANNELS = 24;
+const MOST_CHANNELS = 16; // so that a key takes no longer than a moment
 
 /**
  * The class of the problem of these patterns with so many channels: `{ kind, channel }`, where `kind` is `constant` if all nodes may
@@ -20,9 +20,13 @@ export function classOf(patterns, channels) {
   const steps = all.flatMap((a) => all.map((b) => all.filter((c) => isAllowed(a, b, c)).map((c) => b * channels + c)));
   const back = steps.map(() => []);
   steps.forEach((ends, state) => ends.forEach((end) => back[end].push(state)));
-  const periods = steps.map((_, state) => periodOf(steps, back, state));
-  if (periods.includes(1)) return { kind: "log*" };
-  return { kind: periods.some((period) => period > 0) ? "global" : "unsolvable" };
+  let kind = "unsolvable";
+  for (const state of steps.keys()) {
+    const period = periodOf(steps, back, state);
+    if (period === 1) return { kind: "log*" };
+    if (period > 1) kind = "global";
+  }
+  return { kind };
 }
 
 /** The greatest common divisor of the lengths of the closed walks from a state, 0 if there are none. */

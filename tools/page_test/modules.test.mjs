@@ -254,7 +254,7 @@ test("classes: those of the literature", () => {
   // Channels that differ at distance two also: with three of them on rings of lengths that three divides, with four on all that are long.
   const distant = (count) => Array.from({ length: count }, (_, c) => `${c},${c} ${c},*,${c}`).join(" ");
   assert.deepEqual([found(distant(3), 3), found(distant(4), 4)], ["global", "log*"]);
-  assert.equal(found("0,0", 25), undefined);
+  assert.deepEqual([found("0,0", 16), found("0,0", 17)], ["constant", undefined]);
   assert.deepEqual(classOf([[0]], 2), { kind: "constant", channel: 1 });
   assert.match(classSentence([[1, 1]]), /^On every ring all nodes may have channel 0,/);
 });
