@@ -237,5 +237,8 @@ function showWrong({ windows, channels }, paths, { near, patterns }) {
 
 export function startGraph() {
   byId("arrange").addEventListener("change", (event) => change({ arrange: event.target.value }));
-  byId("graph-near").addEventListener("input", ({ target }) => change({ problem: "distance", near: target.value }));
+  byId("graph-near").addEventListener("input", ({ target }) => {
+    // Where neighbours were to differ, distance two was not asked.
+    change({ problem: "distance", near: target.value, far: state.problem === "distance" ? state.far : "0" });
+  });
 }

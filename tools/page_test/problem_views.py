@@ -410,6 +410,16 @@ def problem_graph(page):
         said = page.text("#graph-say")
         STEPS.check(f"{name}: its sentence", said.endswith(f" {count} channels that are forbidden in a row: {' '.join(words)}."), said)
         STEPS.equal(f"{name}: no field for near", page.value("document.querySelector('#graph-near').checkVisibility()"), False)
+    page.open(view="judge", ids="4", text=LDB, near="1", far="3")
+    page.wait("distance two before the graph", "document.querySelector('#far').checkVisibility()")
+    page.choose("#problem", "differ")
+    page.click("#tab-graph")
+    page.wait("the graph of neighbours that differ", "document.querySelector('#graph-near').value === '1'")
+    page.fill("#graph-near", "2")
+    page.wait("closer windows", "/differ by less than 2\\.$/.test(document.querySelector('#graph-say').textContent)")
+    page.click("#tab-judge")
+    asked = "['problem', 'near', 'far'].map(id => document.getElementById(id).value).join()"
+    page.wait("the judge is asked the same", f"{asked} === 'distance,2,0'")
     page.open(view="graph", ids="4", text=LDB, problem="own", forbid="1,,1")
     page.wait("refused patterns", "/Judge says why/.test(document.querySelector('#graph-say').textContent)")
 
