@@ -84,10 +84,12 @@ export function sentenceOn(demand, channels, ring, shown) {
   return `${wrong[0].toUpperCase()}${wrong.slice(1)}${others}.`;
 }
 
+const THEOREM = "(Chang, Studený and Suomela 2021; not proved here)";
 const CLASSES = {
   constant: ({ channel }) => `On every ring all nodes may have channel ${channel}, so no round is needed.`,
-  "log*": () => "On long rings of `n` nodes it takes about log* `n` rounds: a constant number is not enough.",
-  global: () => "There are such channels on rings of some lengths only, and there it takes about as many rounds as the ring has nodes.",
+  "log*": () => `On long rings of \`n\` nodes it takes about log* \`n\` rounds: a constant number is not enough ${THEOREM}.`,
+  global: () => "There are such channels on rings of some lengths only. "
+    + `There it takes about as many rounds as the ring has nodes ${THEOREM}.`,
   unsolvable: () => "There are no such channels on any ring.",
 };
 

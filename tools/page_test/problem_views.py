@@ -286,7 +286,8 @@ def problem_yes(page):
     STEPS.equal("its identifiers", page.count("#witness .place"), 9)
     known = "Fewer rounds? For 12 identifiers there is a table of 3 rounds, and none of 2 rounds. What is known"
     STEPS.equal("what is known", page.texts("#verdict .fewer"), [known])
-    kind = "On long rings of n nodes it takes about log* n rounds: a constant number is not enough."
+    theorem = "(Chang, Studený and Suomela 2021; not proved here)"
+    kind = f"On long rings of n nodes it takes about log* n rounds: a constant number is not enough {theorem}."
     STEPS.equal("its class", page.texts("#verdict .kind"), [kind])
     page.open(view="judge", ids="8", example="greedy3_12.txt", problem="own", forbid="1,1 2,2 0,0")
     page.wait("the yes of a colouring", DRAWN.format("yes"))
