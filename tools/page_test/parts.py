@@ -62,6 +62,7 @@ def documents():
             STEPS.check(f"the link {link[:60]} of {name}", there)
     anchors = re.findall(r'<h2 id="([^"]*)"', files["/docs/LEAST.html"][1].decode())
     STEPS.equal("anchors", anchors[:2], ["what-is-known", "the-proofs"])
+    STEPS.check("the anchor that the judge links to", b'<h2 id="what-is-known">' in files["/docs/PROBLEMS.html"][1])
 
 
 def server_parts():
