@@ -399,7 +399,7 @@ def table(page):
     found = f"document.querySelector('#table-say').textContent.startsWith('{len(wanted)} of ')"
     page.wait("a search for a whole identifier", found)
     page.fill("#prefix", "1 6 15")
-    one = f"document.querySelector('#table-say').textContent === '1 of 3,360 windows begins with 1 6 15.'"
+    one = "document.querySelector('#table-say').textContent === '1 of 3,360 windows begins with 1 6 15.'"
     page.wait("a search for one window", one)
     page.open(view="table", ids="86", text=LDB.replace("channels 3", "channels 86").replace("ldb(r0, L)", "r0"))
     page.wait("a table that is too long", "/longer than 8 MB/.test(document.querySelector('#table-refused').textContent)")
