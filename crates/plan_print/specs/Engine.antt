@@ -13,7 +13,8 @@ use Rattle.devices.specs.Input.{GivesInput, TakesFront}
 use Rattle.devices.specs.Output.{AppendsFront}
 use Rattle.devices.specs.Watched.{device_of, has_failed, calls_of}
 use Rattle.devices.specs.declared.watched.Watched.{Watched}
-use Rattle.reports.specs.Report.{Report}
+use Rattle.reports.specs.Bytes.{bytes_of}
+use Rattle.reports.specs.Findings.{Finding, status_of}
 use Rattle.reports.specs.Written.{MayHave}
 use Rattle.plan_print.specs.TaskReport.{IsReport}
 use Rattle.plan_print.specs.Notes.{IsNoteOn}
@@ -58,23 +59,23 @@ streams_of remaining contents reader reader_now writer writer_now = record {
 pub record WritesReport (task : Task) (s : Streams) (status : Status) : Type 0 where
   pub input : List ℕ
   pub read : GivesInput s.unread s.left (max_read task) input
-  pub report : Report
+  pub report : Finding
   pub is_report : IsReport task input report
-  pub written : Appends s.before s.after report.bytes
-  pub status_is : status ≡ report.status
+  pub written : Appends s.before s.after (bytes_of report)
+  pub status_is : status ≡ status_of report
 
 -- The report was written, and the note is on its cause.
 pub record TellsReport (task : Task) (s : Streams) (reported : Reported) : Type 0 where
   pub report : WritesReport task s reported.status
-  pub note : IsNoteOn report.input report.report.cause reported.note
+  pub note : IsNoteOn report.input report.report reported.note
 
 -- The input was read, and a prefix of the report of the task on it was written.
 pub record WritesFront (task : Task) (s : Streams) : Type 0 where
   pub input : List ℕ
   pub read : GivesInput s.unread s.left (max_read task) input
-  pub report : Report
+  pub report : Finding
   pub is_report : IsReport task input report
-  pub written : AppendsFront s.before s.after report.bytes
+  pub written : AppendsFront s.before s.after (bytes_of report)
 
 -- what a fault leaves in the writer: after Write a prefix of the report of the task on the input that was read, after each
 -- other fault nothing

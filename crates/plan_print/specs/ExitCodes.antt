@@ -2,7 +2,7 @@
 use Rattle.std.specs.Prelude.{◌≡◌, ◌⊎◌, ℕ, List, Result, Ok, Err, IfOk, MatchResult}
 use Rattle.reports.specs.StatusCodes.{exit_code}
 use Rattle.plan_print.specs.Notes.{IsNoteOn}
-use Rattle.reports.specs.Report.{Report}
+use Rattle.reports.specs.Findings.{Finding, status_of}
 use Rattle.reports.specs.Written.{MayHave}
 use Rattle.reports.specs.declared.status.Status.TheVariants.{Done}
 use Rattle.devices.specs.FaultCodes.{engine_fault_code}
@@ -26,10 +26,10 @@ reported_code (Err fault) = engine_fault_code fault
 -- The status and the note are those of the report of the task on some input.
 pub record IsReportedOf (task : Task) (reported : Reported) : Type 0 where
   pub input : List ℕ
-  pub report : Report
+  pub report : Finding
   pub is_report : IsReport task input report
-  pub status_is : reported.status ≡ report.status
-  pub note : IsNoteOn input report.cause reported.note
+  pub status_is : reported.status ≡ status_of report
+  pub note : IsNoteOn input report reported.note
 
 -- a result of the engine for the task
 abbrev pub IsAnswerFor : Task → Result Reported EngineFault → Type 0

@@ -39,7 +39,8 @@ pub use Rattle.channel_tables.specs.Proper
 pub use Rattle.channel_tables.specs.Witnesses
 pub use Rattle.nbhd_check.specs.Verdicts
 pub use Rattle.border_exchange.specs.SegmentCounts
-pub use Rattle.reports.specs.Causes
+pub use Rattle.reports.specs.Findings
+pub use Rattle.reports.specs.Bytes
 pub mod Notes
 pub use Rattle.reports.specs.Written
 pub mod FirstTuples

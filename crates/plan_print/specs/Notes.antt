@@ -1,5 +1,5 @@
--- The note on the cause of a report.
-use Rattle.std.specs.Prelude.{◌≡◌, ◌≢◌, ℕ, ◌≤◌, List, Option, Some, None, Result, Ok, Err, String, ⊤, codes, string_bytes}
+-- The note on a finding.
+use Rattle.std.specs.Prelude.{◌≡◌, ◌≢◌, ℕ, zero, ◌≤◌, Bool, true, false, List, Option, Some, None, Result, Ok, Err, String, ⊤, codes, string_bytes}
 use Rattle.std.specs.declared.alloc.Global.{Global}
 use Rattle.node_program.specs.declared.limits.TheConstants.{MAX_ROUNDS}
 use Rattle.node_program.specs.declared.memory.OutOfMemory.{OutOfMemory}
@@ -15,7 +15,8 @@ use Rattle.table_notes.specs.RingNotes.{place_note, ring_note, segments_note}
 use Rattle.table_notes.specs.TableNotes.{IsTableNote}
 use Rattle.table_notes.specs.VerdictNotes.{no_tuples_note, verdict_note, HasPlaces}
 use Rattle.table_formula.specs.declared.fault.RefuteError.TheVariants as refute
-use Rattle.reports.specs.Causes.{Reason, of_text, of_program, of_ring, of_place, of_segments, of_table_text, of_formula, of_refutation, of_no, of_no_tuples, of_broken, of_idle}
+use Rattle.reports.specs.Findings.{Fault, of_text, of_program, of_ring, of_place, of_segments, of_table_text, of_formula, of_refutation, Finding, refused}
+use Rattle.reports.specs.Findings as value
 use Rattle.table_formula.specs.RefutationNotes.{IsRefutationNote}
 use Rattle.reports.specs.declared.problem.ProblemFault.{ProblemFault}
 use Rattle.reports.specs.declared.problem.ProblemFault.TheVariants as problem
@@ -35,36 +36,59 @@ IsFormulaNote m t problem.TooManyWindows note = IsIdsNote t m note
 IsFormulaNote m t problem.TooManyVariables note = note ≡ variables_note
 IsFormulaNote m t problem.TooManyClauses note = note ≡ clauses_note
 
--- the note on a cause
-abbrev pub IsNote : List ℕ → Reason → List ℕ → Type 0
-IsNote input (of_text k offset) note =
+-- the note on a refusal
+abbrev pub IsFaultNote : List ℕ → Fault → List ℕ → Type 0
+IsFaultNote input (of_text k offset) note =
     (k ≡ kind.TooLong → IsLongNote input note) × (k ≢ kind.TooLong → IsTextNote input k offset note)
-IsNote input (of_program p ids f) note = IsCheckNote input p ids f note
-IsNote input (of_ring m t places f) note = note ≡ ring_note m t places f
-IsNote input (of_place place places) note = note ≡ place_note place places
-IsNote input (of_segments segments places) note = note ≡ segments_note segments places
-IsNote input (of_table_text f) note = IsTableNote input f note
-IsNote input (of_formula m t f) note = IsFormulaNote m t f note
-IsNote input (of_refutation f) note = IsRefutationNote input f note
-IsNote input (of_no ring places channels) note = note ≡ verdict_note ring places channels
-IsNote input (of_no_tuples nodes ids) note = note ≡ no_tuples_note nodes ids
-IsNote input (of_broken ring place channels pattern known idle) note = note ≡ broken_note ring place channels pattern known idle
-IsNote input (of_idle idle) note = note ≡ idle_note idle
+IsFaultNote input (of_program p ids f) note = IsCheckNote input p ids f note
+IsFaultNote input (of_ring m t places f) note = note ≡ ring_note m t places f
+IsFaultNote input (of_place place places) note = note ≡ place_note place places
+IsFaultNote input (of_segments segments places) note = note ≡ segments_note segments places
+IsFaultNote input (of_table_text f) note = IsTableNote input f note
+IsFaultNote input (of_formula m t f) note = IsFormulaNote m t f note
+IsFaultNote input (of_refutation f) note = IsRefutationNote input f note
 
--- the note of a report: without a cause there is none, else it is on the cause, unless memory for it was refused
-abbrev pub IsNoteOn : List ℕ → Option Reason → Option (Result (String Global) OutOfMemory) → Type 0
-IsNoteOn input None note = note ≡ None
-IsNoteOn input (Some cause) (Some (Ok note)) = IsNote input cause (string_bytes note)
-IsNoteOn input (Some cause) (Some (Err refused)) = ⊤
-IsNoteOn input (Some cause) None = ⊥
+-- the note on a finding: a refusal, a no, and a yes over no tuples or with a pattern that never matches have one, and no other finding
+abbrev pub IsNote : List ℕ → Finding → List ℕ → Type 0
+IsNote input (refused f) note = IsFaultNote input f note
+IsNote input (value.no s ring places channels) note = note ≡ verdict_note ring places channels
+IsNote input (value.yes zero nodes ids) note = note ≡ no_tuples_note nodes ids
+IsNote input (value.broken ring place channels pattern known idle) note = note ≡ broken_note ring place channels pattern known idle
+IsNote input (value.solved tuples (Some idle)) note = note ≡ idle_note idle
+IsNote input _ note = ⊥
 
--- The cause is found in this input: the fault of a text is one of it. That of a list of identifiers is its own, and the
--- places of a no are places of its ring; a formula is of few rounds. OutOfMemory is no fault of a refutation.
-abbrev pub IsFound : List ℕ → Reason → Type 0
-IsFound input (of_text k offset) = FaultsAt input k offset
-IsFound input (of_ring m t places f) = (t ≤ MAX_ROUNDS) × IsFirstFault m t places f
-IsFound input (of_table_text f) = (f ≢ table.OutOfMemory) × IsFault input f
-IsFound input (of_formula m t f) = t ≤ MAX_ROUNDS
-IsFound input (of_refutation f) = f ≢ refute.OutOfMemory
-IsFound input (of_no ring places channels) = HasPlaces ring places
+-- whether a finding has a note
+abbrev pub has_note : Finding → Bool
+has_note (refused f) = true
+has_note (value.no s ring places channels) = true
+has_note (value.yes zero nodes ids) = true
+has_note (value.broken ring place channels pattern known idle) = true
+has_note (value.solved tuples (Some idle)) = true
+has_note _ = false
+
+-- there is such a note, unless memory for it was refused, or none
+abbrev pub IsToldIf : Bool → (List ℕ → Type 0) → Option (Result (String Global) OutOfMemory) → Type 0
+IsToldIf true is (Some (Ok note)) = is (string_bytes note)
+IsToldIf true is (Some (Err _)) = ⊤
+IsToldIf true is None = ⊥
+IsToldIf false is note = note ≡ None
+
+-- a note exactly on a finding that has one
+abbrev pub IsNoteOn : List ℕ → Finding → Option (Result (String Global) OutOfMemory) → Type 0
+IsNoteOn input f note = IsToldIf (has_note f) (IsNote input f) note
+
+-- The fault is found in this input: that of a text is one of it. That of a list of identifiers is its own; a formula is of
+-- few rounds. OutOfMemory is no fault of a refutation.
+abbrev pub IsFaultOf : List ℕ → Fault → Type 0
+IsFaultOf input (of_text k offset) = FaultsAt input k offset
+IsFaultOf input (of_ring m t places f) = (t ≤ MAX_ROUNDS) × IsFirstFault m t places f
+IsFaultOf input (of_table_text f) = (f ≢ table.OutOfMemory) × IsFault input f
+IsFaultOf input (of_formula m t f) = t ≤ MAX_ROUNDS
+IsFaultOf input (of_refutation f) = f ≢ refute.OutOfMemory
+IsFaultOf input _ = ⊤
+
+-- what is found is of this input; the places of a no are places of its ring
+abbrev pub IsFound : List ℕ → Finding → Type 0
+IsFound input (refused f) = IsFaultOf input f
+IsFound input (value.no s ring places channels) = HasPlaces ring places
 IsFound input _ = ⊤

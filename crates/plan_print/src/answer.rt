@@ -6,23 +6,22 @@ ghost use Rattle.table_fill.specs.ProgramTables.{table_of};
 ghost use Rattle.task_words.specs.Counts.{IsCount};
 ghost use Rattle.plan_print.specs.Engine.{IsTaskFault};
 ghost use Rattle.plan_print.specs.ReportedFaults.{reported_fill_fault, reported_run_fault};
-ghost use Rattle.reports.specs.Answers.{report_in};
-ghost use Rattle.reports.specs.Report as report;
-ghost use Rattle.reports.specs.Report.{Says, IsAnswerOnRing, IsDemandJudgement, IsJudgement, IsProblemJudgement, IsRunAnswer};
+ghost use Rattle.node_program.specs.GlobalRounds.{channels_of};
+ghost use Rattle.reports.specs.Findings as value;
+ghost use Rattle.reports.specs.Findings.{value_of};
+ghost use Rattle.reports.specs.Report.{Finds, IsAnswerOnRing, IsDemandJudgement, IsJudgement, IsProblemJudgement, IsRunAnswer};
 
 use crate::first_broken::first_broken;
 use crate::first_tuples::first_witness;
-use crate::places::places_text;
+use crate::places::plan_channels;
 use channel_tables::Table;
 use devices::fault::EngineFault;
 use lang_check::Plan;
 use nbhd_check::{Separation, judge_problem_with_workers, judge_with_workers};
-use reports::answer::Answer;
-use reports::judgement::{no_answer, verdict_answer};
-use reports::lines::numbers_line;
+use reports::finding::{Answer, Finding};
+use reports::judgement::verdict_answer;
 use reports::problem_judgement::{broken_answer, problem_answer};
 use reports::rings::{ring_in, segments_refusal};
-use reports::status::Status;
 use ring_exec::{RunFault, run};
 use ring_problems::{Demand, Problem};
 use round_eval::OpenGate;
@@ -40,14 +39,14 @@ pub(crate) fn run_answer<T: Threads + Wait + Sync>(
     plan: &Plan,
     ids: Vec<u32>,
     segments: u32,
-) -> Result<Answer, EngineFault>
-    ensures answer { IfOk result (λ r. IsAnswerOnRing plan.now.ids (length plan.now.program.steps) ids.items
-        (IsRunAnswer plan.now.program ids.items segments) (report_in r)) }
+) -> Result<Finding, EngineFault>
+    ensures answer { IfOk result (λ f. IsAnswerOnRing plan.now.ids (length plan.now.program.steps) ids.items
+        (IsRunAnswer plan.now.program ids.items segments) (value_of f)) }
     ensures fault { IfErr result (IsTaskFault segments) }
 {
-    match ring_in(alloc, plan, ids) {
+    match ring_in(plan, ids) {
         Ok(ring) => channels_answer(rt, alloc, plan, &ring, segments),
-        Err(refusal) => Ok(refusal.report()?),
+        Err(fault) => Ok(Finding::Refused(fault)),
     }
 }
 
@@ -58,16 +57,16 @@ fn channels_answer<T: Threads + Wait + Sync>(
     plan: &Plan,
     ring: &Ring,
     segments: u32,
-) -> Result<Answer, EngineFault>
+) -> Result<Finding, EngineFault>
     requires shape { IsOfShape ring.now plan.now }
-    ensures answer { IfOk result (λ r. IsRunAnswer plan.now.program ring.now.places segments (report_in r)) }
+    ensures answer { IfOk result (λ f. IsRunAnswer plan.now.program ring.now.places segments (value_of f)) }
     ensures fault { IfErr result (IsTaskFault segments) }
 {
     match run(rt, alloc, plan, ring, segments, &OpenGate) {
-        Ok(channels) => Ok(Answer::Text(numbers_line(alloc, &channels)?, Status::Done)),
+        Ok(channels) => Ok(Finding::Answer(Answer::Channels(channels))),
         Err(fault) => match fault_of_run(fault) {
             Some(fault) => Err(fault),
-            None => Ok(segments_refusal(alloc, segments, ring)?),
+            None => Ok(segments_refusal(segments, ring)),
         },
     }
 }
@@ -91,18 +90,19 @@ pub(crate) fn plan_answer<T: Threads + Wait + Sync>(
     plan: &Plan,
     ids: Vec<u32>,
     workers: u32,
-) -> Result<Answer, EngineFault>
+) -> Result<Finding, EngineFault>
     requires { IsCount workers }
-    ensures answer { IfOk result (λ r. IsAnswerOnRing plan.now.ids (length plan.now.program.steps) ids.items
-        (Says (report.place_lines plan.now.program ids.items) Status.Done) (report_in r)) }
+    ensures answer { IfOk result (λ f. IsAnswerOnRing plan.now.ids (length plan.now.program.steps) ids.items
+        (Finds (value.places ids.items (channels_of plan.now.program ids.items))) (value_of f)) }
     ensures fault { IfErr result (IsTaskFault workers) }
 {
-    match ring_in(alloc, plan, ids) {
+    match ring_in(plan, ids) {
         Ok(ring) => {
             let table = filled_table(rt, alloc, plan, workers)?;
-            Ok(Answer::Text(places_text(alloc, plan, &table, &ring)?, Status::Done))
+            let channels = plan_channels(alloc, plan, &table, &ring)?;
+            Ok(Finding::Answer(Answer::Places(ring, channels)))
         }
-        Err(refusal) => Ok(refusal.report()?),
+        Err(fault) => Ok(Finding::Refused(fault)),
     }
 }
 
@@ -114,9 +114,9 @@ pub(crate) fn judge_report<T: Threads + Wait + Sync>(
     plan: &Plan,
     demand: Demand,
     workers: u32,
-) -> Result<Answer, EngineFault>
+) -> Result<Finding, EngineFault>
     requires { IsCount workers }
-    ensures answer { IfOk result (λ r. IsDemandJudgement (table_of plan.now.program plan.now.ids) demand (report_in r)) }
+    ensures answer { IfOk result (λ f. IsDemandJudgement (table_of plan.now.program plan.now.ids) demand (value_of f)) }
     ensures fault { IfErr result (IsTaskFault workers) }
 {
     match demand {
@@ -132,17 +132,17 @@ fn problem_report<T: Threads + Wait + Sync>(
     plan: &Plan,
     problem: &Problem,
     workers: u32,
-) -> Result<Answer, EngineFault>
+) -> Result<Finding, EngineFault>
     requires { IsCount workers }
-    ensures answer { IfOk result (λ r. IsProblemJudgement (table_of plan.now.program plan.now.ids) problem.now (report_in r)) }
+    ensures answer { IfOk result (λ f. IsProblemJudgement (table_of plan.now.program plan.now.ids) problem.now (value_of f)) }
     ensures fault { IfErr result (IsTaskFault workers) }
 {
     if let Some(witness) = first_broken(alloc, plan, problem.patterns())? {
-        return Ok(broken_answer(alloc, plan.channels(), problem, witness)?);
+        return Ok(broken_answer(plan.channels(), problem, witness));
     }
     let table = filled_table(rt, alloc, plan, workers)?;
     let verdict = judge_problem_with_workers(rt, alloc, &table, problem.patterns(), workers)?;
-    Ok(problem_answer(alloc, &table, problem, verdict)?)
+    Ok(problem_answer(&table, problem, verdict))
 }
 
 // Like `judge_report`, on a separation.
@@ -152,17 +152,17 @@ fn apart_report<T: Threads + Wait + Sync>(
     plan: &Plan,
     separation: Separation,
     workers: u32,
-) -> Result<Answer, EngineFault>
+) -> Result<Finding, EngineFault>
     requires { IsCount workers }
-    ensures answer { IfOk result (λ r. IsJudgement (table_of plan.now.program plan.now.ids) separation (report_in r)) }
+    ensures answer { IfOk result (λ f. IsJudgement (table_of plan.now.program plan.now.ids) separation (value_of f)) }
     ensures fault { IfErr result (IsTaskFault workers) }
 {
     if let Some(witness) = first_witness(alloc, plan, separation)? {
-        return Ok(no_answer(alloc, separation, witness)?);
+        return Ok(Finding::Answer(Answer::No(separation, witness)));
     }
     let table = filled_table(rt, alloc, plan, workers)?;
     let verdict = judge_with_workers(rt, alloc, &table, separation, workers)?;
-    Ok(verdict_answer(alloc, &table, separation, verdict)?)
+    Ok(verdict_answer(&table, separation, verdict))
 }
 
 // Returns the table of an accepted program, which this many workers fill. The memo that it is filled

@@ -1,10 +1,8 @@
 //! Doing a task: reading the whole input, then writing its report.
 
-ghost use Rattle.std.specs.Prelude.{◌≡◌, false, IfSome};
+ghost use Rattle.std.specs.Prelude.{◌≡◌, false};
 ghost use Rattle.task_words.specs.Task.{IsRunnable};
 ghost use Rattle.devices.specs.Watched.{has_failed};
-ghost use Rattle.plan_print.specs.Notes.{IsNoteOn, IsFound};
-ghost use Rattle.reports.specs.Causes.{reason_in};
 ghost use Rattle.plan_print.specs.Engine.{max_read, streams_of, DoesTask, WritesReport, TellsReport};
 
 use crate::note::note_on;
@@ -15,9 +13,8 @@ use devices::input::read_input;
 use devices::watched::Watched;
 use node_lang::LONGEST_TEXT;
 use node_program::OutOfMemory;
-use reports::cause::Cause;
 use reports::status::Status;
-use reports::writing::write_answer;
+use reports::writing::write_finding;
 use std::alloc::Global;
 use std::io::{Read, Write};
 use std::sync::Wait;
@@ -55,17 +52,17 @@ pub fn engine<T: Threads + Wait + Sync, R: Read, W: Write>(
     }
 }
 
-/// The status of a report that was written, and the note on its cause.
+/// The status of a report that was written, and the note on what was found.
 #[derive(Drop)]
 pub struct Reported {
     pub status: Status,
-    /// `None` if the report has no cause, since it is neither a refusal nor a no, nor a yes over no
-    /// tuples or with a pattern that never matches. Without memory for the note it is an error.
+    /// `None` if the finding is neither a refusal nor a no, nor a yes over no tuples or with a pattern that
+    /// never matches. Without memory for the note it is an error.
     pub note: Option<Result<String, OutOfMemory>>,
 }
 
-/// Does the same as `engine`, and returns the note on the report's cause, if it has one. The note is
-/// not written.
+/// Does the same as `engine`, and returns the note on what was found, if it has one. The note is not
+/// written.
 pub fn engine_with_note<T: Threads + Wait + Sync, R: Read, W: Write>(
     rt: &T,
     alloc: Global,
@@ -80,21 +77,12 @@ pub fn engine_with_note<T: Threads + Wait + Sync, R: Read, W: Write>(
 {
     one_witness();
     let input = read_input(alloc, reader, max_read(&task))?;
-    let answer = report_of(rt, alloc, task, &input)?;
-    let (status, cause) = write_answer(rt, alloc, answer, writer)?;
-    let note = note_of(alloc, &input, cause);
-    Ok(Reported { status, note })
-}
-
-// Returns the note on a cause in this input, if there is one.
-fn note_of(alloc: Global, input: &[u8], cause: Option<Cause>) -> Option<Result<String, OutOfMemory>>
-    requires { IfSome (reason_in cause) (IsFound input.now) }
-    ensures { IsNoteOn input.now (reason_in cause) result }
-{
-    match cause {
-        Some(cause) => Some(note_on(alloc, input, &cause)),
-        None => None,
-    }
+    let finding = report_of(rt, alloc, task, &input)?;
+    write_finding(rt, alloc, &finding, writer)?;
+    Ok(Reported {
+        status: finding.status(),
+        note: note_on(alloc, &input, &finding),
+    })
 }
 
 // Returns the maximum number of bytes that are read of the input of a task.

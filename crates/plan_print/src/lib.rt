@@ -11,6 +11,6 @@ pub mod process;
 mod report;
 
 pub use devices::{fault, input, output, watched};
-pub use reports::{cause, lines, status};
+pub use reports::{finding, status};
 pub use table_text::{TableFault, read_table, write_table};
 pub use task_words::{ring_text, task, words};

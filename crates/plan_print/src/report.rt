@@ -4,7 +4,7 @@
 ghost use Rattle.std.specs.Prelude.{◌≡◌, IfOk, IfErr, Some, None};
 ghost use Rattle.plan_print.specs.TaskReport.{program_ids, IsAnswerTo, IsReport, IsTextReport};
 ghost use Rattle.plan_print.specs.Engine.{thread_count_of, IsTaskFault};
-ghost use Rattle.reports.specs.Answers.{report_in};
+ghost use Rattle.reports.specs.Findings.{value_of};
 ghost use Rattle.reports.specs.Report.{IsProgramReport};
 ghost use Rattle.task_words.specs.Task.{IsRunnable};
 
@@ -13,7 +13,7 @@ use devices::fault::EngineFault;
 use lang_check::Plan;
 use nbhd_check::Separation;
 use node_program::OutOfMemory;
-use reports::answer::{Answer, TableReport};
+use reports::finding::{Finding, TableReport};
 use reports::formulas::{formula_report, refute_report};
 use reports::problem::ProblemNumbers;
 use reports::rings::{explain_answer, trace_answer};
@@ -31,9 +31,9 @@ pub(crate) fn report_of<T: Threads + Wait + Sync>(
     alloc: Global,
     task: Task,
     input: &[u8],
-) -> Result<Answer, EngineFault>
+) -> Result<Finding, EngineFault>
     requires { IsRunnable task }
-    ensures report { IfOk result (λ r. IsReport task input.now (report_in r)) }
+    ensures report { IfOk result (λ f. IsReport task input.now (value_of f)) }
     ensures fault { IfErr result (IsTaskFault (thread_count_of task)) }
 {
     match program_ids(&task) {
@@ -72,15 +72,15 @@ fn program_report<T: Threads + Wait + Sync>(
     task: Task,
     ids: u32,
     input: &[u8],
-) -> Result<Answer, EngineFault>
+) -> Result<Finding, EngineFault>
     requires runnable { IsRunnable task }
     requires ids { program_ids task ≡ Some ids }
-    ensures report { IfOk result (λ r. IsProgramReport ids (IsAnswerTo task ids) input.now (report_in r)) }
+    ensures report { IfOk result (λ f. IsProgramReport ids (IsAnswerTo task ids) input.now (value_of f)) }
     ensures fault { IfErr result (IsTaskFault (thread_count_of task)) }
 {
-    match plan_in(alloc, input, ids) {
-        Ok(plan) => program_answer(rt, alloc, task, &plan),
-        Err(refusal) => Ok(refusal.report()?),
+    match plan_in(alloc, input, ids)? {
+        Ok(plan) => program_answer(rt, alloc, task, plan),
+        Err(fault) => Ok(Finding::Refused(fault)),
     }
 }
 
@@ -89,24 +89,24 @@ fn program_answer<T: Threads + Wait + Sync>(
     rt: &T,
     alloc: Global,
     task: Task,
-    plan: &Plan,
-) -> Result<Answer, EngineFault>
+    plan: Plan,
+) -> Result<Finding, EngineFault>
     requires runnable { IsRunnable task }
-    requires ids { program_ids task ≡ Some plan.now.ids }
-    ensures answer { IfOk result (λ r. IsAnswerTo task plan.now.ids plan.now.program (report_in r)) }
+    requires ids { program_ids task ≡ Some plan.ids }
+    ensures answer { IfOk result (λ f. IsAnswerTo task plan.ids plan.program (value_of f)) }
     ensures fault { IfErr result (IsTaskFault (thread_count_of task)) }
 {
     match task {
-        Task::Check { .. } => Ok(check_answer(alloc, plan)?),
+        Task::Check { .. } => Ok(check_answer(&plan)),
         Task::Table {
             workers,
             near,
             far,
             ..
         } => {
-            let table = filled_table(rt, alloc, plan, workers)?;
+            let table = filled_table(rt, alloc, &plan, workers)?;
             let separation = Separation { near, far };
-            Ok(Answer::Table(TableReport {
+            Ok(Finding::Table(TableReport {
                 table,
                 separation,
                 workers,
@@ -116,16 +116,16 @@ fn program_answer<T: Threads + Wait + Sync>(
             workers,
             demand,
             ..
-        } => judge_report(rt, alloc, plan, demand, workers),
-        Task::Run { ring, segments, .. } => run_answer(rt, alloc, plan, ring, segments),
-        Task::Trace { ring, base, .. } => Ok(trace_answer(alloc, base, plan, ring)?),
+        } => judge_report(rt, alloc, &plan, demand, workers),
+        Task::Run { ring, segments, .. } => run_answer(rt, alloc, &plan, ring, segments),
+        Task::Trace { ring, base, .. } => Ok(trace_answer(base, plan, ring)),
         Task::Explain {
             ring,
             place,
             base,
             ..
-        } => Ok(explain_answer(alloc, base, plan, ring, place)?),
-        Task::Plan { ring, workers, .. } => plan_answer(rt, alloc, plan, ring, workers),
+        } => Ok(explain_answer(base, plan, ring, place)),
+        Task::Plan { ring, workers, .. } => plan_answer(rt, alloc, &plan, ring, workers),
         _ => unreachable!(),
     }
 }
@@ -136,10 +136,10 @@ fn text_report<T: Threads + Sync>(
     alloc: Global,
     task: Task,
     input: &[u8],
-) -> Result<Answer, OutOfMemory>
+) -> Result<Finding, OutOfMemory>
     requires runnable { IsRunnable task }
     requires none { program_ids task ≡ None }
-    ensures { IfOk result (λ r. IsTextReport task input.now (report_in r)) }
+    ensures { IfOk result (λ f. IsTextReport task input.now (value_of f)) }
 {
     match task {
         Task::Print => print_report(alloc, input),
@@ -157,7 +157,7 @@ fn text_report<T: Threads + Sync>(
                 ids,
                 rounds,
                 channels,
-                demand: &demand,
+                demand,
             },
         ),
         Task::Refute {
@@ -171,7 +171,7 @@ fn text_report<T: Threads + Sync>(
                 ids,
                 rounds,
                 channels,
-                demand: &demand,
+                demand,
             },
             input,
         ),

@@ -1,13 +1,11 @@
 -- Each problem has a formula, or a fault.
-use Rattle.std.proofs.Common.{ℕ, ◌+◌, ◌*◌, ◌<◌, ◌≤◌, length, inl, inr, arith}
+use Rattle.std.proofs.Common.{◌+◌, ◌*◌, ◌<◌, ◌≤◌, length, inl, inr, arith}
 use Rattle.std.specs.Prelude.{◌⊎◌}
 use Rattle.std.proofs.lemmas.Bool.{cases_lt}
 use Rattle.win_index.specs.declared.limits.TheConstants.{MAX_IDS, MAX_WINDOWS}
-use Rattle.win_index.specs.ShapeRange.{HasIds, HasFewWindows}
 use Rattle.win_index.specs.Windows.{windows}
 use Rattle.table_formula.specs.Problems.{Problem}
 use Rattle.table_formula.specs.Formula.{variable_count, formula}
-use Rattle.table_formula.specs.Limits.{HasFewVariables, HasFewClauses}
 use Rattle.table_formula.specs.declared.limits.TheConstants.{MAX_CLAUSES, MAX_VARIABLES}
 use Rattle.reports.specs.ProblemFaults.{HasFormula, IsProblemFault}
 use Rattle.reports.specs.declared.problem.ProblemFault.{ProblemFault}

@@ -1,10 +1,9 @@
--- A task has at most one report on an input.
-use Rattle.std.proofs.Common.{◌≡◌, ℕ, ◌<◌, ◌≤◌, List, [], length, Option, Some, ap, subst, sym, ◌∙◌, refl, append-nil, arith, None}
+-- A task finds at most one thing on an input.
+use Rattle.std.proofs.Common.{◌≡◌, ℕ, ◌<◌, ◌≤◌, List, [], length, Option, Some, None, ap, subst, sym, ◌∙◌, refl, append-nil, arith}
 use Rattle.node_program.specs.Term.{ProgramTree}
 use Rattle.node_lang.specs.Laws.{OneReading, OneTextFault}
 use Rattle.win_index.specs.Laws.{OneRingFault, RingsHaveNoFault}
 use Rattle.node_lang.specs.Grammar.{Reads}
-use Rattle.node_lang.specs.Printed.{printed}
 use Rattle.lang_check.specs.Acceptance.{IsAccepted}
 use Rattle.lang_check.specs.Refusals.{IsFirstRefusal}
 use Rattle.channel_tables.specs.Tables.{ChannelTable}
@@ -18,223 +17,153 @@ use Rattle.channel_tables.specs.Laws.{OneWitness, ApartTablesHaveNoWitness}
 use Rattle.numerals.specs.declared.base.Base.{Base}
 use Rattle.task_words.specs.declared.task.Task.{Task}
 use Rattle.task_words.specs.declared.task.Task.TheVariants.{Check, Print, Table, Judge, Run, Trace, Explain, Plan, Audit, Apply, Migrate, Formula, Refute}
-use Rattle.reports.specs.declared.status.Status.{Status}
-use Rattle.reports.specs.Causes.{Reason, of_text, of_program, of_ring, of_table_text, of_formula, of_refutation, of_no, of_broken, of_idle}
-use Rattle.reports.specs.Laws.{OneListOfLines}
+use Rattle.reports.specs.Findings.{Fault, of_text, of_program, of_ring, of_table_text, of_formula, of_refutation, Finding, refused}
+use Rattle.reports.specs.Findings as value
+use Rattle.reports.specs.Laws.{OneListOfChannels}
 use Rattle.ring_problems.specs.declared.problem.Demand.{Demand}
 use Rattle.ring_problems.specs.declared.problem.Demand.TheVariants.{Apart, Solve}
 use Rattle.ring_problems.specs.declared.problem.Problem.{Problem as Posed}
 use Rattle.ring_problems.specs.Demands.{known_in, patterns_of}
 use Rattle.ring_problems.specs.Idle.{idle_in}
 use Rattle.ring_problems.specs.Laws.{OneWitness as OneProblemWitness, SolvedTablesHaveNoWitness}
-use Rattle.reports.specs.Report as report
-use Rattle.reports.specs.Report.{Report, Says, Refuses, IsJudgement, good, bad, IsProblemJudgement, solved, broken, IsDemandJudgement, IsAudit, IsAnswerOnRing, ring_fault, on_ring, IsRunAnswer, out_of_range, ran, IsExplainAnswer, no_place, explained, IsTableText, IsTextRefusal, IsPrintReport, text_refused, in_print, IsProgramRefusal, text_fault, check_fault, IsProgramReport, program_refused, answered, IsOnRingByTable, IsTableRefusal, IsTableReport, table_refused, of_table}
+use Rattle.reports.specs.Report.{Finds, IsRefusedOr, told, answered, IsJudgement, good, bad, IsProblemJudgement, solved, broken, IsDemandJudgement, IsAudit, IsAnswerOnRing, IsRunAnswer, IsExplainAnswer, IsTextRefusal, IsPrintReport, IsProgramRefusal, text_fault, check_fault, IsProgramReport, IsOnRingByTable, IsTableRefusal, IsTableReport}
 use Rattle.table_formula.specs.Problems.{Problem}
+use Rattle.table_formula.specs.Refutations.{IsRefutation}
 use Rattle.table_formula.specs.RefutationLaws.{OneRefutationFault, RefutationsAreRight}
-use Rattle.reports.specs.FormulaReports as formulas
-use Rattle.reports.specs.FormulaReports.{IsFormulaRefusal, IsFormulaReport, no_formula, has_text, IsRefuteReport, not_asked, refuted, not_refuted}
+use Rattle.reports.specs.FormulaReports.{IsFormulaRefusal, IsNoRefutation}
 use Rattle.reports.specs.ProblemFaults.{HasFormula, IsProblemFault, problem as numbered}
 use Rattle.reports.specs.declared.problem.ProblemFault.{ProblemFault}
 use Rattle.reports.specs.declared.problem.ProblemFault.TheVariants.{IdsOutOfRange, TooManyWindows, TooManyVariables, TooManyClauses}
 use Rattle.plan_print.specs.TaskReport.{IsReport}
 use Rattle.report_laws.specs.Laws.{OneReport}
 
--- two reports with the same bytes, the same status and the same cause are equal
-told_once : (bytes other : List ℕ) (status : Status) (cause why : Option Reason) (r s : Report)
-    → bytes ≡ other → cause ≡ why
-    → (r.bytes ≡ bytes) × (r.status ≡ status) × (r.cause ≡ cause)
-    → (s.bytes ≡ other) × (s.status ≡ status) × (s.cause ≡ why) → r ≡ s
-told_once bytes other status cause why r s same alike says says' =
-    λ i. record {
-      bytes = (says.0 ∙ same ∙ sym says'.0) i;
-      status = (says.1 ∙ sym says'.1) i;
-      cause = (says.2 ∙ alike ∙ sym says'.2) i;
-    }
+-- at most one is so
+abbrev IsOne : {A : Type 0} → (A → Type 0) → Type 0
+IsOne {A} is = (x y : A) → is x → is y → x ≡ y
 
-said_once : (bytes other : List ℕ) (status : Status) (r s : Report) → bytes ≡ other → Says bytes status r →
-    Says other status s → r ≡ s
-said_once bytes other status r s same says says' = told_once bytes other status _ _ r s same refl says says'
+one_value : (value : Finding) → IsOne (Finds value)
+one_value value f g is is' = is ∙ sym is'
 
-refused_once : (bytes other : List ℕ) (status : Status) (cause why : Reason) (r s : Report)
-    → bytes ≡ other → cause ≡ why
-    → Refuses bytes status cause r → Refuses other status why s → r ≡ s
-refused_once bytes other status cause why r s same alike says says' =
-    told_once bytes other status _ _ r s same (ap (λ c. Some c) alike) says says'
+-- a refusal or an answer is one if each is, and not both are
+one_of_two : (refusal : Fault → Type 0) (answer : Finding → Type 0) → IsOne refusal
+    → ((fault : Fault) (f : Finding) → refusal fault → answer f → ⊥) → IsOne answer → IsOne (IsRefusedOr refusal answer)
+one_of_two refusal answer one apart each f g (told fault is same) (told other is' same') =
+    same ∙ ap (λ x. refused x) (one fault other is is') ∙ sym same'
+one_of_two refusal answer one apart each f g (told fault is same) (answered said) = absurd (apart fault g is said)
+one_of_two refusal answer one apart each f g (answered said) (told fault is same) = absurd (apart fault f is said)
+one_of_two refusal answer one apart each f g (answered said) (answered said') = each f g said said'
 
-one_judgement : OneWitness → ApartTablesHaveNoWitness → (t : ChannelTable) (d : Separation) (r s : Report)
-    → IsJudgement t d r → IsJudgement t d s → r ≡ s
-one_judgement one no_witness t d r s (good is says) (good is' says') = told_once _ _ _ _ _ r s refl refl says says'
-one_judgement one no_witness t d r s (good is says) (bad ring i c witness says') =
-    absurd (no_witness t d ring i c is witness)
-one_judgement one no_witness t d r s (bad ring i c witness says) (good is says') =
-    absurd (no_witness t d ring i c is witness)
-one_judgement one no_witness t d r s (bad ring i c witness says) (bad other j e witness' says') =
+one_judgement : OneWitness → ApartTablesHaveNoWitness → (t : ChannelTable) (d : Separation) → IsOne (IsJudgement t d)
+one_judgement one no_witness t d f g (good apart is) (good apart' is') = is ∙ sym is'
+one_judgement one no_witness t d f g (good apart is) (bad ring i c witness is') = absurd (no_witness t d ring i c apart witness)
+one_judgement one no_witness t d f g (bad ring i c witness is) (good apart is') = absurd (no_witness t d ring i c apart witness)
+one_judgement one no_witness t d f g (bad ring i c witness is) (bad other j e witness' is') =
     let same = one t d ring other i j c e witness witness' in
-    refused_once _ _ _ _ _ r s (λ k. report.no_line d (same.0 k) (same.1 k) (same.2 k))
-    (λ k. of_no (same.0 k) (same.1 k) (same.2 k)) says says'
+    is ∙ (λ k. value.no d (same.0 k) (same.1 k) (same.2 k)) ∙ sym is'
 
-one_problem_judgement : OneProblemWitness → SolvedTablesHaveNoWitness → (t : ChannelTable) (problem : Posed) (r s : Report)
-    → IsProblemJudgement t problem r → IsProblemJudgement t problem s → r ≡ s
-one_problem_judgement one no_witness t problem r s (solved is says) (solved is' says') = told_once _ _ _ _ _ r s refl refl says says'
-one_problem_judgement one no_witness t problem r s (solved is says) (broken ring i c p witness says') =
-    absurd (no_witness t (patterns_of problem) ring i c p is witness)
-one_problem_judgement one no_witness t problem r s (broken ring i c p witness says) (solved is says') =
-    absurd (no_witness t (patterns_of problem) ring i c p is witness)
-one_problem_judgement one no_witness t problem r s (broken ring i c p witness says) (broken other j d q witness' says') =
+one_problem_judgement : OneProblemWitness → SolvedTablesHaveNoWitness → (t : ChannelTable) (problem : Posed) → IsOne (IsProblemJudgement t problem)
+one_problem_judgement one no_witness t problem f g (solved everywhere is) (solved everywhere' is') = is ∙ sym is'
+one_problem_judgement one no_witness t problem f g (solved everywhere is) (broken ring i c p witness is') =
+    absurd (no_witness t (patterns_of problem) ring i c p everywhere witness)
+one_problem_judgement one no_witness t problem f g (broken ring i c p witness is) (solved everywhere is') =
+    absurd (no_witness t (patterns_of problem) ring i c p everywhere witness)
+one_problem_judgement one no_witness t problem f g (broken ring i c p witness is) (broken other j d q witness' is') =
     let same = one t (patterns_of problem) ring other i j c d p q witness witness' in
-    refused_once _ _ _ _ _ r s (λ k. report.broken_line (same.0 k) (same.1 k) (same.2 k) (same.3 k))
-    (λ k. of_broken (same.0 k) (same.1 k) (same.2 k) (same.3 k) (known_in problem) (idle_in (patterns_of problem) t.channels)) says says'
+    is ∙ (λ k. value.broken (same.0 k) (same.1 k) (same.2 k) (same.3 k) (known_in problem) (idle_in (patterns_of problem) t.channels)) ∙ sym is'
 
-one_demand : OneWitness → ApartTablesHaveNoWitness → OneProblemWitness → SolvedTablesHaveNoWitness → (t : ChannelTable) (demand : Demand)
-    (r s : Report) → IsDemandJudgement t demand r → IsDemandJudgement t demand s → r ≡ s
-one_demand one no_witness one_problem no_problem t (Apart separation) r s = one_judgement one no_witness t separation r s
-one_demand one no_witness one_problem no_problem t (Solve problem) r s = one_problem_judgement one_problem no_problem t problem r s
+-- there is one finding on a list of identifiers, if there is one on a ring
+one_on_ring : OneRingFault → RingsHaveNoFault → (m t : ℕ) (x : List ℕ) (found : Finding → Type 0) → IsOne found
+    → IsOne (IsAnswerOnRing m t x found)
+one_on_ring one no_fault m t x found each =
+    one_of_two _ _ (λ a b p q. p.is ∙ ap (of_ring m t x) (one m t x p.what q.what p.first q.first) ∙ sym q.is)
+    (λ fault f none said. no_fault m t x none.what said.0 none.first) (λ f g p q. each f g p.1 q.1)
 
-one_audit : OneWitness → ApartTablesHaveNoWitness → OneProblemWitness → SolvedTablesHaveNoWitness → (problem : Option Posed) (t : ChannelTable)
-    (d : Separation) (r s : Report) → IsAudit problem t d r → IsAudit problem t d s → r ≡ s
-one_audit one no_witness one_problem no_problem None t d r s = one_judgement one no_witness t d r s
-one_audit one no_witness one_problem no_problem (Some problem) t d r s = one_problem_judgement one_problem no_problem t problem r s
-
--- there is one report on a list of identifiers, if there is one on a ring
-one_on_ring : OneRingFault → RingsHaveNoFault → (m t : ℕ) (x : List ℕ) (said : Report → Type 0)
-    → ((r s : Report) → said r → said s → r ≡ s)
-    → (r s : Report) → IsAnswerOnRing m t x said r → IsAnswerOnRing m t x said s → r ≡ s
-one_on_ring one no_fault m t x said once r s (ring_fault f first says) (ring_fault g first' says') =
-    let same = one m t x f g first first' in
-    refused_once _ _ _ _ _ r s (ap report.ring_fault_line same) (ap (of_ring m t x) same) says says'
-one_on_ring one no_fault m t x said once r s (ring_fault f first says) (on_ring ring says') =
-    absurd (no_fault m t x f ring first)
-one_on_ring one no_fault m t x said once r s (on_ring ring says) (ring_fault f first says') =
-    absurd (no_fault m t x f ring first)
-one_on_ring one no_fault m t x said once r s (on_ring ring says) (on_ring ring' says') = once r s says says'
-
-one_run : (p : ProgramTree) (x : List ℕ) (segments : ℕ) (r s : Report) → IsRunAnswer p x segments r →
-    IsRunAnswer p x segments s → r ≡ s
-one_run p x segments r s (out_of_range out says) (out_of_range out' says') =
-    refused_once _ _ _ _ _ r s refl refl says says'
-one_run p x segments r s (out_of_range out says) (ran within says') = absurd (out within)
-one_run p x segments r s (ran within says) (out_of_range out says') = absurd (out within)
-one_run p x segments r s (ran within says) (ran within' says') = said_once _ _ _ r s refl says says'
+one_run : (p : ProgramTree) (x : List ℕ) (segments : ℕ) → IsOne (IsRunAnswer p x segments)
+one_run p x segments =
+    one_of_two _ _ (λ a b p q. p.1 ∙ sym q.1) (λ fault f none said. none.0 said.0) (λ f g p q. p.1 ∙ sym q.1)
 
 no_such_place : (x : List ℕ) (place : ℕ) → length x ≤ place → place < length x → ⊥
 no_such_place x place beyond within = omega arith
 
-one_explanation : (b : Base) (p : ProgramTree) (x : List ℕ) (place : ℕ) (r s : Report) →
-    IsExplainAnswer b p x place r → IsExplainAnswer b p x place s → r ≡ s
-one_explanation b p x place r s (no_place beyond says) (no_place beyond' says') =
-    refused_once _ _ _ _ _ r s refl refl says says'
-one_explanation b p x place r s (no_place beyond says) (explained within says') =
-    absurd (no_such_place x place beyond within)
-one_explanation b p x place r s (explained within says) (no_place beyond says') =
-    absurd (no_such_place x place beyond within)
-one_explanation b p x place r s (explained within says) (explained within' says') = said_once _ _ _ r s refl says says'
+one_explanation : (b : Base) (p : ProgramTree) (x : List ℕ) (place : ℕ) → IsOne (IsExplainAnswer b p x place)
+one_explanation b p x place =
+    one_of_two _ _ (λ a b p q. p.1 ∙ sym q.1) (λ fault f none said. no_such_place x place none.0 said.0)
+    (λ f g p q. p.1 ∙ sym q.1)
 
-one_table_text : (t : ChannelTable) (d : Separation) (r s : Report) → IsTableText t d r → IsTableText t d s → r ≡ s
-one_table_text t d r s says says' = said_once _ _ _ r s refl says says'
+one_by_table : OneListOfChannels → (t : ChannelTable) (x : List ℕ) → IsOne (IsOnRingByTable t x)
+one_by_table one t x f g first second =
+    let same = one t x first.channels second.are.channel first.are second.are.has ∙ sym second.are.are in
+    first.is ∙ ap (value.places x) same ∙ sym second.is
 
-one_by_table : OneListOfLines → (t : ChannelTable) (x : List ℕ) (r s : Report) → IsOnRingByTable t x r →
-    IsOnRingByTable t x s → r ≡ s
-one_by_table one t x r s first second =
-    let same = one t x r.bytes second.0.channel first.0 second.0.has ∙ sym second.0.are in
-    λ i. record { bytes = same i; status = (first.1 ∙ sym second.1) i; cause = (first.2 ∙ sym second.2) i }
+one_text_refusal : OneTextFault → (input : List ℕ) → IsOne (IsTextRefusal input)
+one_text_refusal one input a b p q =
+    let same = one input p.kind q.kind p.offset q.offset p.first q.first in
+    p.is ∙ (λ n. of_text (same.0 n) (same.1 n)) ∙ sym q.is
 
-one_text_refusal : OneTextFault → (input : List ℕ) (r s : Report) → IsTextRefusal input r →
-    IsTextRefusal input s → r ≡ s
-one_text_refusal one_text_fault input r s first second =
-    let same = one_text_fault input first.kind second.kind first.offset second.offset first.fault second.fault in
-    refused_once _ _ _ _ _ r s (λ n. report.text_fault_line (same.0 n) (same.1 n))
-    (λ n. of_text (same.0 n) (same.1 n)) first.says second.says
+one_print : OneReading → OneTextFault → (input : List ℕ) → IsOne (IsPrintReport input)
+one_print one_reading one_text_fault input =
+    one_of_two _ _ (one_text_refusal one_text_fault input) (λ fault f none said. none.none said.0 said.1)
+    (λ f g p q. p.2 ∙ ap value.program (one_reading input p.0 q.0 p.1 q.1) ∙ sym q.2)
 
-one_print : OneReading → OneTextFault → (input : List ℕ) (r s : Report) → IsPrintReport input r →
-    IsPrintReport input s → r ≡ s
-one_print one_reading one_text_fault input r s (text_refused first) (text_refused second) =
-    one_text_refusal one_text_fault input r s first second
-one_print one_reading one_text_fault input r s (text_refused first) (in_print p reads says) =
+one_program_refusal : OneTextFault → OneReading → OneRefusal → (m : ℕ) (input : List ℕ) → IsOne (IsProgramRefusal m input)
+one_program_refusal one_text_fault one_reading one_refusal m input a b (text_fault first) (text_fault second) =
+    one_text_refusal one_text_fault input a b first second
+one_program_refusal one_text_fault one_reading one_refusal m input a b (text_fault first) (check_fault p f reads refuses is) =
     absurd (first.none p reads)
-one_print one_reading one_text_fault input r s (in_print p reads says) (text_refused second) =
+one_program_refusal one_text_fault one_reading one_refusal m input a b (check_fault p f reads refuses is) (text_fault second) =
     absurd (second.none p reads)
-one_print one_reading one_text_fault input r s (in_print p reads says) (in_print q reads' says') =
-    said_once _ _ _ r s (ap printed (one_reading input p q reads reads')) says says'
-
-one_program_refusal : OneTextFault → OneReading → OneRefusal → (m : ℕ) (input : List ℕ) (r s : Report)
-    → IsProgramRefusal m input r → IsProgramRefusal m input s → r ≡ s
-one_program_refusal one_text_fault one_reading one_refusal m input r s (text_fault first) (text_fault second) =
-    one_text_refusal one_text_fault input r s first second
-one_program_refusal one_text_fault one_reading one_refusal m input r s (text_fault first)
-    (check_fault p f reads refused says') =
-    absurd (first.none p reads)
-one_program_refusal one_text_fault one_reading one_refusal m input r s (check_fault p f reads refused says)
-    (text_fault second) =
-    absurd (second.none p reads)
-one_program_refusal one_text_fault one_reading one_refusal m input r s (check_fault p f reads refused says)
-    (check_fault q g reads' refused' says') =
+one_program_refusal one_text_fault one_reading one_refusal m input a b (check_fault p f reads refuses is)
+    (check_fault q g reads' refuses' is') =
     let program = one_reading input p q reads reads' in
-    let refused'' = subst (λ h. IsFirstRefusal m h g) (sym program) refused' in
-    let same = one_refusal m p f g refused refused'' in
-    refused_once _ _ _ _ _ r s (ap report.check_fault_line same) (λ n. of_program (program n) m (same n)) says says'
+    let same = one_refusal m p f g refuses (subst (λ h. IsFirstRefusal m h g) (sym program) refuses') in
+    is ∙ (λ n. of_program (program n) m (same n)) ∙ sym is'
 
 -- an accepted program is not refused
 pub accepted_or_refused : OneReading → AcceptedProgramsHaveNoRefusal
-    → (m : ℕ) (input : List ℕ) (r : Report) (p : ProgramTree)
-    → Reads input p → IsAccepted m p → IsProgramRefusal m input r → ⊥
-accepted_or_refused one_reading no_refusal m input r p reads accepted (text_fault refused) = refused.none p reads
-accepted_or_refused one_reading no_refusal m input r p reads accepted (check_fault q f reads' refused says) =
-    no_refusal m q f (subst (IsAccepted m) (one_reading input p q reads reads') accepted) refused
+    → (m : ℕ) (input : List ℕ) (fault : Fault) (p : ProgramTree)
+    → Reads input p → IsAccepted m p → IsProgramRefusal m input fault → ⊥
+accepted_or_refused one_reading no_refusal m input fault p reads accepted (text_fault refuses) = refuses.none p reads
+accepted_or_refused one_reading no_refusal m input fault p reads accepted (check_fault q f reads' refuses is) =
+    no_refusal m q f (subst (IsAccepted m) (one_reading input p q reads reads') accepted) refuses
 
--- there is one report on a program text, if there is one on each program
+-- there is one finding on a program text, if there is one on each program
 one_program_report : OneReading → OneTextFault → OneRefusal → AcceptedProgramsHaveNoRefusal
-    → (m : ℕ) (answer : ProgramTree → Report → Type 0)
-    → ((p : ProgramTree) (r s : Report) → answer p r → answer p s → r ≡ s)
-    → (input : List ℕ) (r s : Report) → IsProgramReport m answer input r → IsProgramReport m answer input s → r ≡ s
-one_program_report one_reading one_text_fault one_refusal no_refusal m answer once input r s (program_refused first)
-    (program_refused second) =
-    one_program_refusal one_text_fault one_reading one_refusal m input r s first second
-one_program_report one_reading one_text_fault one_refusal no_refusal m answer once input r s (program_refused first)
-    (answered p reads accepted said) =
-    absurd (accepted_or_refused one_reading no_refusal m input r p reads accepted first)
-one_program_report one_reading one_text_fault one_refusal no_refusal m answer once input r s
-    (answered p reads accepted said) (program_refused second) =
-    absurd (accepted_or_refused one_reading no_refusal m input s p reads accepted second)
-one_program_report one_reading one_text_fault one_refusal no_refusal m answer once input r s
-    (answered p reads accepted said) (answered q reads' accepted' said') =
-    once p r s said (subst (λ h. answer h s) (one_reading input q p reads' reads) said')
+    → (m : ℕ) (answer : ProgramTree → Finding → Type 0) → ((p : ProgramTree) → IsOne (answer p)) → (input : List ℕ)
+    → IsOne (IsProgramReport m answer input)
+one_program_report one_reading one_text_fault one_refusal no_refusal m answer each input =
+    one_of_two _ _ (one_program_refusal one_text_fault one_reading one_refusal m input)
+    (λ fault f none said. accepted_or_refused one_reading no_refusal m input fault said.0 said.1 said.2 none)
+    (λ f g p q. each p.0 f g p.3 (subst (λ h. answer h g) (one_reading input q.0 p.0 q.1 p.1) q.3))
 
-one_table_refusal : OneTableFault → (input : List ℕ) (r s : Report) → IsTableRefusal input r →
-    IsTableRefusal input s → r ≡ s
-one_table_refusal one_fault input r s first second =
-    let same = one_fault input first.what second.what first.known second.known first.fault second.fault in
-    refused_once _ _ _ _ _ r s (ap report.table_fault_line same) (ap of_table_text same) first.says second.says
+one_table_refusal : OneTableFault → (input : List ℕ) → IsOne (IsTableRefusal input)
+one_table_refusal one input a b p q =
+    p.is ∙ ap of_table_text (one input p.what q.what p.known q.known p.first q.first) ∙ sym q.is
 
 -- a table text is not refused
-pub told_or_refused : TableTextsAreRead → (input : List ℕ) (r : Report) (t : ChannelTable) (d : Separation) →
-    IsTextOf input t d → IsTableRefusal input r → ⊥
-told_or_refused read input r t d told refused =
-    refused.known (read (written told.0 t d) refused.what told.1
-    (subst (λ x. IsFault x refused.what) told.2 refused.fault))
+pub told_or_refused : TableTextsAreRead → (input : List ℕ) (fault : Fault) (t : ChannelTable) (d : Separation) →
+    IsTextOf input t d → IsTableRefusal input fault → ⊥
+told_or_refused read input fault t d text refuses =
+    refuses.known (read (written text.0 t d) refuses.what text.1
+    (subst (λ x. IsFault x refuses.what) text.2 refuses.first))
 
 -- a text gives one table and one separation
 pub one_telling : TableTextsAreApart → (input : List ℕ) (t u : ChannelTable) (d e : Separation) →
     IsTextOf input t d → IsTextOf input u e → (t ≡ u) × (d ≡ e)
-one_telling apart input t u d e told told' =
-    let v = written told.0 t d in
-    let w = written told'.0 u e in
-    let same = (apart v w [] told.1 told'.1 (sym told'.2 ∙ told.2 ∙ sym (append-nil (text_of v)))).0 in
+one_telling apart input t u d e text text' =
+    let v = written text.0 t d in
+    let w = written text'.0 u e in
+    let same = (apart v w [] text.1 text'.1 (sym text'.2 ∙ text.2 ∙ sym (append-nil (text_of v)))).0 in
     (ap (λ (x : Written). x.table) same, ap (λ (x : Written). x.separation) same)
 
--- there is one report on a table text, if there is one on each table and separation
+-- there is one finding on a table text, if there is one on each table and separation
 one_table_report : OneTableFault → TableTextsAreApart → TableTextsAreRead
-    → (answer : ChannelTable → Separation → Report → Type 0)
-    → ((t : ChannelTable) (d : Separation) (r s : Report) → answer t d r → answer t d s → r ≡ s)
-    → (input : List ℕ) (r s : Report) → IsTableReport answer input r → IsTableReport answer input s → r ≡ s
-one_table_report one_fault apart read answer once input r s (table_refused first) (table_refused second) =
-    one_table_refusal one_fault input r s first second
-one_table_report one_fault apart read answer once input r s (table_refused first) (of_table t d told said) =
-    absurd (told_or_refused read input r t d told first)
-one_table_report one_fault apart read answer once input r s (of_table t d told said) (table_refused second) =
-    absurd (told_or_refused read input s t d told second)
-one_table_report one_fault apart read answer once input r s (of_table t d told said) (of_table u e told' said') =
-    let same = one_telling apart input u t e d told' told in
-    once t d r s said (subst (λ x. answer t x s) same.1 (subst (λ x. answer x e s) same.0 said'))
+    → (answer : ChannelTable → Separation → Finding → Type 0) → ((t : ChannelTable) (d : Separation) → IsOne (answer t d))
+    → (input : List ℕ) → IsOne (IsTableReport answer input)
+one_table_report one_fault apart read answer each input =
+    one_of_two _ _ (one_table_refusal one_fault input)
+    (λ fault f none said. told_or_refused read input fault said.0 said.1 said.2 none)
+    (λ f g p q. let same = one_telling apart input q.0 p.0 q.1 p.1 q.2 p.2 in
+    each p.0 p.1 f g p.3 (subst (λ x. answer p.0 x g) same.1 (subst (λ x. answer x q.1 g) same.0 q.3)))
 
 -- a problem has at most one fault, and none if it has a formula
 one_problem_fault : (p : Problem) (f g : ProblemFault) → IsProblemFault p f → IsProblemFault p g → f ≡ g
@@ -261,71 +190,69 @@ no_problem_fault p TooManyWindows has is = is.1 has.shape.few_windows
 no_problem_fault p TooManyVariables has is = is.1 has.limits.few_variables
 no_problem_fault p TooManyClauses has is = is.1.1 has.limits.few_clauses
 
-one_formula_refusal : (p : Problem) (r s : Report) → IsFormulaRefusal p r → IsFormulaRefusal p s → r ≡ s
-one_formula_refusal p r s first second =
-    let same = one_problem_fault p first.what second.what first.fault second.fault in
-    refused_once _ _ _ _ _ r s (ap formulas.formula_fault_line same) (ap (of_formula p.ids p.rounds) same)
-    first.says second.says
+one_formula_refusal : (p : Problem) → IsOne (IsFormulaRefusal p)
+one_formula_refusal p a b first second =
+    first.is ∙ ap (of_formula p.ids p.rounds) (one_problem_fault p first.what second.what first.first second.first) ∙ sym second.is
 
-one_formula_report : (p : Problem) (r s : Report) → IsFormulaReport p r → IsFormulaReport p s → r ≡ s
-one_formula_report p r s (no_formula first) (no_formula second) = one_formula_refusal p r s first second
-one_formula_report p r s (no_formula first) (has_text has says) = absurd (no_problem_fault p first.what has first.fault)
-one_formula_report p r s (has_text has says) (no_formula second) =
-    absurd (no_problem_fault p second.what has second.fault)
-one_formula_report p r s (has_text has says) (has_text has' says') = said_once _ _ _ r s refl says says'
+-- there is one finding on a problem, if there is one where it has a formula
+one_on_formula : (p : Problem) (found : Finding → Type 0) → IsOne found
+    → IsOne (IsRefusedOr (IsFormulaRefusal p) (λ f. HasFormula p × found f))
+one_on_formula p found each =
+    one_of_two _ _ (one_formula_refusal p) (λ fault f none said. no_problem_fault p none.what said.0 none.first)
+    (λ f g p q. each f g p.1 q.1)
 
-one_refute_report : OneRefutationFault → RefutationsAreRight → (p : Problem) (input : List ℕ) (r s : Report) →
-    IsRefuteReport p input r → IsRefuteReport p input s → r ≡ s
-one_refute_report one right p input r s (not_asked first) (not_asked second) = one_formula_refusal p r s first second
-one_refute_report one right p input r s (not_asked first) (refuted has is says) =
-    absurd (no_problem_fault p first.what has first.fault)
-one_refute_report one right p input r s (not_asked first) (not_refuted has f known is says) =
-    absurd (no_problem_fault p first.what has first.fault)
-one_refute_report one right p input r s (refuted has is says) (not_asked second) =
-    absurd (no_problem_fault p second.what has second.fault)
-one_refute_report one right p input r s (refuted has is says) (refuted has' is' says') =
-    said_once _ _ _ r s refl says says'
-one_refute_report one right p input r s (refuted has is says) (not_refuted has' f known is' says') =
-    absurd (known (right p input f is is'))
-one_refute_report one right p input r s (not_refuted has f known is says) (not_asked second) =
-    absurd (no_problem_fault p second.what has second.fault)
-one_refute_report one right p input r s (not_refuted has f known is says) (refuted has' is' says') =
-    absurd (known (right p input f is' is))
-one_refute_report one right p input r s (not_refuted has f known is says) (not_refuted has' g known' is' says') =
-    let same = one p input f g known known' is is' in
-    refused_once _ _ _ _ _ r s (ap formulas.refutation_fault_line same) (ap of_refutation same) says says'
+one_refutation : OneRefutationFault → RefutationsAreRight → (p : Problem) (input : List ℕ)
+    → IsOne (IsRefusedOr (IsNoRefutation p input) (λ f. IsRefutation p input × (f ≡ value.refuted p)))
+one_refutation one right p input =
+    one_of_two _ _ (λ a b first second. first.is ∙ ap of_refutation
+    (one p input first.what second.what first.known second.known first.first second.first) ∙ sym second.is)
+    (λ fault f none said. none.known (right p input none.what said.0 none.first)) (λ f g p q. p.1 ∙ sym q.1)
 
 pub one_report : OneReading → OneTextFault → OneRefusal → AcceptedProgramsHaveNoRefusal → OneRingFault
     → RingsHaveNoFault → OneWitness → ApartTablesHaveNoWitness
     → OneProblemWitness → SolvedTablesHaveNoWitness
-    → OneTableFault → TableTextsAreApart → TableTextsAreRead → OneListOfLines → OneRefutationFault → RefutationsAreRight
+    → OneTableFault → TableTextsAreApart → TableTextsAreRead → OneListOfChannels → OneRefutationFault → RefutationsAreRight
     → OneReport
 one_report one_reading one_text_fault one_refusal no_refusal one_fault no_fault one_witness no_witness one_problem no_problem one_table_fault
-    apart read one_list one_refutation right task =
+    apart read one_list one_refutation_fault right task =
     go task
   where
-    of_program : (m : ℕ) (answer : ProgramTree → Report → Type 0)
-        → ((p : ProgramTree) (r s : Report) → answer p r → answer p s → r ≡ s)
-        → (input : List ℕ) (r s : Report) → IsProgramReport m answer input r → IsProgramReport m answer input s → r ≡ s
-    of_program = one_program_report one_reading one_text_fault one_refusal no_refusal
+    of_program' : (m : ℕ) (answer : ProgramTree → Finding → Type 0) → ((p : ProgramTree) → IsOne (answer p))
+        → (input : List ℕ) → IsOne (IsProgramReport m answer input)
+    of_program' = one_program_report one_reading one_text_fault one_refusal no_refusal
 
-    go : (task : Task) (input : List ℕ) (r s : Report) → IsReport task input r → IsReport task input s → r ≡ s
-    go (Check ids) = of_program ids _ (λ p r s. said_once _ _ _ r s refl)
+    on_ring : (m : ℕ) (p : ProgramTree) (x : List ℕ) (found : Finding → Type 0) → IsOne found
+        → IsOne (IsAnswerOnRing m (length p.steps) x found)
+    on_ring m p x = one_on_ring one_fault no_fault m (length p.steps) x
+
+    judged : (t : ChannelTable) (d : Separation) → IsOne (IsJudgement t d)
+    judged = one_judgement one_witness no_witness
+
+    tried : (t : ChannelTable) (problem : Posed) → IsOne (IsProblemJudgement t problem)
+    tried = one_problem_judgement one_problem no_problem
+
+    demanded : (t : ChannelTable) (demand : Demand) → IsOne (IsDemandJudgement t demand)
+    demanded t (Apart separation) = judged t separation
+    demanded t (Solve problem) = tried t problem
+
+    audited : (problem : Option Posed) (t : ChannelTable) (d : Separation) → IsOne (IsAudit problem t d)
+    audited None t d = judged t d
+    audited (Some problem) t d = tried t problem
+
+    go : (task : Task) (input : List ℕ) → IsOne (IsReport task input)
+    go (Check ids) = of_program' ids _ (λ p. one_value _)
     go Print = one_print one_reading one_text_fault
-    go (Table ids workers near far) = of_program ids _ (λ p. one_table_text _ _)
-    go (Judge ids workers demand) = of_program ids _ (λ p. one_demand one_witness no_witness one_problem no_problem _ demand)
-    go (Run ids ring segments) =
-        of_program ids _ (λ p. one_on_ring one_fault no_fault _ _ _ _ (one_run p ring.items segments))
-    go (Trace ids ring base) =
-        of_program ids _ (λ p. one_on_ring one_fault no_fault _ _ _ _ (λ r s. said_once _ _ _ r s refl))
-    go (Explain ids ring place base) =
-        of_program ids _ (λ p. one_on_ring one_fault no_fault _ _ _ _ (one_explanation base p ring.items place))
-    go (Plan ids ring workers) =
-        of_program ids _ (λ p. one_on_ring one_fault no_fault _ _ _ _ (λ r s. said_once _ _ _ r s refl))
-    go (Audit problem) = one_table_report one_table_fault apart read (IsAudit problem) (one_audit one_witness no_witness one_problem no_problem problem)
+    go (Table ids workers near far) = of_program' ids _ (λ p. one_value _)
+    go (Judge ids workers demand) = of_program' ids _ (λ p. demanded _ demand)
+    go (Run ids ring segments) = of_program' ids _ (λ p. on_ring ids p _ _ (one_run p ring.items segments))
+    go (Trace ids ring base) = of_program' ids _ (λ p. on_ring ids p _ _ (one_value _))
+    go (Explain ids ring place base) = of_program' ids _ (λ p. on_ring ids p _ _ (one_explanation base p ring.items place))
+    go (Plan ids ring workers) = of_program' ids _ (λ p. on_ring ids p _ _ (one_value _))
+    go (Audit problem) = one_table_report one_table_fault apart read (IsAudit problem) (audited problem)
     go (Apply ring) =
         one_table_report one_table_fault apart read _
         (λ t d. one_on_ring one_fault no_fault _ _ _ _ (one_by_table one_list t ring.items))
-    go Migrate = one_table_report one_table_fault apart read IsTableText one_table_text
-    go (Formula m t channels demand) = λ input. one_formula_report (numbered m t channels demand)
-    go (Refute m t channels demand) = one_refute_report one_refutation right (numbered m t channels demand)
+    go Migrate = one_table_report one_table_fault apart read _ (λ t d. one_value _)
+    go (Formula m t channels demand) = λ input. one_on_formula (numbered m t channels demand) _ (one_value _)
+    go (Refute m t channels demand) = λ input.
+        let p = numbered m t channels demand in one_on_formula p _ (one_refutation one_refutation_fault right p input)

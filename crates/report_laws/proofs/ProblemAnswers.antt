@@ -1,12 +1,12 @@
 -- Each table solves a problem, or there is a witness that it does not.
-use Rattle.std.proofs.Common.{◌≡◌, ℕ, zero, suc, ◌+◌, ◌<◌, ◌≤◌, Option, Some, None, is_some, IsSome, unwrap_or, option_map, List, [], ◌∷◌, inl, inr, refl, ap, subst, sym, ◌∙◌, arith}
+use Rattle.std.proofs.Common.{◌≡◌, ℕ, zero, suc, ◌+◌, ◌<◌, Option, Some, None, IsSome, unwrap_or, option_map, List, [], ◌∷◌, inl, inr, refl, ap, subst, sym, arith}
 use Rattle.std.specs.Prelude.{◌⊎◌, ◌*◌, ◌==◌, All, true, false, slice_get, slice_index}
 use Rattle.std.proofs.lemmas.Bool.Decides.{eqb_tells}
 use Rattle.std.proofs.lemmas.Option.{none-some, same_Some}
 use Rattle.win_index.specs.Arcs.{window_around, part_at}
 use Rattle.win_index.specs.Laws.{RingsHaveWindows, WindowsHaveNumbers}
 use Rattle.win_index.specs.Ring.{IsRing}
-use Rattle.win_index.specs.Windows.{number_of, IsWindow}
+use Rattle.win_index.specs.Windows.{number_of}
 use Rattle.channel_tables.specs.Tables.{ChannelTable, channel_of}
 use Rattle.ring_problems.specs.declared.pattern.Entry.{Entry}
 use Rattle.ring_problems.specs.declared.pattern.Entry.TheVariants.{Wildcard, Channel}

@@ -1,10 +1,10 @@
 -- What a refuted formula and the lower bound say of tables and programs.
-use Rattle.std.proofs.Common.{◌≡◌, ◌⊎◌, ℕ, ◌+◌, ◌*◌, ◌≤◌, List, [], length, refl, sym, ◌∙◌, inl, inr, arith}
+use Rattle.std.proofs.Common.{◌≡◌, ◌⊎◌, ℕ, ◌+◌, ◌*◌, ◌≤◌, List, [], refl, inl, inr, arith}
 use Rattle.std.proofs.lemmas.Option.{none-some}
 use Rattle.node_program.specs.Term.{ProgramTree}
 use Rattle.win_index.specs.Laws.{NumberOfWindow, WindowOfNumber, WindowsHaveNumbers, RingsHaveWindows, CountOfWindows, LengthOfArcs, ItemsOfArcs}
 use Rattle.win_index.specs.ShapeRange.{IsShape}
-use Rattle.channel_tables.specs.Tables.{ChannelTable, IsTable}
+use Rattle.channel_tables.specs.Tables.{ChannelTable}
 use Rattle.channel_tables.specs.declared.separation.Separation.{Separation}
 use Rattle.lang_check.specs.Laws.{AcceptedProgramsHaveNoRefusal}
 use Rattle.channel_tables.specs.Apart.{extra, IsApartEverywhere}
@@ -16,8 +16,8 @@ use Rattle.table_fill.specs.ProgramTables.{table_of}
 use Rattle.headline.specs.Laws.{ProgramTablesAreApart, ProgramTablesSolve}
 use Rattle.table_formula.specs.Problems.{Problem, IsImpossible}
 use Rattle.table_formula.specs.RefutationLaws.{RefutationsAreSound}
-use Rattle.reports.specs.FormulaReports.{IsRefuteReport, not_asked, refuted, not_refuted}
-use Rattle.reports.specs.Report.{Report}
+use Rattle.reports.specs.FormulaReports.{IsRefuteReport}
+use Rattle.reports.specs.Findings.{Finding, status_of}
 use Rattle.reports.specs.declared.status.Status.TheVariants.{Done}
 use Rattle.ring_problems.specs.declared.problem.Demand.TheVariants.{Apart, Solve}
 use Rattle.ring_problems.specs.Demands.{patterns_of}
@@ -25,17 +25,18 @@ use Rattle.ring_problems.specs.Laws.{SolvedTablesHaveNoWitness}
 use Rattle.ring_problems.specs.Problems.{IsSolvedEverywhere}
 use Rattle.headline.specs.Headline.{ChannelsSolve}
 use Rattle.reports.specs.ProblemFaults.{problem as numbered}
-use Rattle.report_laws.specs.Laws.{AsksForAsMuch, IsAcceptedText, IsRefuted, NoTableIfRefuted, NoTableSolvesIfRefuted, NoProgramIfRefuted, NoProgramSolvesIfRefuted, ProgramsNeedChannels, ProgramsNeedThree, Fails, FailsOnARing}
+use Rattle.report_laws.specs.Laws.{IsAcceptedText, NoTableIfRefuted, NoTableSolvesIfRefuted, NoProgramIfRefuted, NoProgramSolvesIfRefuted, ProgramsNeedChannels, ProgramsNeedThree, Fails, FailsOnARing}
 use Rattle.report_laws.proofs.JudgeAnswers.{JudgeAnswer, apart, not_apart}
 use Rattle.report_laws.proofs.SeenTables.{seen_table, seen_is_table, seen_is_apart, seen_is_free, seen_solves}
+use Rattle.report_laws.proofs.ReadBack.{done_answer}
 use Rattle.report_laws.proofs.ToldRounds.{judge_solves, judge_tells}
 
 -- a report with the status of a refuted formula is on a refutation of it, and the formula's numbers are a shape
-impossible : RefutationsAreSound → (p : Problem) (input : List ℕ) (r : Report) → IsRefuteReport p input r →
-    r.status ≡ Done → IsImpossible p × IsShape p.ids p.rounds
-impossible sound p input r (not_asked refusal) done = let both = sym refusal.says.1 ∙ done in cc
-impossible sound p input r (refuted has is says) done = (sound p input is, has.shape)
-impossible sound p input r (not_refuted has f known is says) done = let both = sym says.1 ∙ done in cc
+impossible : RefutationsAreSound → (p : Problem) (input : List ℕ) (f : Finding) → IsRefuteReport p input f →
+    status_of f ≡ Done → IsImpossible p × IsShape p.ids p.rounds
+impossible sound p input f is done =
+    let has = done_answer _ _ f done is in
+    (sound p input (done_answer _ _ f done has.1).0, has.0.shape)
 
 -- a table has no pattern of none
 none_forbidden : (t : ChannelTable) → IsSolvedEverywhere t []

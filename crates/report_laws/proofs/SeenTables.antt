@@ -6,15 +6,15 @@ use Rattle.std.proofs.lemmas.List.{length-map, get_or-map, get_or_past, ext_get_
 use Rattle.std.proofs.lemmas.List.Elements.{All-map, All-weaker}
 use Rattle.std.proofs.lemmas.Option.{slice_get_within, get_or_from_slice_get}
 use Rattle.node_program.specs.declared.limits.TheConstants.{MAX_ROUNDS}
-use Rattle.win_index.specs.Arcs.{arc, window_around, part_at}
+use Rattle.win_index.specs.Arcs.{window_around, part_at}
 use Rattle.win_index.specs.Falling.{falling}
 use Rattle.win_index.specs.Laws.{NumberOfWindow, WindowOfNumber, WindowsHaveNumbers, RingsHaveWindows, CountOfWindows, LengthOfArcs, ItemsOfArcs}
 use Rattle.win_index.specs.Ring.{IsRing}
 use Rattle.win_index.specs.ShapeRange.{IsShape}
-use Rattle.win_index.specs.Windows.{windows, number_of, IsWindow}
+use Rattle.win_index.specs.Windows.{windows, number_of}
 use Rattle.channel_tables.specs.Tables.{ChannelTable, IsTable, channel_of}
 use Rattle.channel_tables.specs.declared.separation.Separation.{Separation}
-use Rattle.channel_tables.specs.Apart.{extra, AreApart, IsApartEverywhere}
+use Rattle.channel_tables.specs.Apart.{AreApart, IsApartEverywhere}
 use Rattle.ring_problems.specs.declared.pattern.Pattern.{Pattern}
 use Rattle.ring_problems.specs.Patterns.{Fits}
 use Rattle.ring_problems.specs.Problems.{IsSolvedEverywhere}

@@ -9,7 +9,7 @@ use lang_check::one_refusal;
 use lower_bound::{nearby_places_need_four, odd_rings_need_three, tables_need_channels};
 use node_lang::{first_fault, one_reading, one_text_fault, printed_is_read_back, reading_is_exact};
 use problem_bounds::{independent_sets_need_rounds, matchings_need_rounds};
-use reports::places::{one_list_of_lines, tables_have_channels};
+use reports::places::{one_list_of_channels, tables_have_channels};
 use table_fill::{
     program_tables_are_tables, table_has_the_channels_of_rounds, table_has_the_channels_of_windows,
 };
@@ -37,7 +37,7 @@ pub fn one_report()
     one_table_fault();
     table_texts_are_apart();
     table_texts_are_read();
-    one_list_of_lines();
+    one_list_of_channels();
     one_refutation_verdict();
 }
 
@@ -101,7 +101,7 @@ pub fn table_reports_are_read_back()
     table_texts_are_read();
     program_tables_are_tables();
     table_has_the_channels_of_rounds();
-    one_list_of_lines();
+    one_list_of_channels();
 }
 
 /// If `audit` says yes of a table text, the channels that `apply` prints on a ring are as far apart as

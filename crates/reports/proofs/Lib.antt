@@ -1,5 +1,3 @@
 pub mod Joined
 pub mod Aligned
-pub mod NotRing
 pub mod TableLines
-pub mod Refused

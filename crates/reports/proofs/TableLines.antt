@@ -1,15 +1,15 @@
--- The lines of a ring's places by a table.
-use Rattle.std.proofs.Common.{◌≡◌, ℕ, zero, suc, ◌+◌, ◌*◌, ◌<◌, ◌++◌, List, Option, None, Some, length, option_map, refl, sym, ap, ap₂, subst, ◌∙◌, arith}
+-- The channels of a ring's places by a table.
+use Rattle.std.proofs.Common.{◌≡◌, ℕ, zero, suc, ◌+◌, ◌*◌, ◌<◌, ◌∷◌, List, map, Option, None, Some, length, option_map, refl, sym, ap, ap₂, subst, ◌∙◌, arith}
 use Rattle.std.specs.Prelude.{IsSome, slice_index}
-use Rattle.std.specs.List.{flat_map, range_with_len}
+use Rattle.std.specs.List.{range_with_len}
 use Rattle.std.proofs.lemmas.Option.{same_Some}
 use Rattle.win_index.specs.Arcs.{window_around}
 use Rattle.win_index.specs.Laws.{RingsHaveWindows, WindowsHaveNumbers}
 use Rattle.win_index.specs.Ring.{IsRing}
 use Rattle.win_index.specs.Windows.{number_of}
 use Rattle.channel_tables.specs.Tables.{ChannelTable, channel_of}
-use Rattle.reports.specs.Laws.{TablesHaveChannels, OneListOfLines}
-use Rattle.reports.specs.Report.{HasChannels, place_line}
+use Rattle.reports.specs.Laws.{TablesHaveChannels, OneListOfChannels}
+use Rattle.reports.specs.Report.{HasChannels}
 
 -- the channel, or 0 if there is none
 abbrev pub or_zero : Option ℕ → ℕ
@@ -36,18 +36,18 @@ has_channel windows numbers t ring is = (
 )
 
 -- two functions that agree below a bound map a range below it alike
-same_below : (f g : ℕ → List ℕ) (from count : ℕ) → ((k : ℕ) → k < from + count → f k ≡ g k) →
-    flat_map f (range_with_len from count) ≡ flat_map g (range_with_len from count)
+same_below : (f g : ℕ → ℕ) (from count : ℕ) → ((k : ℕ) → k < from + count → f k ≡ g k) →
+    map f (range_with_len from count) ≡ map g (range_with_len from count)
 same_below f g from zero same = refl
 same_below f g from (suc n) same =
-    ap₂ (λ a b. a ++ b) (same from (omega arith))
+    ap₂ (λ a b. a ∷ b) (same from (omega arith))
     (same_below f g (from + 1) n (λ k within. same k (omega (arith, within))))
 
-pub one_list : OneListOfLines
-one_list t ring lines channel is has =
+pub one_list : OneListOfChannels
+one_list t ring channels channel is has =
     is.are ∙ same_below _ _ 0 (length ring) (λ k within.
     let less : k < length ring = omega (arith, within) in
-    ap (place_line k (slice_index ring k)) (same_Some _ _ (sym (is.has k less) ∙ has k less)))
+    same_Some _ _ (sym (is.has k less) ∙ has k less))
 
 -- if the table has a channel at each place, these are its channels
 pub has_there : TablesHaveChannels → (t : ChannelTable) (ring : List ℕ) → IsRing t.ids t.rounds ring

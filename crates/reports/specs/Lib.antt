@@ -1,11 +1,11 @@
--- The definitions that the contracts cite: exit statuses, printed lines, the numbers of a problem, reports and their
--- causes, reports before they are written, what writing one leaves, and the laws.
+-- The definitions that the contracts cite: exit statuses, the numbers of a problem, findings and their bytes, which
+-- finding a task has, what writing one leaves, and the laws.
 pub mod StatusCodes
 pub mod Lines
-pub mod Report
 pub mod ProblemFaults
-pub mod Causes
+pub mod Findings
+pub mod Bytes
+pub mod Report
 pub mod FormulaReports
-pub mod Answers
 pub mod Written
 pub mod Laws

@@ -12,8 +12,6 @@ use Rattle.table_formula.specs.declared.formula.FormulaFault.TheVariants as form
 use Rattle.reports.specs.declared.problem.ProblemFault.{ProblemFault}
 use Rattle.reports.specs.declared.problem.ProblemFault.TheVariants.{IdsOutOfRange, TooManyWindows, TooManyVariables, TooManyClauses}
 use Rattle.reports.specs.declared.problem.ProblemNumbers.{ProblemNumbers}
-use Rattle.reports.specs.declared.formulas.NoFormula.{NoFormula}
-use Rattle.reports.specs.declared.formulas.NoFormula.TheVariants as none
 
 -- whether there is a table of so many identifiers, rounds and channels that is as demanded
 abbrev pub problem : (ids rounds channels : ℕ) → Demand → Problem
@@ -27,7 +25,7 @@ problem ids rounds channels demand = record {
 
 -- the problem of these numbers
 abbrev pub problem_of : ProblemNumbers → Problem
-problem_of n = problem n.ids n.rounds n.channels n.demand.now
+problem_of n = problem n.ids n.rounds n.channels n.demand
 
 -- there is a formula of the problem: its identifiers and rounds are a shape, and it is not too large
 pub record HasFormula (p : Problem) : Type 0 where
@@ -40,8 +38,3 @@ IsProblemFault p IdsOutOfRange = IsFirstShapeFault p.ids p.rounds shape.IdsOutOf
 IsProblemFault p TooManyWindows = IsFirstShapeFault p.ids p.rounds shape.TooManyWindows
 IsProblemFault p TooManyVariables = IsShape p.ids p.rounds × IsFormulaFault p formula.TooManyVariables
 IsProblemFault p TooManyClauses = IsShape p.ids p.rounds × IsFormulaFault p formula.TooManyClauses
-
--- why there is no formula of the problem: memory is refused only for a formula that there is
-abbrev pub IsNoFormula : Problem → NoFormula → Type 0
-IsNoFormula p (none.Fault fault) = IsProblemFault p fault
-IsNoFormula p none.OutOfMemory = HasFormula p

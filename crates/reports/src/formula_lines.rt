@@ -1,10 +1,13 @@
 //! Lines of the reports on a formula. A call fails only if memory was refused.
 
-ghost use Rattle.std.specs.Prelude.{◌≡◌, IfOk, string_bytes};
-ghost use Rattle.reports.specs.FormulaReports as report;
+ghost use Rattle.std.specs.Prelude.{◌≡◌, IfOk, OnErr, string_bytes};
+ghost use Rattle.reports.specs.Bytes as report;
 ghost use Rattle.ring_problems.specs.Demands.{forbidden_of, separation_of};
+ghost use Rattle.reports.specs.Findings.{of_refutation};
 ghost use Rattle.reports.specs.ProblemFaults.{problem_of};
+ghost use Rattle.reports.specs.Written.{bytes_in, NeedsMemory};
 
+use crate::line::Line;
 use crate::problem::{ProblemFault, ProblemNumbers};
 use channel_tables::Separation;
 use ring_problems::{Demand, patterns_text};
@@ -24,13 +27,13 @@ pub(crate) fn formula_fault_line(fault: ProblemFault) -> &'static str
 }
 
 // Returns the line of a problem whose formula is refuted.
-pub(crate) fn refuted_line(alloc: Global, numbers: ProblemNumbers<'_>) -> Result<String, AllocError>
-    ensures { IfOk result (λ text. string_bytes text ≡ report.refuted_line (problem_of numbers.entry)) }
+pub(crate) fn refuted_line(alloc: Global, numbers: &ProblemNumbers) -> Result<String, AllocError>
+    ensures { IfOk result (λ text. string_bytes text ≡ report.refuted_line (problem_of numbers.now)) }
 {
     let ids = numbers.ids;
     let rounds = numbers.rounds;
     let channels = numbers.channels;
-    let demand = demand_text(alloc, numbers.demand)?;
+    let demand = demand_text(alloc, &numbers.demand)?;
     format!(in alloc; "refuted: ids {ids} rounds {rounds} channels {channels}{demand}\n")
 }
 
@@ -47,16 +50,19 @@ fn demand_text(alloc: Global, demand: &Demand) -> Result<String, AllocError>
     format!(in alloc; " forbid{patterns}")
 }
 
-// Returns the line of a text of a refutation whose line with this number has this fault.
-pub(crate) fn refutation_fault_line(
-    alloc: Global,
-    line: u64,
-    fault: LineFault,
-) -> Result<String, AllocError>
-    ensures { IfOk result (λ text. string_bytes text ≡ report.refutation_fault_line (RefuteError.At line fault)) }
+// Returns the line of a text that is no refutation, or an empty line for `OutOfMemory`.
+pub(crate) fn refutation_fault_line(alloc: Global, fault: RefuteError) -> Result<Line, AllocError>
+    ensures line { IfOk result (λ line. bytes_in line ≡ report.refutation_fault_line fault) }
+    ensures memory { OnErr result (NeedsMemory (of_refutation fault)) }
 {
-    let number = number_of(fault);
-    format!(in alloc; "refutation fault L{number} line {line}\n")
+    match fault {
+        RefuteError::TooLong => Ok(Line::Fixed("refutation fault L1\n")),
+        RefuteError::At { line, fault } => {
+            let number = number_of(fault);
+            Ok(Line::Made(format!(in alloc; "refutation fault L{number} line {line}\n")?))
+        }
+        RefuteError::OutOfMemory => Ok(Line::Fixed("")),
+    }
 }
 
 // Returns the number of a fault of a line.

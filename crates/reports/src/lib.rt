@@ -1,19 +1,18 @@
-//! Reports: printed lines, reports on texts, tables, rings and formulas, their causes and
-//! their exit statuses, and how a report is written.
+//! Findings: what tasks find on texts, tables, rings and formulas, the bytes and the exit status of each,
+//! and how one is written.
 #![tactic(auto)]
 
-pub mod answer;
-pub mod cause;
+pub mod fault;
+pub mod finding;
 mod formula_lines;
 pub mod formulas;
 pub mod judgement;
-pub mod lines;
+mod line;
+mod lines;
 pub mod places;
 pub mod problem;
 pub mod problem_judgement;
-pub mod refusal;
 pub mod rings;
 pub mod status;
 pub mod texts;
-mod told;
 pub mod writing;

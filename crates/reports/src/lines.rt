@@ -1,20 +1,29 @@
 //! Lines of the report. Each call fails only if memory was refused.
 
-ghost use Rattle.std.specs.Prelude.{◌≡◌, [], ◌∷◌, ◌++◌, ◌+◌, ◌^◌, ◌<◌, IfOk, OnOk, length, string_bytes};
+ghost use Rattle.std.specs.Prelude.{◌≡◌, ◌+◌, ◌^◌, ◌<◌, [], ◌∷◌, ◌++◌, length, slice_index, IfOk, OnErr, OnOk, string_bytes};
+ghost use Rattle.node_lang.specs.Printed.{printed};
 ghost use Rattle.reports.specs.Lines.{line, numbers_text};
-ghost use Rattle.reports.specs.Report as report;
+ghost use Rattle.reports.specs.Bytes as report;
+ghost use Rattle.reports.specs.Bytes.{bytes_of, fault_line};
+ghost use Rattle.reports.specs.Written.{bytes_in, NeedsMemory};
+ghost use Rattle.reports.specs.Findings.{answer_of, fault_of};
 
-use lang_check::{CheckFault, Plan};
+use crate::fault::Fault;
+use crate::finding::Answer;
+use crate::formula_lines::{formula_fault_line, refutation_fault_line, refuted_line};
+use crate::line::Line;
+use lang_check::CheckFault;
 use nbhd_check::{PatternWitness, Separation, Witness};
-use node_lang::{FaultKind, TextFault};
+use node_lang::{FaultKind, Program, TextFault, print};
 use node_program::OutOfMemory;
 use std::alloc::{AllocError, Global};
 use std::fmt::Write;
 use table_text::TableFault;
-use win_index::RingFault;
+use value_trees::{explanation_text, trace_text};
+use win_index::{Ring, RingFault};
 
 // Writes numbers in decimal, separated by single blanks.
-pub(crate) fn write_numbers(text: &mut String, numbers: &[u32]) -> Result<(), AllocError>
+fn write_numbers(text: &mut String, numbers: &[u32]) -> Result<(), AllocError>
     ensures { OnOk result (string_bytes text.new ≡ string_bytes text.old ++ numbers_text numbers.now) }
 {
     let mut separator = "";
@@ -25,8 +34,8 @@ pub(crate) fn write_numbers(text: &mut String, numbers: &[u32]) -> Result<(), Al
     Ok(())
 }
 
-/// Returns a line of numbers in decimal, separated by single blanks and followed by a line feed.
-pub fn numbers_line(alloc: Global, numbers: &[u32]) -> Result<String, OutOfMemory>
+// Returns a line of numbers in decimal, separated by single blanks and followed by a line feed.
+fn numbers_line(alloc: Global, numbers: &[u32]) -> Result<String, OutOfMemory>
     ensures { IfOk result (λ text. string_bytes text ≡ line (numbers_text numbers.now ∷ [])) }
 {
     let mut text = String::new(alloc);
@@ -54,7 +63,7 @@ fn number_of(fault: FaultKind) -> u32
 }
 
 // Returns the line of a text fault.
-pub(crate) fn text_fault_line(alloc: Global, fault: TextFault) -> Result<String, AllocError>
+fn text_fault_line(alloc: Global, fault: TextFault) -> Result<String, AllocError>
     ensures { IfOk result (λ text. string_bytes text ≡ report.text_fault_line fault.kind fault.offset) }
 {
     let number = number_of(fault.kind);
@@ -63,7 +72,7 @@ pub(crate) fn text_fault_line(alloc: Global, fault: TextFault) -> Result<String,
 }
 
 // Returns the line of a program that is not accepted.
-pub(crate) fn check_fault_line(alloc: Global, fault: CheckFault) -> Result<String, AllocError>
+fn check_fault_line(alloc: Global, fault: CheckFault) -> Result<String, AllocError>
     ensures { IfOk result (λ text. string_bytes text ≡ report.check_fault_line fault) }
 {
     match fault {
@@ -79,7 +88,7 @@ pub(crate) fn check_fault_line(alloc: Global, fault: CheckFault) -> Result<Strin
 }
 
 // Returns the line of a list that is not a ring.
-pub(crate) fn ring_fault_line(alloc: Global, fault: RingFault) -> Result<String, AllocError>
+fn ring_fault_line(alloc: Global, fault: RingFault) -> Result<String, AllocError>
     ensures { IfOk result (λ text. string_bytes text ≡ report.ring_fault_line fault) }
 {
     match fault {
@@ -93,21 +102,14 @@ pub(crate) fn ring_fault_line(alloc: Global, fault: RingFault) -> Result<String,
 }
 
 // Returns the line of a place that a ring has not.
-pub(crate) fn place_fault_line(alloc: Global, place: u32) -> Result<String, AllocError>
+fn place_fault_line(alloc: Global, place: u32) -> Result<String, AllocError>
     ensures { IfOk result (λ text. string_bytes text ≡ report.place_fault_line place) }
 {
     format!(in alloc; "ring fault G5 place {place}\n")
 }
 
-// Returns the line of a ring that can't be run in the requested number of segments.
-pub(crate) fn segments_fault_line(alloc: Global) -> Result<String, AllocError>
-    ensures { IfOk result (λ text. string_bytes text ≡ report.segments_fault_line) }
-{
-    String::from_str(alloc, "segments fault E1\n")
-}
-
 // Returns the line of a text that is not a table text, or an empty text for `OutOfMemory`.
-pub(crate) fn table_fault_line(alloc: Global, fault: TableFault) -> Result<String, AllocError>
+fn table_fault_line(alloc: Global, fault: TableFault) -> Result<String, AllocError>
     ensures { IfOk result (λ text. string_bytes text ≡ report.table_fault_line fault) }
 {
     match fault {
@@ -118,34 +120,85 @@ pub(crate) fn table_fault_line(alloc: Global, fault: TableFault) -> Result<Strin
     }
 }
 
-// Returns the line of an accepted program.
-pub(crate) fn accepted_line(alloc: Global, plan: &Plan) -> Result<String, AllocError>
-    ensures { IfOk result (λ text. string_bytes text ≡ report.accepted_line plan.now.ids plan.now.program) }
+// Returns the line of a refusal.
+pub(crate) fn line_of(alloc: Global, fault: &Fault) -> Result<Line, AllocError>
+    ensures line { IfOk result (λ line. bytes_in line ≡ fault_line (fault_of fault.now)) }
+    ensures memory { OnErr result (NeedsMemory (fault_of fault.now)) }
 {
-    let shape = plan.shape();
-    let ids = shape.ids();
-    let rounds = shape.rounds();
-    let channels = plan.channels();
-    let bound = plan.bound();
-    let windows = shape.count(rounds);
+    match fault {
+        Fault::Text(fault) => Ok(Line::Made(text_fault_line(alloc, *fault)?)),
+        Fault::Program { fault, .. } => Ok(Line::Made(check_fault_line(alloc, *fault)?)),
+        Fault::Ring { fault, .. } => Ok(Line::Made(ring_fault_line(alloc, *fault)?)),
+        Fault::Place { place, .. } => Ok(Line::Made(place_fault_line(alloc, *place)?)),
+        Fault::Segments { .. } => Ok(Line::Fixed("segments fault E1\n")),
+        Fault::TableText(fault) => Ok(Line::Made(table_fault_line(alloc, *fault)?)),
+        Fault::Formula { fault, .. } => Ok(Line::Fixed(formula_fault_line(*fault))),
+        Fault::Refutation(fault) => refutation_fault_line(alloc, *fault),
+    }
+}
+
+// Returns the lines of an answer.
+pub(crate) fn text_of(alloc: Global, answer: &Answer) -> Result<String, OutOfMemory>
+    ensures { IfOk result (λ text. string_bytes text ≡ bytes_of (answer_of answer.now)) }
+{
+    match answer {
+        Answer::Accepted {
+            ids,
+            rounds,
+            channels,
+            bound,
+            windows,
+        } => Ok(accepted_line(alloc, *ids, *rounds, *channels, *bound, *windows)?),
+        Answer::Program(program) => program_text(alloc, program),
+        Answer::Yes { tuples, .. } => Ok(good_line(alloc, *tuples)?),
+        Answer::No(separation, witness) => Ok(no_line(alloc, *separation, witness)?),
+        Answer::Solved { tuples, .. } => Ok(good_line(alloc, *tuples)?),
+        Answer::Broken { witness, .. } => Ok(broken_line(alloc, witness)?),
+        Answer::Channels(channels) => numbers_line(alloc, channels),
+        Answer::Trace(trace) => trace_text(alloc, trace.base, &trace.plan, &trace.ring),
+        Answer::Tree(tree) => {
+            explanation_text(alloc, tree.base, &tree.plan, &tree.ring, tree.place)
+        }
+        Answer::Places(ring, channels) => places_text(alloc, ring, channels),
+        Answer::Refuted(numbers) => Ok(refuted_line(alloc, numbers)?),
+    }
+}
+
+// Returns the printed form of a program.
+fn program_text(alloc: Global, program: &Program) -> Result<String, OutOfMemory>
+    ensures { IfOk result (λ text. string_bytes text ≡ printed program.now) }
+{
+    match print(alloc, program) {
+        Ok(text) => Ok(text),
+        Err(_) => Err(OutOfMemory),
+    }
+}
+
+// Returns the line of an accepted program.
+fn accepted_line(
+    alloc: Global,
+    ids: u32,
+    rounds: u32,
+    channels: u32,
+    bound: u32,
+    windows: u32,
+) -> Result<String, AllocError>
+    ensures { IfOk result (λ text. string_bytes text ≡ report.accepted_line ids rounds channels bound windows) }
+{
     format!(in alloc;
         "accepted ids {ids} rounds {rounds} channels {channels} bound {bound} windows {windows}\n"
     )
 }
 
 // Returns the line of a table whose channels are far enough apart everywhere.
-pub(crate) fn good_line(alloc: Global, tuples: u64) -> Result<String, AllocError>
+fn good_line(alloc: Global, tuples: u64) -> Result<String, AllocError>
     ensures { IfOk result (λ text. string_bytes text ≡ report.good_line tuples) }
 {
     format!(in alloc; "yes: {tuples} tuples\n")
 }
 
 // Returns the line of a no.
-pub(crate) fn no_line(
-    alloc: Global,
-    separation: Separation,
-    witness: &Witness,
-) -> Result<String, AllocError>
+fn no_line(alloc: Global, separation: Separation, witness: &Witness) -> Result<String, AllocError>
     ensures { IfOk result (λ text. string_bytes text
         ≡ report.no_line separation witness.now.ring.items witness.now.places witness.now.channels) }
 {
@@ -175,7 +228,7 @@ fn write_no(text: &mut String, separation: Separation, witness: &Witness) -> Res
 }
 
 // Returns the line of a ring on which a pattern matches.
-pub(crate) fn broken_line(alloc: Global, witness: &PatternWitness) -> Result<String, AllocError>
+fn broken_line(alloc: Global, witness: &PatternWitness) -> Result<String, AllocError>
     ensures { IfOk result (λ text. string_bytes text
         ≡ report.broken_line witness.now.ring.items witness.now.place witness.now.channels witness.now.pattern) }
 {
@@ -209,9 +262,31 @@ fn places_from(ring: &[u32], place: u32) -> [u32; 3]
     ]
 }
 
-/// Writes the line of a place, with its identifier and its channel.
+// Returns the lines of a ring's places with these channels.
+fn places_text(alloc: Global, ring: &Ring, channels: &[u32]) -> Result<String, OutOfMemory>
+    ensures { IfOk result (λ text. string_bytes text ≡ report.lines_of_places ring.now.places (slice_index channels.now)) }
+{
+    let mut text = String::new(alloc);
+    for place in 0..ring.len() {
+        let channel = number_at(channels, place);
+        write_place(&mut text, place, ring.id(place), channel)?;
+    }
+    Ok(text)
+}
+
+// Returns the number at a place, or 0 if there is none.
+fn number_at(numbers: &[u32], place: u32) -> u32
+    ensures { result ≡ slice_index numbers.now place }
+{
+    match numbers.get(place as usize) {
+        Some(number) => *number,
+        None => 0,
+    }
+}
+
+// Writes the line of a place, with its identifier and its channel.
 #[tactic(auto, using(crate::proofs::Aligned::aligned))]
-pub fn write_place(text: &mut String, place: u32, id: u32, channel: u32) -> Result<(), OutOfMemory>
+fn write_place(text: &mut String, place: u32, id: u32, channel: u32) -> Result<(), OutOfMemory>
     ensures { OnOk result (string_bytes text.new ≡ string_bytes text.old ++ report.place_line place id channel) }
 {
     write!(text, "{place:>4} {id:>4} {channel:>4}\n")?;

@@ -1,13 +1,12 @@
 //! The channels of a ring's places, looked up in a table.
 
-ghost use Rattle.std.specs.Prelude.{◌≡◌, ◌<◌, length, IfOk, Some, string_bytes};
+ghost use Rattle.std.specs.Prelude.{◌≡◌, ◌<◌, length, IfOk, Some};
 ghost use Rattle.channel_tables.specs.Tables.{channel_of};
 ghost use Rattle.reports.specs.Laws as law;
-ghost use Rattle.reports.specs.Report.{AreTableLines};
+ghost use Rattle.reports.specs.Report.{AreTableChannels};
 ghost use Rattle.win_index.specs.Arcs.{window_around};
 ghost use Rattle.win_index.specs.Ring.{IsRing};
 
-use crate::lines::write_place;
 use channel_tables::Table;
 use node_program::OutOfMemory;
 use std::alloc::Global;
@@ -21,26 +20,25 @@ pub fn tables_have_channels()
     windows_have_numbers();
 }
 
-/// A table has one list of lines on a ring: those with the channels that the table has there.
-pub fn one_list_of_lines()
-    ensures { law.OneListOfLines }
+/// A table has one list of channels on a ring: those that the table has there.
+pub fn one_list_of_channels()
+    ensures { law.OneListOfChannels }
 {}
 
-/// Returns the lines of a ring's places, from place 0 on, by a table of the ring's shape. Fails if
+/// Returns the channels of a ring's places, from place 0 on, by a table of the ring's shape. Fails if
 /// memory was refused.
-pub fn table_lines(alloc: Global, table: &Table, ring: &Ring) -> Result<String, OutOfMemory>
+pub fn table_channels(alloc: Global, table: &Table, ring: &Ring) -> Result<Vec<u32>, OutOfMemory>
     requires ids { ring.now.ids ≡ table.now.ids }
     requires rounds { ring.now.rounds ≡ table.now.rounds }
-    ensures lines { IfOk result (λ text. AreTableLines table.now ring.now.places (string_bytes text)) }
+    ensures channels { IfOk result (λ channels. AreTableChannels table.now ring.now.places channels.items) }
     ensures valid { IsRing ring.now.ids ring.now.rounds ring.now.places }
 {
     tables_have_channels();
-    let mut text = String::new(alloc);
+    let mut channels = Vec::new(alloc);
     for place in 0..ring.len() {
-        let channel = channel_of_place(table, ring, place);
-        write_place(&mut text, place, ring.id(place), channel)?;
+        channels.push(channel_of_place(table, ring, place))?;
     }
-    Ok(text)
+    Ok(channels)
 }
 
 // Returns the table's channel at the window around a place.

@@ -5,12 +5,12 @@ use ring_problems::Demand;
 
 /// The numbers of identifiers and rounds, the maximum number of channels, and what is asked of the
 /// channels of a table.
-#[derive(Clone, Copy)]
-pub struct ProblemNumbers<'a> {
+#[derive(Drop)]
+pub struct ProblemNumbers {
     pub ids: u32,
     pub rounds: u32,
     pub channels: u32,
-    pub demand: &'a Demand,
+    pub demand: Demand,
 }
 
 /// Why there is no formula of these numbers.

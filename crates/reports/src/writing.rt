@@ -1,15 +1,16 @@
-//! Writing a report.
+//! Writing a finding.
 
-ghost use Rattle.std.specs.Prelude.{◌≡◌, ℕ, Bool, false, List, Option, IfOk};
+ghost use Rattle.std.specs.Prelude.{◌≡◌, ℕ, false, List, Option, Bool, IfErr};
 ghost use Rattle.devices.specs.Output.{WritesText};
 ghost use Rattle.devices.specs.Watched.{device_of, has_failed};
-ghost use Rattle.reports.specs.Answers.{report_in};
-ghost use Rattle.reports.specs.Causes.{reason_in};
-ghost use Rattle.reports.specs.Written.{WritesBytes};
+ghost use Rattle.table_text.specs.TableText.{table_text};
+ghost use Rattle.reports.specs.Bytes.{bytes_of, fault_line};
+ghost use Rattle.reports.specs.Findings.{answer_of, fault_of, value_of, refused};
+ghost use Rattle.reports.specs.Written.{MayLackMemory, WritesBytes};
 
-use crate::answer::{Answer, TableReport};
-use crate::cause::Cause;
-use crate::status::Status;
+use crate::fault::Fault;
+use crate::finding::{Answer, Finding, TableReport};
+use crate::lines::{line_of, text_of};
 use devices::fault::{EngineFault, OutFault};
 use devices::output::send;
 use devices::watched::Watched;
@@ -19,49 +20,76 @@ use std::thread::Threads;
 use table_formula::write_formula;
 use table_text::write_table_with_workers;
 
-/// Writes a report. Returns its status, and its cause if it has one.
+/// Writes the bytes of a finding.
 ///
-/// Fails with `Write` exactly if a write failed or took no byte, and a prefix of the report was
-/// written then; with `Memory` if memory was refused, and nothing was written then.
-pub fn write_answer<R: Threads + Sync, W: Write>(
+/// Fails with `Write` exactly if a write failed or took no byte, and a prefix of them was written then;
+/// with `Memory` if memory was refused, and nothing was written then. The refusals of a number of segments, of the
+/// numbers of a formula and of a refutation that is too long need no memory.
+pub fn write_finding<R: Threads + Sync, W: Write>(
     rt: &R,
     alloc: Global,
-    answer: Answer,
+    finding: &Finding,
     writer: &mut Watched<W>,
-) -> Result<(Status, Option<Cause>), EngineFault>
+) -> Result<(), EngineFault>
     requires { has_failed writer.old ≡ false }
-    ensures writes { WritesBytes (report_in answer).bytes (W.contents (device_of writer.old)) (W.contents (device_of writer.new)) (has_failed writer.new) result }
-    ensures told { IfOk result (λ told. (told.0 ≡ (report_in answer).status) × (reason_in told.1 ≡ (report_in answer).cause)) }
+    ensures writes { WritesBytes (bytes_of (value_of finding.now)) (W.contents (device_of writer.old)) (W.contents (device_of writer.new)) (has_failed writer.new) result }
+    ensures memory { IfErr result (MayLackMemory (value_of finding.now)) }
 {
-    match answer {
-        Answer::Text(text, status) => {
-            send(writer, text.as_bytes())?;
-            Ok((status, None))
-        }
-        Answer::WithCause(text, status, cause) => {
-            send(writer, text.as_bytes())?;
-            Ok((status, Some(cause)))
-        }
-        Answer::Fixed(text, status, cause) => {
-            send(writer, text.as_bytes())?;
-            Ok((status, Some(cause)))
-        }
-        Answer::Table(
-            TableReport {
-                table,
-                separation,
-                workers,
-            },
-        ) => {
-            let written = write_table_with_workers(rt, alloc, &table, separation, workers, writer);
-            result_of(written)?;
-            Ok((Status::Done, None))
-        }
-        Answer::Formula(formula) => {
-            result_of(write_formula(alloc, &formula, writer))?;
-            Ok((Status::Done, None))
-        }
+    match finding {
+        Finding::Answer(answer) => write_answer(alloc, answer, writer),
+        Finding::Table(report) => result_of(write_report(rt, alloc, report, writer)),
+        Finding::Formula(formula) => result_of(write_formula(alloc, formula, writer)),
+        Finding::Refused(fault) => write_fault(alloc, fault, writer),
     }
+}
+
+// Writes the text of a table.
+fn write_report<R: Threads + Sync, W: Write>(
+    rt: &R,
+    alloc: Global,
+    report: &TableReport,
+    writer: &mut Watched<W>,
+) -> Result<(), OutFault>
+    requires { has_failed writer.old ≡ false }
+    ensures { WritesText (table_text report.now.table report.now.separation) (W.contents (device_of writer.old)) (W.contents (device_of writer.new)) (has_failed writer.new) result }
+{
+    write_table_with_workers(
+        rt,
+        alloc,
+        &report.table,
+        report.separation,
+        report.workers,
+        writer,
+    )
+}
+
+// Writes the lines of an answer.
+fn write_answer<W: Write>(
+    alloc: Global,
+    answer: &Answer,
+    writer: &mut Watched<W>,
+) -> Result<(), EngineFault>
+    requires { has_failed writer.old ≡ false }
+    ensures { WritesBytes (bytes_of (answer_of answer.now)) (W.contents (device_of writer.old)) (W.contents (device_of writer.new)) (has_failed writer.new) result }
+{
+    let text = text_of(alloc, answer)?;
+    send(writer, text.as_bytes())?;
+    Ok(())
+}
+
+// Writes the line of a refusal.
+fn write_fault<W: Write>(
+    alloc: Global,
+    fault: &Fault,
+    writer: &mut Watched<W>,
+) -> Result<(), EngineFault>
+    requires { has_failed writer.old ≡ false }
+    ensures writes { WritesBytes (fault_line (fault_of fault.now)) (W.contents (device_of writer.old)) (W.contents (device_of writer.new)) (has_failed writer.new) result }
+    ensures memory { IfErr result (MayLackMemory (refused (fault_of fault.now))) }
+{
+    let line = line_of(alloc, fault)?;
+    send(writer, line.as_bytes())?;
+    Ok(())
 }
 
 // Returns the result of writing a text, as that of a report.

@@ -8,7 +8,7 @@ returns-clause-one c =
     c.one_ring_fault.ensures.one c.one_ring_fault.ensures.none c.one_witness.ensures.one c.one_witness.ensures.none
     c.one_witness-2.ensures.one c.one_witness-2.ensures.none
     c.one_table_fault.ensures.one c.table_texts_are_apart.ensures c.table_texts_are_read.ensures
-    c.one_list_of_lines.ensures
+    c.one_list_of_channels.ensures
     c.one_refutation_verdict.ensures.one c.one_refutation_verdict.ensures.right
 
 pub returns-clause-workers : goal.returns-clause-workers

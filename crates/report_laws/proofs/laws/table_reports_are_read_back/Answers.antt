@@ -18,4 +18,4 @@ returns-clause-solves c =
 pub returns-clause-apply : goal.returns-clause-apply
 returns-clause-apply c =
     apply c.table_texts_are_apart.ensures c.table_texts_are_read.ensures c.program_tables_are_tables.ensures
-    c.table_has_the_channels_of_rounds.ensures c.one_list_of_lines.ensures
+    c.table_has_the_channels_of_rounds.ensures c.one_list_of_channels.ensures

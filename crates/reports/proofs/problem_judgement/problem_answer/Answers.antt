@@ -1,8 +1,12 @@
-use Rattle.std.proofs.Common.{sym}
-use Rattle.std.proofs.lemmas.Result.{IfOk-weaker}
+use Rattle.std.proofs.Common.{ap, ◌∙◌}
+use Rattle.reports.specs.Report.{broken, broken_of, solved}
 use Rattle.reports.proofs.problem_judgement.problem_answer.Goals as goal
 
 pub returns-in-No : goal.returns-in-No
 returns-in-No c =
-    let witness = rw c.in-No.is at c.requires in
-    IfOk-weaker c.broken_answer.result _ _ (λ r answer. answer c.args.table.now witness (sym c.channels.ensures.value)) c.broken_answer.ensures
+    let w = c.in-No.witness in
+    broken w.ring.items w.place w.channels w.pattern (rw c.in-No.is at c.requires)
+    (c.broken_answer.ensures ∙ ap (λ count. broken_of c.args.problem.now count w.ring.items w.place w.channels w.pattern) c.channels.ensures.value)
+
+pub returns-in-Yes : goal.returns-in-Yes
+returns-in-Yes c = solved (rw c.in-Yes.is at c.requires) c.solved_answer.ensures

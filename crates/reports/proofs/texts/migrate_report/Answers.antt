@@ -1,9 +1,15 @@
 use Rattle.std.proofs.Common.{refl, rules}
 use Rattle.table_text.specs.Texts.{IsTextOf}
-use Rattle.reports.specs.Report.{of_table}
+use Rattle.reports.specs.Findings.{fault_of}
+use Rattle.reports.specs.Report.{IsTableRefusal, answered, told as refuses}
 use Rattle.reports.proofs.texts.migrate_report.Goals as goal
 
 pub returns-in-Ok : goal.returns-in-Ok
 returns-in-Ok c =
     let told : IsTextOf c.args.input.now c.in-Ok.table c.in-Ok.separation = search rules in
-    of_table c.in-Ok.table c.in-Ok.separation told (refl, refl, refl)
+    answered (c.in-Ok.table, c.in-Ok.separation, told, refl)
+
+pub returns-in-Err : goal.returns-in-Err
+returns-in-Err c =
+    let none : IsTableRefusal c.args.input.now (fault_of c.in-Err.fault) = search rules in
+    refuses (fault_of c.in-Err.fault) none refl

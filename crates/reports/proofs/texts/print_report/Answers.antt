@@ -1,10 +1,10 @@
-use Rattle.std.proofs.Common.{rules}
-use Rattle.std.proofs.lemmas.Result.{IfOk-weaker}
-use Rattle.node_lang.specs.Grammar.{Reads}
-use Rattle.reports.specs.Report.{in_print}
+use Rattle.std.proofs.Common.{refl}
+use Rattle.reports.specs.Findings.{fault_of}
+use Rattle.reports.specs.Report.{told, answered}
 use Rattle.reports.proofs.texts.print_report.Goals as goal
 
 pub returns-in-Ok : goal.returns-in-Ok
-returns-in-Ok c =
-    let reads : Reads c.args.input.now c.in-Ok.program = search rules in
-    IfOk-weaker c.print_answer.result _ _ (λ r said. in_print c.in-Ok.program reads said) c.print_answer.ensures
+returns-in-Ok c = answered (c.in-Ok.program, rw c.in-Ok.is at c.in_ok-program.ensures, refl)
+
+pub returns-in-Err : goal.returns-in-Err
+returns-in-Err c = told (fault_of c.in-Err.fault) (rw c.in-Err.is at c.in_ok-program.ensures) refl

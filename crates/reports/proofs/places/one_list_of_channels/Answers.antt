@@ -1,5 +1,5 @@
 use Rattle.reports.proofs.TableLines.{one_list}
-use Rattle.reports.proofs.places.one_list_of_lines.Goals as goal
+use Rattle.reports.proofs.places.one_list_of_channels.Goals as goal
 
 pub returns : goal.returns
 returns c = one_list

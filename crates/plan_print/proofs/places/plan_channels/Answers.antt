@@ -7,7 +7,7 @@ use Rattle.table_fill.specs.Laws.{TableHasTheChannelsOfRounds}
 use Rattle.table_fill.specs.ProgramTables.{table_of}
 use Rattle.win_index.specs.Ring.{IsRing}
 use Rattle.reports.specs.Report.{HasChannels}
-use Rattle.plan_print.proofs.places.places_text.Goals as goal
+use Rattle.plan_print.proofs.places.plan_channels.Goals as goal
 
 -- the table of a program has the identifiers that it was made for, and the rounds of the program
 ids_of : (p : ProgramTree) (m : ℕ) (t : ChannelTable) → t ≡ table_of p m → t.ids ≡ m
@@ -24,12 +24,12 @@ channels_of_rounds : TableHasTheChannelsOfRounds → (p : ProgramTree) (m : ℕ)
 unfolding table_of
 channels_of_rounds has p m ring is = λ place within. has p m ring place is within
 
-pub table_lines-requires-clause-ids : goal.table_lines-requires-clause-ids
-table_lines-requires-clause-ids c =
+pub table_channels-requires-clause-ids : goal.table_channels-requires-clause-ids
+table_channels-requires-clause-ids c =
     c.requires.shape.ids ∙ sym (ids_of c.args.plan.now.program c.args.plan.now.ids c.args.table.now c.requires.table)
 
-pub table_lines-requires-clause-rounds : goal.table_lines-requires-clause-rounds
-table_lines-requires-clause-rounds c =
+pub table_channels-requires-clause-rounds : goal.table_channels-requires-clause-rounds
+table_channels-requires-clause-rounds c =
     c.requires.shape.rounds ∙ sym (rounds_of c.args.plan.now.program c.args.plan.now.ids c.args.table.now c.requires.table)
 
 pub returns : goal.returns
@@ -38,10 +38,10 @@ returns c =
     let m = c.args.plan.now.ids in
     let ring = c.args.ring.now.places in
     let valid : IsRing m (length p.steps) ring =
-    rw (c.requires.shape.ids, c.requires.shape.rounds) at c.table_lines.ensures.valid in
-    let channels =
+    rw (c.requires.shape.ids, c.requires.shape.rounds) at c.table_channels.ensures.valid in
+    let met =
     subst (λ t. HasChannels t ring (channel_at p ring)) (sym c.requires.table)
     (channels_of_rounds c.table_has_the_channels_of_rounds.ensures p m ring valid) in
-    IfOk-weaker c.table_lines.result _ _
-    (λ text lines. c.one_list_of_lines.ensures c.args.table.now ring _ (channel_at p ring) lines channels)
-    c.table_lines.ensures.lines
+    IfOk-weaker c.table_channels.result _ _
+    (λ channels are. c.one_list_of_channels.ensures c.args.table.now ring _ (channel_at p ring) are met)
+    c.table_channels.ensures.channels

@@ -1,19 +1,18 @@
-//! The cause of a report that is a refusal, a no, or a yes over no tuples or with a pattern
-//! that never matches.
+//! Why an input is refused.
+
+ghost use Rattle.std.specs.Prelude.{◌≡◌};
 
 use crate::problem::ProblemFault;
+use crate::status::Status;
 use lang_check::CheckFault;
-use nbhd_check::{PatternWitness, Witness};
 use node_lang::{Program, TextFault};
-use ring_problems::{IdlePattern, KnownProblem};
 use table_formula::RefuteError;
 use table_text::TableFault;
 use win_index::RingFault;
 
-/// The cause of a report that is a refusal, a no, or a yes over no tuples or with a pattern that never
-/// matches.
+/// Why an input is refused.
 #[derive(Drop)]
-pub enum Cause {
+pub enum Fault {
     /// The fault of a program text.
     Text(TextFault),
     /// The refusal of a program.
@@ -49,22 +48,22 @@ pub enum Cause {
     },
     /// The fault of a text that is no refutation.
     Refutation(RefuteError),
-    /// The ring, the places and their channels at which a table breaks a separation.
-    No(Witness),
-    /// A yes about no ring: there are fewer identifiers than a ring that is judged has nodes. This is
-    /// the least number of its nodes.
-    NoTuples {
-        nodes: usize,
-        ids: u32,
-    },
-    /// The ring, the places and their channels that a pattern matches.
-    Broken {
-        witness: PatternWitness,
-        /// The problem's name, if it has one.
-        known: Option<KnownProblem>,
-        /// A pattern that never matches, if there is one.
-        idle: Option<IdlePattern>,
-    },
-    /// A yes to a problem with a pattern that never matches.
-    Idle(IdlePattern),
+}
+
+impl Fault {
+    ghost use Rattle.std.specs.Prelude.{◌≡◌};
+    ghost use Rattle.reports.specs.Findings.{fault_of, fault_status};
+
+    /// Returns the status of the refusal.
+    pub fn status(&self) -> Status
+        ensures { result ≡ fault_status (fault_of self.now) }
+    {
+        match self {
+            Fault::Text(_) | Fault::Program { .. } | Fault::TableText(_) | Fault::Refutation(_) =>
+                Status::Refused,
+            Fault::Ring { .. } | Fault::Place { .. } => Status::RingRefused,
+            Fault::Segments { .. } => Status::Words,
+            Fault::Formula { .. } => Status::FormulaRefused,
+        }
+    }
 }
