@@ -27,7 +27,6 @@ use Rattle.numerals.specs.Numerals.{after_blanks, form_of, padded, radix, row, w
 use Rattle.numerals.specs.declared.base.Base.{Base}
 use Rattle.value_trees.specs.Laws.{ShowsTrace, ExplanationsShowTraces}
 use Rattle.value_trees.specs.Trace.{register_lines, round_lines, row_line, trace_lines}
-use Rattle.reports.proofs.Joined.{joined_after}
 use Rattle.reports.specs.Bytes.{bytes_of}
 use Rattle.reports.specs.Findings.{Fault, Finding, status_of}
 use Rattle.reports.specs.Findings as value
@@ -142,7 +141,7 @@ all_plain b ms (n ∷ ns) ten = ap₂ (λ a b. a ++ b) (plain b ms n ten) (all_p
 row_is_line : (b : Base) (ns : List ℕ) → radix b ≡ 10 → 0 < length ns → row b ns ≡ codes " " ++ line (numbers_text ns ∷ [])
 row_is_line b [] ten some = absurd (omega arith)
 row_is_line b (n ∷ ns) ten some =
-    ap (λ l. l ++ codes "\n") (all_plain b (n ∷ ns) (n ∷ ns) ten ∙ ap (λ l. 32 ∷ l) (joined_after decimal 32 n ns))
+    ap (λ l. l ++ codes "\n") (all_plain b (n ∷ ns) (n ∷ ns) ten)
 
 some_channels : (p : ProgramTree) (x : List ℕ) → 0 < length x → 0 < length (channels_of p x)
 some_channels p x some = omega (arith, length-map-range_with_len (channel_at p x) 0 (length x))

@@ -1,3 +1,2 @@
-pub mod Joined
 pub mod Aligned
 pub mod TableLines

@@ -1,7 +1,7 @@
 -- Lines of the report.
-use Rattle.std.specs.Prelude.{ℕ, List, [], ◌∷◌, ◌++◌, ◌-◌, map, length, replicate}
-use Rattle.std.specs.List.{join_with_byte}
+use Rattle.std.specs.Prelude.{ℕ, List, [], ◌∷◌, ◌++◌, ◌-◌, length, replicate, codes}
 use Rattle.std.specs.Fmt.{decimal}
+use Rattle.source_places.specs.Lists.{joined}
 
 -- pieces of text, one after another, and a line feed (byte 10)
 abbrev pub line : List (List ℕ) → List ℕ
@@ -10,7 +10,7 @@ line (piece ∷ pieces) = piece ++ line pieces
 
 -- numbers in decimal without leading zeros, separated by single blanks (byte 32)
 abbrev pub numbers_text : List ℕ → List ℕ
-numbers_text numbers = join_with_byte 32 (map decimal numbers)
+numbers_text = joined (codes " ")
 
 -- a number in decimal, after blanks that extend it to 4 places
 abbrev pub right_aligned : ℕ → List ℕ

@@ -16,30 +16,19 @@ use lang_check::CheckFault;
 use nbhd_check::{PatternWitness, Separation, Witness};
 use node_lang::{FaultKind, Program, TextFault, print};
 use node_program::OutOfMemory;
+use source_places::write_joined;
 use std::alloc::{AllocError, Global};
 use std::fmt::Write;
 use table_text::TableFault;
 use value_trees::{explanation_text, trace_text};
 use win_index::{Ring, RingFault};
 
-// Writes numbers in decimal, separated by single blanks.
-fn write_numbers(text: &mut String, numbers: &[u32]) -> Result<(), AllocError>
-    ensures { OnOk result (string_bytes text.new ≡ string_bytes text.old ++ numbers_text numbers.now) }
-{
-    let mut separator = "";
-    for number in numbers {
-        write!(text, "{separator}{number}")?;
-        separator = " ";
-    }
-    Ok(())
-}
-
 // Returns a line of numbers in decimal, separated by single blanks and followed by a line feed.
 fn numbers_line(alloc: Global, numbers: &[u32]) -> Result<String, OutOfMemory>
     ensures { IfOk result (λ text. string_bytes text ≡ line (numbers_text numbers.now ∷ [])) }
 {
     let mut text = String::new(alloc);
-    write_numbers(&mut text, numbers)?;
+    write_joined(&mut text, numbers, " ")?;
     text.push_str("\n")?;
     Ok(text)
 }
@@ -214,7 +203,7 @@ fn write_no(text: &mut String, separation: Separation, witness: &Witness) -> Res
         ++ report.no_line separation witness.now.ring.items witness.now.places witness.now.channels) }
 {
     text.push_str("no: ring ")?;
-    write_numbers(text, &witness.ring)?;
+    write_joined(text, &witness.ring, " ")?;
     let (place, other_place) = witness.places;
     let (channel, other_channel) = witness.channels;
     if separation.near == 1 && separation.far == 0 {
@@ -238,11 +227,11 @@ fn broken_line(alloc: Global, witness: &PatternWitness) -> Result<String, AllocE
     let channels = [first, second, third];
     let mut text = String::new(alloc);
     text.push_str("no: ring ")?;
-    write_numbers(&mut text, &witness.ring)?;
+    write_joined(&mut text, &witness.ring, " ")?;
     text.push_str(" places ")?;
-    write_numbers(&mut text, &places[..count])?;
+    write_joined(&mut text, &places[..count], " ")?;
     text.push_str(" channels ")?;
-    write_numbers(&mut text, &channels[..count])?;
+    write_joined(&mut text, &channels[..count], " ")?;
     text.push_str("\n")?;
     Ok(text)
 }

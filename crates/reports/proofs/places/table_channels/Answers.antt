@@ -1,4 +1,4 @@
-use Rattle.std.proofs.Common.{◌≡◌, [], ◌∷◌, ◌++◌, length, map, sym, ap, ◌∙◌, arith}
+use Rattle.std.proofs.Common.{◌≡◌, ℕ, List, [], ◌∷◌, ◌++◌, length, map, sym, ap, ◌∙◌, arith}
 use Rattle.std.specs.List.{range_with_len}
 use Rattle.std.proofs.lemmas.List.FromFn.{map-range_with_len_more}
 use Rattle.reports.proofs.TableLines.{channel_there, has_there, or_zero, same_shape}
@@ -21,6 +21,7 @@ returns-clause-channels c =
 pub loop-place-preserved : goal.loop-place-preserved
 loop-place-preserved c =
     let n = c.loop-place.place in
-    c.in_ok-push.ensures.items
-    ∙ (λ i. c.loop-place.invariant i ++ or_zero (sym c.channel_of_place.ensures i) ∷ [])
-    ∙ sym (map-range_with_len_more (channel_there c.args.table.now c.args.ring.now.places) 0 n n (omega arith))
+    let channel = channel_there c.args.table.now c.args.ring.now.places in
+    ◌∙◌ {A = List ℕ} c.in_ok-push.ensures.items
+    (◌∙◌ {A = List ℕ} (λ i. c.loop-place.invariant i ++ or_zero (sym c.channel_of_place.ensures i) ∷ [])
+    (sym (map-range_with_len_more channel 0 n n (omega arith))))
