@@ -230,6 +230,8 @@ def attempts(demand, ids):
     for count in range(1, ids + 1):
         sizes = sizes_of(ids, count)
         clauses = count_lists(sizes, length + 1) * of_two + count_lists(sizes, length + 2) * (len(thirds) - of_two)
+        if clauses > MOST_CLAUSES * count:
+            return
         yield from ((sizes, turn) for turn in range(count, 0, -1) if count % turn == 0 and clauses <= MOST_CLAUSES * turn)
 
 
