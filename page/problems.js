@@ -58,7 +58,7 @@ const KNOWN = [
   ["0,0 1,1 2,2 0,2,0 1,2,1 2,1,2", "2", "4", "6", "all 12"],
   ["0,0 1,1 2,2", "3", "6", "all 23", "all 12"],
   ["0,0,0 1,1,1", "2", "6", "all 23", "all 12"],
-  ["0,0,0 1,1,1 2,2,2", "3", "16 ..", "all 23", "all 12"],
+  ["0,0,0 1,1,1 2,2,2", "3", "48 ..", "all 23", "all 12"],
 ];
 
 // The patterns, the rounds and the most identifiers of examples that solve a problem.
