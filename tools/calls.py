@@ -12,6 +12,8 @@ from typing import NamedTuple
 import patterns
 
 NBHD = os.environ.get("NBHD") or str(Path(__file__).resolve().parent.parent / "nbhd")
+# The most bytes of a program text.
+MOST_BYTES = 65536
 # What a refusal's note begins with where the cause has a place in the text.
 PLACE = re.compile(r"line (\d+), column (\d+): (.*)")
 # The exit statuses, and how the first line of the report of a command begins, or that of a refusal.
