@@ -527,8 +527,8 @@ def small_texts():
 
 
 def kept():
-    """The refutations and the tables of examples/least, by the names of their files."""
-    for path in sorted(FOLDER.glob("*")):
+    """The refutations and the tables of examples/least, by the names of their files. The tables of rules are judged by docs/LEAST.md."""
+    for path in sorted(path for path in FOLDER.iterdir() if path.suffix != ".rule"):
         problem = Separated(*(int(re.search(rf"{name}(\d+)", path.name)[1]) for name in Separated._fields))
         if ".lrat" in path.suffixes:
             text = lzma.decompress(path.read_bytes()) if path.suffix == ".xz" else path.read_bytes()
