@@ -42,11 +42,12 @@ export function badge(channel, x, y, radius, name = String(channel)) {
 /** The height of a badge's number with so many digits, in radii. */
 export const heightOf = (digits) => (digits < 2 ? 1.25 : digits < 3 ? 1.1 : digits < 4 ? 0.8 : digits < 5 ? 0.62 : 3 / digits);
 
+/** The side of a badge's image on a large page: its number is 20.5 pixels high. */
+export const largeBadge = (digits) => `${61.5 / heightOf(digits)}px`;
+
 /** The badge of a channel as a separate image, for running text and lists. */
 export function badgeImage(channel, name = String(channel)) {
-  // On a large page the number is 20.5 pixels high.
-  const side = document.body.classList.contains("large") ? `${61.5 / heightOf(name.length)}px` : "";
-  const style = { width: side, height: side };
+  const style = { "--badge": largeBadge(name.length) };
   const image = svg("svg", { class: "badge-image", viewBox: "-15 -15 30 30", role: "img", "aria-label": `channel ${channel}`, style });
   image.append(badge(channel, 0, 0, 10, name));
   return image;

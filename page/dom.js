@@ -16,11 +16,18 @@ export function html(name, attributes = {}, ...children) {
 function fill(element, attributes, text) {
   for (const [name, value] of Object.entries(attributes)) {
     if (name.startsWith("on")) element.addEventListener(name.slice(2), value);
-    else if (name === "style") Object.assign(element.style, value);
+    else if (name === "style") setStyle(element.style, value);
     else if (value !== null && value !== undefined && value !== false) element.setAttribute(name, value);
   }
   if (text !== undefined) element.textContent = text;
   return element;
+}
+
+function setStyle(style, values) {
+  for (const [name, value] of Object.entries(values)) {
+    if (name.startsWith("--")) style.setProperty(name, value);
+    else style[name] = value;
+  }
 }
 
 /** A sentence with its parts in backquotes as code. */

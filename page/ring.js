@@ -98,7 +98,7 @@ export function drawNode(size, place, identifier, channel, label) {
 function radiusOfBadge(n, digits) {
   const usual = n <= 12 ? 11 : n <= 32 ? 8.5 : 7.5;
   const isLarge = document.body.classList.contains("large") && n <= 12;
-  return isLarge ? Math.min(Math.max(usual, 13.5 / heightOf(digits)), 24) : usual;
+  return isLarge ? Math.min(Math.max(usual, 14.8 / heightOf(digits)), 24) : usual;
 }
 
 /** Moves a node to `turn` on the circle, or to the point `at` of the drawing. */

@@ -4,7 +4,7 @@
 import { ask, drop } from "./ask.js";
 import { byId, coded, html } from "./dom.js";
 import { change, exampleOf, state } from "./state.js";
-import { badgeImage, colourOf } from "./channels.js";
+import { badgeImage, colourOf, largeBadge } from "./channels.js";
 import { startPasted, updatePasted } from "./pasted.js";
 import { countChannels, leastBytes, readTable } from "./table.js";
 import { PROGRAM_REFUSED, readRefusal } from "./faults.js";
@@ -85,8 +85,10 @@ function showWindows() {
   byId("table-say").textContent = wanted.length
     ? `${count.toLocaleString("en")} of ${all} windows ${count === 1 ? "begins" : "begin"} with ${wanted.join(" ")}${shown}.`
     : `${all} windows${shown}. The middle identifier is the node itself.`;
-  const width = 8.2 * Math.max(...found.map((i) => table.windows[i].length), 5) + 40;
-  byId("windows").replaceChildren(html("ul", { style: { columnWidth: `${width}px` } }, found.map((i) => {
+  const most = (texts) => Math.max(...texts.map((text) => String(text).length));
+  const letters = most(["0 1 2", ...found.map((i) => table.windows[i])]);
+  const style = { "--letters": letters, "--badge": largeBadge(most([0, ...found.map((i) => table.channels[i])])) };
+  byId("windows").replaceChildren(html("ul", { style }, found.map((i) => {
     const identifiers = table.windows[i].split(" ");
     const middle = (identifiers.length - 1) / 2;
     const parts = identifiers.flatMap((identifier, j) => [j === middle ? html("b", {}, identifier) : identifier, " "]);

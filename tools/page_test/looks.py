@@ -49,10 +49,60 @@ LOOKS = {
     "fault": {"view": "run", "ids": "8", "ring": RING, "text": CV1.replace(", 1), bit", ", 1) bit")},
 }
 
+# What a class looks at, on a projector and on phones.
+TWELVE = "5,1,11,3,7,0,9,2,10,4,8,6"
+LESSON = {
+    f"{view} of {name}": {"view": view, "ids": ids, "ring": ring, **more}
+    for name, ids, ring, more in (
+        ("cv1", "8", RING, {"example": "cv1.txt"}),
+        ("ldb", "8", RING, {"example": "ldb.txt"}),
+        ("mis_7", "7", "1,2,3,4,5,6", {"example": "mis_7.txt", "problem": "mis"}),
+        ("cv1 on twelve", "12", TWELVE, {"example": "cv1.txt"}),
+    )
+    for view in ("run", "judge", "table")
+} | {
+    "graph of cv1": {"view": "graph", "ids": "6", "ring": RING, "example": "cv1.txt"},
+    "graph of ldb": {"view": "graph", "ids": "4", "ring": RING, "example": "ldb.txt"},
+    "own patterns": LOOKS["judge-own"],
+}
+# Items with a part that leaves them, and text fields in which less than a short ring can be read.
+LEFT = """[...document.querySelectorAll('.windows li, .histogram li, .close-edges li, .timeline li, .seen td, .player')].filter(item => {
+  const room = item.getBoundingClientRect();
+  const parts = [...item.querySelectorAll(':not(option)')].filter(part => part.checkVisibility());
+  return item.checkVisibility() && parts.some(part => {
+    const box = part.getBoundingClientRect();
+    return box.left < room.left - 1 || box.right > room.right + 1 || box.top < room.top - 1 || box.bottom > room.bottom + 1;
+  });
+}).map(item => item.textContent)"""
+NARROW = """[...document.querySelectorAll('input[type=text], textarea')].filter(e => e.checkVisibility() && e.clientWidth < 120).map(e => e.id)"""
+# What is to be in the window where the page is large, and what is not: the text, or else the class of each.
+DRAWN = "#run :is(.node, .player, .say), #witness :is(.node, .window, circle), #reading *, #drawing .point"
+OUTSIDE = f"""[...document.querySelectorAll('{DRAWN}')].filter(e => e.checkVisibility()).filter(e => {{
+  const box = e.getBoundingClientRect();
+  return box.left < 0 || box.top < 0 || box.right > innerWidth || box.bottom > innerHeight;
+}}).map(e => e.textContent || e.getAttribute('class'))"""
 
-def show(page, name):
+
+def lesson(page):
+    """On a projector with large numbers, and on a phone: all that a class is to see is in the window, and nothing leaves its item."""
+    for width, height in ((1280, 800), (1366, 768), (1920, 1080), (390, 844)):
+        page.browser.size(width, height)
+        large = {"large": "1"} if width > 390 else {}
+        for name, state in LESSON.items():
+            show(page, {**state, **large})
+            label = f"{name} at {width}"
+            STEPS.check(f"{label}: it fits the width", page.value("document.documentElement.scrollWidth <= innerWidth"))
+            STEPS.equal(f"{label}: items with a part that leaves them", page.value(LEFT), [])
+            STEPS.equal(f"{label}: narrow fields", page.value(NARROW), [])
+            STEPS.equal(f"{label}: texts that overlap", page.value(OVERLAPS), [])
+            if large:
+                STEPS.equal(f"{label}: what is outside the window", page.value(OUTSIDE), [])
+    page.browser.size(1280, 900)
+
+
+def show(page, look):
     """Opens a look and waits until it is drawn."""
-    state = dict(LOOKS[name])
+    state = dict(look)
     step = state.pop("step", None)
     page.open(**state)
     page.browser.until("document.querySelector('.stage svg, .windows li')")
@@ -68,7 +118,7 @@ def looks(page, folder):
         for mode in ("light", "dark"):
             page.browser.size(width, 900, mode == "dark")
             for name in LOOKS:
-                show(page, name)
+                show(page, LOOKS[name])
                 label = f"{name} at {width}, {mode}"
                 STEPS.check(f"{label}: it fits the width", page.value("document.documentElement.scrollWidth <= innerWidth"))
                 STEPS.equal(f"{label}: texts that overlap", page.value(OVERLAPS), [])
@@ -80,7 +130,7 @@ def pictures(page):
     """Draws the screenshots of the documents."""
     page.browser.size(1200, 924, scale=0.75)
     for picture, name in (("page_run.png", "run-short"), ("page_judge.png", "judge-no")):
-        show(page, name)
+        show(page, LOOKS[name])
         page.browser.shot(ROOT / "docs/pictures" / picture)
 
 
