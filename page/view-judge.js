@@ -4,9 +4,8 @@ import { ask, drop } from "./ask.js";
 import { markPatterns, showChoice, startChoice } from "./choice.js";
 import { asked, classSentence, demandOf, patternsText } from "./demand.js";
 import { byId, coded, html } from "./dom.js";
+import { drawNo } from "./drawings.js";
 import { change, exampleOf, state } from "./state.js";
-import { lookOf } from "./look.js";
-import { drawRing, drawWindow, say } from "./ring.js";
 import { badgeImage } from "./channels.js";
 import { fewerChannels } from "./least.js";
 import { PROGRAM_REFUSED, readRefusal } from "./faults.js";
@@ -115,20 +114,17 @@ function showTuple(rounds, demand) {
 const notes = (sentences) => sentences.map((sentence) =>
   html("p", { class: "aside" }, coded(`${sentence[0].toUpperCase()}${sentence.slice(1)}.`)));
 
-/** What is wrong on the ring of a no: the sentence, and what stands in the middle of the ring. */
+/** What is wrong on the ring of a no. */
 function wrongOn({ ring, places, channels }, { wrong }, { patterns }) {
-  if (patterns) return [`On the ring ${ring.join(" ")} ${wrong}.`, [[channels.join(", "), "centre-big"], ["forbidden", "centre-small"]]];
+  if (patterns) return `On the ring ${ring.join(" ")} ${wrong}.`;
   const apart = (places[1] - places[0] + ring.length) % ring.length === 1 ? "are neighbours" : "are at distance two";
   const isEqual = channels[0] === channels[1];
   const have = isEqual ? `both have channel ${channels[0]}` : `have the channels ${channels[0]} and ${channels[1]}`;
-  return [`On the ring ${ring.join(" ")} the nodes ${ring[places[0]]} and ${ring[places[1]]} ${apart} and ${have}.`, isEqual
-    ? [[`${channels[0]} = ${channels[1]}`, "centre-big"]]
-    : [[channels.join(", "), "centre-big"], ["too close", "centre-small"]]];
+  return `On the ring ${ring.join(" ")} the nodes ${ring[places[0]]} and ${ring[places[1]]} ${apart} and ${have}.`;
 }
 
 function showNo(no, said, accepted, demand, all) {
-  const { ring, places } = no;
-  const [sentence, centre] = wrongOn(no, said, demand);
+  const sentence = wrongOn(no, said, demand);
   verdict.className = "verdict no";
   verdict.replaceChildren(
     html("p", { class: "word" }, "No"),
@@ -137,25 +133,9 @@ function showNo(no, said, accepted, demand, all) {
     ...fewer(accepted, demand),
   );
 
-  // On a ring of two nodes the third place is the first one.
-  const seen = [...new Set(places)];
-  const look = all && lookOf(demand, all, [{ place: places[0], span: places.length }]);
-  const drawing = drawRing({ ring, channels: all, look, digits: 0, margin: 17 * seen.length - 8, label: sentence });
-  seen.forEach((place, i) => {
-    drawing.nodes[place].classList.add("chosen");
-    const far = drawing.size.node + 16 + 17 * i;
-    drawing.layers.under.append(drawWindow(drawing.size, place, accepted.rounds, far, WINDOWS[i], `Window of ${ring[place]}`));
-  });
-  drawing.nodes.forEach((node, place) => node.classList.toggle("other", !places.includes(place)));
-  if (!demand.patterns) markLinks(drawing, ring, places);
-  say(drawing.layers.centre, centre);
+  const drawing = drawNo(no, all, accepted.rounds, demand, sentence);
   witness.replaceChildren(drawing.image);
-  showWindows(no, seen, accepted.rounds);
-}
-
-/** Makes the links from the one node to the other red, also where the channels are too close but not equal. */
-function markLinks({ layers }, ring, places) {
-  for (let place = places[0]; place !== places[1]; place = (place + 1) % ring.length) layers.links.children[place].classList.add("equal");
+  showWindows(no, drawing.seen, accepted.rounds);
 }
 
 /** The windows of the nodes at these places of a no. */

@@ -3,10 +3,10 @@
 import { ask, drop } from "./ask.js";
 import { demandOf, sentenceOn } from "./demand.js";
 import { byId, coded, html } from "./dom.js";
-import { lookOf } from "./look.js";
+import { centreOf, drawStep, sizesOf } from "./drawings.js";
 import { clamp, whyNoNumber } from "./numbers.js";
 import { change, state } from "./state.js";
-import { drawRing, drawWindow, hasRoomForNames, say } from "./ring.js";
+import { drawWindow, say } from "./ring.js";
 import { drawMessages, isDot } from "./messages.js";
 import { readRing, whyNoRing, withCommas } from "./ring-text.js";
 import { allowDragging, dragIn } from "./drag.js";
@@ -27,8 +27,7 @@ const refused = byId("run-refused");
 let steps = null; // of the ring that is shown, or `null` while it has no run
 let at = 0;
 let register = 0;
-let named = false; // whether the labels have the register's name
-let digits = [1, 1]; // the most digits of labels and of messages, so that all steps have the same size
+let sizes = { named: false, digits: 1, sentDigits: 1 }; // of the last run
 let drawing = null;
 let tabStop = 0; // the place of the node that is a tab stop
 let player = 0;
@@ -107,21 +106,10 @@ function show({ moving = false } = {}) {
     ...(channels ? coded(` ${sentenceOn(demand, channels, shown(ring), shown(channels))}`) : []));
   drawing = null;
   if (!ring) return stage.replaceChildren();
-  if (steps) {
-    const most = (lists) => Math.max(0, ...lists.flatMap(shown).map((text) => text.length));
-    const sent = steps.flatMap(({ left, right }) => (left ? [left, right] : []));
-    const held = most(steps.map(({ registers }) => registers[register]));
-    named = steps[0].registers.length === 1 && hasRoomForNames(ring.length, held);
-    digits = [named ? held + "r0=".length : held, most(sent)];
-  }
+  if (steps) sizes = sizesOf(ring, steps, register, shown);
   const focused = stage.contains(document.activeElement) ? document.activeElement.dataset.place : undefined;
-  drawing = drawRing({
-    ring, channels, look: channels && lookOf(demand, channels), digits: digits[0], sentDigits: digits[1],
-    labels: step && shown(step.registers[register])
-      .map((value) => ({ text: named ? `r0=${value}` : value, title: `r${register} = ${value}` })),
-    show: shown,
-    label: step ? `Ring of ${ring.length} nodes, ${nameOf(step)}` : `Ring of ${ring.length} nodes`,
-  });
+  const label = step ? `Ring of ${ring.length} nodes, ${nameOf(step)}` : `Ring of ${ring.length} nodes`;
+  drawing = drawStep(ring, step, sizes, { demand, register, show: shown, label });
   stage.replaceChildren(drawing.image);
   drawing.nodes.forEach((node, place) => describe(node, place, ring, step));
   if (step) showStep(step, moving);
@@ -133,11 +121,10 @@ function show({ moving = false } = {}) {
 }
 
 function showStep(step, moving) {
-  const inRound = step.kind === "send" || step.kind === "assign";
   if (step.kind === "send" && [step.left, step.right].flatMap(shown).some((text) => isDot(drawing.size, text))) {
     byId("run-say").append(" The values are in the table below.");
   }
-  say(drawing.layers.centre, inRound ? [[`round ${step.round}`, "centre-big"], [step.kind, "centre-small"]] : [[step.kind, "centre-big"]]);
+  say(drawing.layers.centre, centreOf(step));
   if (step.kind === "send" || (step.kind === "assign" && moving)) drawMessages(drawing, step, { moving, show: shown });
   if (step.kind === "assign") {
     drawing.nodes.forEach((node, place) => {
