@@ -30,6 +30,13 @@ function setStyle(style, values) {
   }
 }
 
+/** Saves a text as a file of this name. */
+export function download(name, text, type) {
+  const address = URL.createObjectURL(new Blob([text], { type }));
+  html("a", { href: address, download: name }).click();
+  setTimeout(() => URL.revokeObjectURL(address), 10000);
+}
+
 /** A sentence with its parts in backquotes as code. */
 export const coded = (sentence) => sentence.split("`").map((part, i) => (i % 2 ? html("code", {}, part) : part));
 

@@ -11,6 +11,7 @@ import { startRun, stopRun, updateRun } from "./view-run.js";
 import { startJudge, updateJudge } from "./view-judge.js";
 import { startTable, updateTable } from "./view-table.js";
 import { startGraph, updateGraph } from "./view-graph.js";
+import { startTaking } from "./take.js";
 
 const VIEWS = { run: updateRun, judge: updateJudge, table: updateTable, graph: updateGraph };
 // The views that a value of the state belongs to. The text and the number of identifiers belong to all views.
@@ -113,6 +114,7 @@ startRun();
 startJudge();
 startTable();
 startGraph();
+startTaking();
 const examples = await loadExamples();
 fillExamples(examples);
 followAddress(examples);

@@ -2,7 +2,8 @@
 // another table.
 
 import { ask, drop } from "./ask.js";
-import { byId, coded, html } from "./dom.js";
+import { byId, coded, download, html } from "./dom.js";
+import { drawHistogram } from "./histogram.js";
 import { change, exampleOf, state } from "./state.js";
 import { badgeImage, colourOf, largeBadge } from "./channels.js";
 import { startPasted, updatePasted } from "./pasted.js";
@@ -98,11 +99,12 @@ function showWindows() {
 
 const begins = (identifiers, wanted) => wanted.every((identifier, i) => identifiers[i] === identifier);
 
+/** The drawing of the channels' counts; nothing if there is no table. */
+export const histogram = () => table && drawHistogram(countChannels(table.channels).slice(0, BARS), table.windows.length);
+
 function save() {
   const name = (exampleOf(state.text)?.name ?? "program.txt").replace(/\.txt$/, "");
-  const address = URL.createObjectURL(new Blob([text], { type: "text/plain" }));
-  html("a", { href: address, download: `${name}-ids${state.ids}.table.txt` }).click();
-  setTimeout(() => URL.revokeObjectURL(address), 10000);
+  download(`${name}-ids${state.ids}.table.txt`, text, "text/plain");
 }
 
 export function startTable() {
