@@ -242,7 +242,7 @@ test("problems: what is known of fewer rounds", () => {
   assert.equal(said(mis, 13, 2), "No program of so few rounds does it: for 13 identifiers there is no table of 2 rounds.");
   assert.equal(said("0,0 1,1", 9, 4), "Fewer rounds? For 9 identifiers there is none of 3 rounds; more is not known.");
   const three = "0,0,0 1,1,1 2,2,2";
-  assert.equal(said(three, 20, 2), "Fewer rounds? For 20 identifiers there is a table of 2 rounds, and none without a round; more is not known.");
+  assert.equal(said(three, 20, 2), "Fewer rounds? For 20 identifiers there is a table of one round, and none without a round.");
   assert.equal(said("1,1", 8, 2), undefined);
   assert.equal(said("1,1 0,0,0", 12, 3), said(mis, 12, 3));
 });
