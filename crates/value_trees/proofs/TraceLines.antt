@@ -7,7 +7,8 @@ use Rattle.node_program.specs.Term.{ProgramTree}
 use Rattle.node_program.specs.Node.{channel}
 use Rattle.node_program.specs.GlobalRounds.{state, channel_at, channels_of}
 use Rattle.numerals.specs.Numerals.{row}
-use Rattle.value_trees.specs.Trace.{of_places, row_line, register_lines, message_lines, round_lines, later_lines}
+use Rattle.value_trees.specs.Rows.{of_places}
+use Rattle.value_trees.specs.Trace.{row_line, register_lines, message_lines, round_lines, later_lines}
 use Rattle.numerals.specs.declared.base.Base.{Base}
 
 -- one more line after the text so far

@@ -3,5 +3,6 @@
 pub mod Trees
 pub mod Parts
 pub mod Explanation
+pub mod Rows
 pub mod Trace
 pub mod Laws

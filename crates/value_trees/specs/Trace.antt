@@ -1,6 +1,6 @@
 -- The trace of a ring in a base: its identifiers, and the registers and the messages of its places in global rounds, round by
 -- round.
-use Rattle.std.specs.Prelude.{ℕ, ◌+◌, List, ◌++◌, map, length, slice_index, codes}
+use Rattle.std.specs.Prelude.{ℕ, ◌+◌, List, ◌++◌, length, slice_index, codes}
 use Rattle.std.specs.List.{flat_map, range_with_len}
 use Rattle.std.specs.Fmt.{decimal}
 use Rattle.node_program.specs.Term.{ProgramTree}
@@ -8,11 +8,8 @@ use Rattle.node_program.specs.Node.{to_left, to_right}
 use Rattle.node_program.specs.GlobalRounds.{state, channels_of}
 use Rattle.numerals.specs.Numerals.{row}
 use Rattle.value_trees.specs.Explanation.{phase}
+use Rattle.value_trees.specs.Rows.{of_places}
 use Rattle.numerals.specs.declared.base.Base.{Base}
-
--- a number for each place of the ring x, from place 0 on
-abbrev pub of_places : List ℕ → (ℕ → ℕ) → List ℕ
-of_places x number = map number (range_with_len 0 (length x))
 
 -- a line with a heading and these numbers
 abbrev pub row_line : Base → List ℕ → List ℕ → List ℕ

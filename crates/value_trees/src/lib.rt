@@ -9,4 +9,4 @@ mod tree;
 
 pub use explanation::explanation_text;
 pub use laws::{explanations_show_traces, roots_are_traced};
-pub use trace::trace_text;
+pub use trace::{RoundTrace, Trace, trace_of, trace_text};

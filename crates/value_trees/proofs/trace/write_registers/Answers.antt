@@ -2,7 +2,8 @@ use Rattle.std.proofs.Common.{ℕ, List, ◌++◌, slice_index, codes, string_by
 use Rattle.std.specs.Fmt.{decimal}
 use Rattle.node_program.specs.GlobalRounds.{state}
 use Rattle.value_trees.specs.Explanation.{phase}
-use Rattle.value_trees.specs.Trace.{of_places, row_line}
+use Rattle.value_trees.specs.Rows.{of_places}
+use Rattle.value_trees.specs.Trace.{row_line}
 use Rattle.value_trees.proofs.TraceLines.{lines_more, three_written}
 use Rattle.value_trees.proofs.trace.write_registers.Goals as goal
 

@@ -3,7 +3,8 @@ use Rattle.std.specs.List.{flat_map, range_with_len}
 use Rattle.std.specs.Fmt.{decimal}
 use Rattle.node_program.specs.GlobalRounds.{state}
 use Rattle.value_trees.specs.Explanation.{phase}
-use Rattle.value_trees.specs.Trace.{of_places, row_line}
+use Rattle.value_trees.specs.Rows.{of_places}
+use Rattle.value_trees.specs.Trace.{row_line}
 use Rattle.value_trees.proofs.trace.write_registers.Given as goal
 
 -- the lines of the registers so far are in the text

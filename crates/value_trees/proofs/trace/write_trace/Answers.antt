@@ -3,7 +3,8 @@ use Rattle.std.proofs.lemmas.Result.{on_ok_weaker}
 use Rattle.round_eval.specs.Configuration.{RingConfiguration, reading}
 use Rattle.round_eval.specs.declared.configuration.Reading.TheVariants.{Channel}
 use Rattle.numerals.specs.Numerals.{row}
-use Rattle.value_trees.specs.Trace.{of_places, register_lines, message_lines}
+use Rattle.value_trees.specs.Rows.{of_places}
+use Rattle.value_trees.specs.Trace.{register_lines, message_lines}
 use Rattle.value_trees.proofs.TraceLines.{round_more, finished}
 use Rattle.value_trees.proofs.trace.write_trace.Goals as goal
 
