@@ -3,6 +3,7 @@
 pub mod Trees
 pub mod Parts
 pub mod Explanation
+pub mod ValueTrees
 pub mod Rows
 pub mod Trace
 pub mod Laws

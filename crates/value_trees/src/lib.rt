@@ -4,9 +4,13 @@
 
 mod explanation;
 mod laws;
+mod parts;
 mod trace;
 mod tree;
+mod trees;
 
 pub use explanation::explanation_text;
 pub use laws::{explanations_show_traces, roots_are_traced};
+pub use parts::TreePart;
 pub use trace::{RoundTrace, Trace, trace_of, trace_text};
+pub use trees::{Given, ValueTree, trees_of};
