@@ -50,8 +50,9 @@ fn is_cause(fault: CheckFault, scope: Scope, token: Token) -> bool
     }
 }
 
-// Returns the offset of the first token of a program text that is the cause of a refusal.
-pub(crate) fn place_of(text: &[u8], fault: CheckFault) -> Option<usize>
+/// Returns the offset of the first token of a program text that is the cause of a refusal, or `None` if
+/// there is none.
+pub fn place_of_cause(text: &[u8], fault: CheckFault) -> Option<usize>
     ensures exact { result ≡ place_of_cause text.now fault }
     ensures within { IfSome result (λ offset. offset < length text.now) }
 {

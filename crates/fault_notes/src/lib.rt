@@ -19,5 +19,6 @@ mod text_notes;
 mod word_rules;
 mod word_texts;
 
+pub use cause_places::place_of_cause;
 pub use program_notes::{check_note, ids_note};
 pub use text_notes::text_note;

@@ -4,7 +4,7 @@ ghost use Rattle.std.specs.Prelude.{◌≡◌, IfOk, string_bytes};
 ghost use Rattle.fault_notes.specs.FaultTokens.{place_of_cause};
 ghost use Rattle.fault_notes.specs.Placed.{placed_note};
 
-use crate::cause_places::place_of;
+use crate::cause_places::place_of_cause;
 use lang_check::CheckFault;
 use node_program::OutOfMemory;
 use source_places::{write_marked_line, write_place_head};
@@ -19,7 +19,7 @@ pub(crate) fn placed_note(
 ) -> Result<String, OutOfMemory>
     ensures { IfOk result (λ note. string_bytes note ≡ placed_note text.now cause.now (place_of_cause text.now fault)) }
 {
-    let Some(offset) = place_of(text, fault) else {
+    let Some(offset) = place_of_cause(text, fault) else {
         return Ok(format!(in alloc; "nbhd: {cause}\n")?);
     };
     let mut note = String::new(alloc);

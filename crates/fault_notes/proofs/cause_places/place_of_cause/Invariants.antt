@@ -2,7 +2,7 @@ use Rattle.std.proofs.Common.{◌≡◌, ◌≤◌, ◌-◌, length}
 use Rattle.node_lang.specs.Lexemes.{lexemes_from}
 use Rattle.fault_notes.specs.FaultTokens.{place_of_cause}
 use Rattle.fault_notes.specs.CausePlaces.{cause_from, offset_from}
-use Rattle.fault_notes.proofs.cause_places.place_of.Given as goal
+use Rattle.fault_notes.proofs.cause_places.place_of_cause.Given as goal
 
 -- the first cause is not before this place
 abbrev pub invariant-tokens : goal.invariant-tokens
