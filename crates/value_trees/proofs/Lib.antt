@@ -2,5 +2,6 @@
 mod Roots
 mod Rows
 mod Shown
+mod ToldTrees
 mod TraceLines
 mod PartLines

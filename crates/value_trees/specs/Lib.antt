@@ -4,6 +4,7 @@ pub mod Trees
 pub mod Parts
 pub mod Explanation
 pub mod ValueTrees
+pub mod ToldTrees
 pub mod Rows
 pub mod Trace
 pub mod Laws

@@ -1,6 +1,6 @@
 -- The trace of a ring in a base: its identifiers, and the registers and the messages of its places in global rounds, round by
 -- round.
-use Rattle.std.specs.Prelude.{ℕ, ◌+◌, List, ◌++◌, length, slice_index, codes}
+use Rattle.std.specs.Prelude.{ℕ, ◌+◌, List, [], ◌∷◌, ◌++◌, length, slice_index, codes}
 use Rattle.std.specs.List.{flat_map, range_with_len}
 use Rattle.std.specs.Fmt.{decimal}
 use Rattle.node_program.specs.Term.{ProgramTree}
@@ -8,7 +8,7 @@ use Rattle.node_program.specs.Node.{to_left, to_right}
 use Rattle.node_program.specs.GlobalRounds.{state, channels_of}
 use Rattle.numerals.specs.Numerals.{row}
 use Rattle.value_trees.specs.Explanation.{phase}
-use Rattle.value_trees.specs.Rows.{of_places}
+use Rattle.value_trees.specs.Rows.{RoundRows, TraceRows, of_places}
 use Rattle.numerals.specs.declared.base.Base.{Base}
 
 -- a line with a heading and these numbers
@@ -39,3 +39,23 @@ later_lines b p x =
 -- the trace: the identifiers, the registers before the first round, the lines of each round, and the channels
 abbrev pub trace_lines : Base → ProgramTree → List ℕ → List ℕ
 trace_lines b p x = row_line b (codes "ring") x ++ (register_lines b p x 0 ++ later_lines b p x)
+
+-- the same from rows: those of the registers after r rounds, from register j on
+abbrev pub told_registers : Base → ℕ → ℕ → List (List ℕ) → List ℕ
+told_registers b r j [] = []
+told_registers b r j (ns ∷ rows) = row_line b (phase r ++ (codes " r" ++ decimal j)) ns ++ told_registers b r (j + 1) rows
+
+-- those of round r
+abbrev pub told_round : Base → ℕ → RoundRows → List ℕ
+told_round b r rows =
+    (row_line b (phase r ++ codes " left") rows.left ++ row_line b (phase r ++ codes " right") rows.right)
+    ++ told_registers b r 0 rows.registers
+
+-- those of rounds after r others
+abbrev pub told_rounds : Base → ℕ → List RoundRows → List ℕ
+told_rounds b r [] = []
+told_rounds b r (rows ∷ more) = told_round b (r + 1) rows ++ told_rounds b (r + 1) more
+
+-- those of a trace, below its identifiers
+abbrev pub told_trace : Base → TraceRows → List ℕ
+told_trace b t = told_registers b 0 0 t.start ++ (told_rounds b 0 t.rounds ++ row_line b (codes "finish") t.finish)

@@ -2,12 +2,11 @@
 -- each branch of an `if` that is not taken.
 use Rattle.std.specs.Prelude.{ℕ, ◌+◌, ◌==◌, if◌then◌else◌, false, true, List, [], ◌∷◌, ◌++◌, map}
 use Rattle.std.specs.List.{flat_map}
-use Rattle.node_program.specs.Term.{Term, One, Two, Choose, term_of}
+use Rattle.node_program.specs.Term.{Term, One, Two, Choose}
 use Rattle.node_program.specs.Value.{Env, value}
 use Rattle.numerals.specs.Numerals.{form_of}
 use Rattle.numerals.specs.declared.base.Base.{Base}
 use Rattle.value_trees.specs.Parts.{Part, told_part}
-use Rattle.value_trees.specs.declared.tree.TreeLine.{TreeLine}
 
 -- an expression at a depth that counts, and a branch that is not taken
 abbrev pub counted : ℕ → Term → Part
@@ -27,10 +26,6 @@ parts_at env d (Choose c x y) =
     ++ (if value c env == 0 then folded (d + 1) x ∷ parts_at env (d + 1) y
     else parts_at env (d + 1) x ++ folded (d + 1) y ∷ []))
 parts_at env d e = counted d e ∷ []
-
--- the part of a line, as the code holds it
-abbrev pub part_of : TreeLine → Part
-part_of line = record { depth = line.depth; term = term_of line.expression.now; counts = line.counts }
 
 -- the values of parts
 abbrev pub values_of : Env → List Part → List ℕ

@@ -60,6 +60,10 @@ value_trees p x i =
     ++ (trees_of_rounds p x i 0 p.steps
     ++ tree_at (length p.steps) Channel (before_messages p x i (length p.steps)) p.finish ∷ [])
 
+-- the part itself
+abbrev pub unvalued : ValuedPart → Part
+unvalued p = record { depth = p.depth; term = p.term; counts = p.counts }
+
 -- a part and a tree, as the code holds them
 abbrev pub part_value : TreePart → ValuedPart
 part_value part = record { depth = part.depth; term = term_of part.expression.now; value = part.value; counts = part.counts }

@@ -6,11 +6,13 @@ mod explanation;
 mod laws;
 mod parts;
 mod trace;
+mod trace_lines;
 mod tree;
 mod trees;
 
 pub use explanation::explanation_text;
 pub use laws::{explanations_show_traces, roots_are_traced};
 pub use parts::TreePart;
-pub use trace::{RoundTrace, Trace, trace_of, trace_text};
+pub use trace::{RoundTrace, Trace, trace_of};
+pub use trace_lines::trace_text;
 pub use trees::{Given, ValueTree, trees_of};

@@ -7,7 +7,8 @@ ghost use Rattle.node_program.specs.declared.limits.TheConstants.{MAX_REGISTERS,
 ghost use Rattle.node_program.specs.Value.{env_of};
 ghost use Rattle.node_program.specs.Node as node;
 ghost use Rattle.node_program.specs.GlobalRounds.{left_of, right_of, state};
-ghost use Rattle.value_trees.specs.ValueTrees.{tree_at, assigned_trees, trees_of_round, trees_of_rounds, value_trees, tree_value};
+ghost use Rattle.value_trees.specs.ValueTrees.{tree_at, assigned_trees, trees_of_round, trees_of_rounds};
+ghost use Rattle.value_trees.specs.ValueTrees.{value_trees, tree_value};
 
 use crate::parts::{TreePart, push_parts};
 use lang_check::Plan;
@@ -40,9 +41,9 @@ pub struct ValueTree<'p> {
     pub parts: Vec<TreePart<'p>>,
 }
 
-// A place whose trees are made, and the memory that they take.
+// A place that is explained, and the memory that its trees take.
 #[derive(Clone, Copy)]
-struct Shown {
+struct Explained {
     alloc: Global,
     place: u32,
 }
@@ -67,7 +68,7 @@ pub fn trees_of<'p>(
     push_assigned(&mut trees, alloc, known, 0, program.start())?;
     push_rounds(
         &mut trees,
-        Shown { alloc, place },
+        Explained { alloc, place },
         program.steps(),
         &mut places,
     )?;
@@ -109,20 +110,20 @@ fn reading(registers: &[u32], left: u32, right: u32) -> Env<'_>
 // Appends the trees of all rounds of a place, and does them.
 fn push_rounds<'p>(
     trees: &mut Vec<ValueTree<'p>>,
-    shown: Shown,
+    explained: Explained,
     rounds: &'p [Round],
     places: &mut Configuration<'_>,
 ) -> Result<(), AllocError>
     requires small { All IsSmallRound rounds.now × (length rounds.now ≤ MAX_ROUNDS) }
     requires few { All (λ round. length round.next.items ≤ MAX_REGISTERS) rounds.now }
     requires rounds { map step_of rounds.now ≡ places.old.program.steps }
-    requires start { (places.old.round ≡ 0) × (shown.place < length places.old.places) }
+    requires start { (places.old.round ≡ 0) × (explained.place < length places.old.places) }
     ensures trees { OnOk result (map tree_value trees.new.items ≡ map tree_value trees.old.items
-        ++ trees_of_rounds places.old.program places.old.places shown.place 0 places.old.program.steps) }
+        ++ trees_of_rounds places.old.program places.old.places explained.place 0 places.old.program.steps) }
     ensures done { OnOk result (places.new ≡ record places.old { round = length places.old.program.steps }) }
 {
     'rounds: for (done, round) in rounds.iter().enumerate() {
-        push_round(trees, shown, round, done as u32 + 1, places)?;
+        push_round(trees, explained, round, done as u32 + 1, places)?;
         places.advance();
     }
     Ok(())
@@ -131,7 +132,7 @@ fn push_rounds<'p>(
 // Appends the trees of the next round of a place, whose number is `number`.
 fn push_round<'p>(
     trees: &mut Vec<ValueTree<'p>>,
-    shown: Shown,
+    explained: Explained,
     round: &'p Round,
     number: u32,
     places: &Configuration<'_>,
@@ -140,11 +141,11 @@ fn push_round<'p>(
     requires few { length round.now.next.items ≤ MAX_REGISTERS }
     requires number { number ≡ places.now.round + 1 }
     requires more { places.now.round < length places.now.program.steps }
-    requires place { shown.place < length places.now.places }
+    requires place { explained.place < length places.now.places }
     ensures { OnOk result (map tree_value trees.new.items ≡ map tree_value trees.old.items
-        ++ trees_of_round places.now.program places.now.places shown.place places.now.round (step_of round.now)) }
+        ++ trees_of_round places.now.program places.now.places explained.place places.now.round (step_of round.now)) }
 {
-    let Shown { alloc, place } = shown;
+    let Explained { alloc, place } = explained;
     let own = places.held_by(place);
     let before = reading(own, 0, 0);
     trees.push(tree_of(alloc, number, Given::Left, before, &round.left)?)?;
