@@ -927,7 +927,7 @@ LINES = [
     ("run --ids 8 --ring 5,1,3,7 '2>&1'", "read by the shell, outside of quotes"),
     ("--judge --ids 8", "the name of a command has no minus signs", "`nbhd judge --ids 8`"),
     ("-check --ids 8", "the name of a command has no minus signs", "`nbhd judge --ids 8`"),
-    ("migrate --to 1", "`nbhd migrate` has no options", "it writes the newest version only"),
+    ("migrate --to 1", "`nbhd migrate` has no other option", "it writes the newest version only"),
     ("audit --workers 4", "`nbhd audit` has no such option"),
     ("audit --strict", "`--forbid`", "`--problem`"),
     ("audit -j 4", "`nbhd audit` has no such option"),

@@ -52,10 +52,11 @@ docs/FAULTS.md each refusal and its note, and docs/GALLERY.md classical programs
 Usage: nbhd run [OPTIONS] --ids <M> --ring <A,B,..>
 
 Options:
-      --ids <M>        How many identifiers there are; they are 0 to M-1
-      --ring <A,B,..>  The ring's identifiers, each followed by its right neighbour's
-      --segments <S>   How many segments the ring is cut into, each a thread, 1 to 64 [default: 1]
-  -h, --help           Print help
+      --ids <M>          How many identifiers there are; they are 0 to M-1
+      --ring <A,B,..>    The ring's identifiers, each followed by its right neighbour's
+      --segments <S>     How many segments the ring is cut into, each a thread, 1 to 64 [default: 1]
+      --format <FORMAT>  The form of the report: lines or json [default: lines]
+  -h, --help             Print help
 
 Standard input:  a program text
 Standard output: one line: the channels in the order of the ring, or what is refused
@@ -77,11 +78,12 @@ Exit status:
         "check --help",
         """Tells whether a program is accepted for M identifiers
 
-Usage: nbhd check --ids <M>
+Usage: nbhd check [OPTIONS] --ids <M>
 
 Options:
-      --ids <M>  How many identifiers there are; they are 0 to M-1
-  -h, --help     Print help
+      --ids <M>          How many identifiers there are; they are 0 to M-1
+      --format <FORMAT>  The form of the report: lines or json [default: lines]
+  -h, --help             Print help
 
 Standard input:  a program text
 Standard output: one line: the program is accepted, or what is refused
@@ -103,11 +105,12 @@ Exit status:
 Usage: nbhd table [OPTIONS] --ids <M>
 
 Options:
-      --ids <M>      How many identifiers there are; they are 0 to M-1
-      --workers <W>  How many threads work on the table, 1 to 64 [default: 1]
-      --near <P>     By how much neighbours' channels have to differ, 1 to 4096 [default: 1]
-      --far <Q>      By how much the channels at distance two have to differ, 0 to 4096 [default: 0]
-  -h, --help         Print help
+      --ids <M>          How many identifiers there are; they are 0 to M-1
+      --workers <W>      How many threads work on the table, 1 to 64 [default: 1]
+      --near <P>         By how much neighbours' channels have to differ, 1 to 4096 [default: 1]
+      --far <Q>          By how much the channels at distance two have to differ, 0 to 4096 [default: 0]
+      --format <FORMAT>  The form of the report: lines or json [default: lines]
+  -h, --help             Print help
 
 Standard input:  a program text
 Standard output: the table text, or one line: what is refused
@@ -130,10 +133,11 @@ Exit status:
 Usage: nbhd plan [OPTIONS] --ids <M> --ring <A,B,..>
 
 Options:
-      --ids <M>        How many identifiers there are; they are 0 to M-1
-      --ring <A,B,..>  The ring's identifiers, each followed by its right neighbour's
-      --workers <W>    How many threads work on the table, 1 to 64 [default: 1]
-  -h, --help           Print help
+      --ids <M>          How many identifiers there are; they are 0 to M-1
+      --ring <A,B,..>    The ring's identifiers, each followed by its right neighbour's
+      --workers <W>      How many threads work on the table, 1 to 64 [default: 1]
+      --format <FORMAT>  The form of the report: lines or json [default: lines]
+  -h, --help             Print help
 
 Standard input:  a program text
 Standard output: one line for each place of the ring: the place, its identifier and its channel;
@@ -155,11 +159,12 @@ Exit status:
         "apply --help",
         """Prints the channels of a ring's places, looked up in a table text
 
-Usage: nbhd apply --ring <A,B,..>
+Usage: nbhd apply [OPTIONS] --ring <A,B,..>
 
 Options:
-      --ring <A,B,..>  The ring's identifiers, each followed by its right neighbour's
-  -h, --help           Print help
+      --ring <A,B,..>    The ring's identifiers, each followed by its right neighbour's
+      --format <FORMAT>  The form of the report: lines or json [default: lines]
+  -h, --help             Print help
 
 Standard input:  a table text, as `nbhd table` prints it
 Standard output: one line for each place of the ring: the place, its identifier and its channel;
@@ -181,10 +186,11 @@ Exit status:
         "migrate --help",
         """Prints a table text of any version in the newest one
 
-Usage: nbhd migrate
+Usage: nbhd migrate [OPTIONS]
 
 Options:
-  -h, --help  Print help
+      --format <FORMAT>  The form of the report: lines or json [default: lines]
+  -h, --help             Print help
 
 Standard input:  a table text of version 1 or 2
 Standard output: the text of the same table, near and far in version 2, or one line: what is refused
@@ -201,10 +207,11 @@ Exit status:
         "print --help",
         """Prints a program text in its one printed form
 
-Usage: nbhd print
+Usage: nbhd print [OPTIONS]
 
 Options:
-  -h, --help  Print help
+      --format <FORMAT>  The form of the report: lines or json [default: lines]
+  -h, --help             Print help
 
 Standard input:  a program text
 Standard output: the same program with one line for each of its parts and without comments,
@@ -227,10 +234,11 @@ Exit status:
 Usage: nbhd trace [OPTIONS] --ids <M> --ring <A,B,..>
 
 Options:
-      --ids <M>        How many identifiers there are; they are 0 to M-1
-      --ring <A,B,..>  The ring's identifiers, each followed by its right neighbour's
-      --base <B>       The base of the numbers that are printed, 2 to 10 [default: 10]
-  -h, --help           Print help
+      --ids <M>          How many identifiers there are; they are 0 to M-1
+      --ring <A,B,..>    The ring's identifiers, each followed by its right neighbour's
+      --base <B>         The base of the numbers that are printed, 2 to 10 [default: 10]
+      --format <FORMAT>  The form of the report: lines or json [default: lines]
+  -h, --help             Print help
 
 Standard input:  a program text
 Standard output: lines with a number for each place of the ring, or one line: what is refused
@@ -263,11 +271,12 @@ Exit status:
 Usage: nbhd explain [OPTIONS] --ids <M> --ring <A,B,..> --place <P>
 
 Options:
-      --ids <M>        How many identifiers there are; they are 0 to M-1
-      --ring <A,B,..>  The ring's identifiers, each followed by its right neighbour's
-      --place <P>      The place of the node in the ring, counted from 0
-      --base <B>       The base of the numbers that are printed, 2 to 10 [default: 10]
-  -h, --help           Print help
+      --ids <M>          How many identifiers there are; they are 0 to M-1
+      --ring <A,B,..>    The ring's identifiers, each followed by its right neighbour's
+      --place <P>        The place of the node in the ring, counted from 0
+      --base <B>         The base of the numbers that are printed, 2 to 10 [default: 10]
+      --format <FORMAT>  The form of the report: lines or json [default: lines]
+  -h, --help             Print help
 
 Standard input:  a program text
 Standard output: each expression of the program with its values, or one line: what is refused
@@ -301,13 +310,14 @@ Exit status:
 Usage: nbhd judge [OPTIONS] --ids <M>
 
 Options:
-      --ids <M>         How many identifiers there are; they are 0 to M-1
-      --workers <W>     How many threads work on the table, 1 to 64 [default: 1]
-      --near <P>        By how much neighbours' channels have to differ, 1 to 4096 [default: 1]
-      --far <Q>         By how much the channels at distance two have to differ, 0 to 4096 [default: 0]
-      --forbid <A,B,C>  One to three channels, or `*` for any, that may not follow one another; may be repeated
-      --problem <NAME>  The problem that channels have to solve: mis, matching or weak2
-  -h, --help            Print help
+      --ids <M>          How many identifiers there are; they are 0 to M-1
+      --workers <W>      How many threads work on the table, 1 to 64 [default: 1]
+      --near <P>         By how much neighbours' channels have to differ, 1 to 4096 [default: 1]
+      --far <Q>          By how much the channels at distance two have to differ, 0 to 4096 [default: 0]
+      --forbid <A,B,C>   One to three channels, or `*` for any, that may not follow one another; may be repeated
+      --problem <NAME>   The problem that channels have to solve: mis, matching or weak2
+      --format <FORMAT>  The form of the report: lines or json [default: lines]
+  -h, --help             Print help
 
 Standard input:  a program text
 Standard output: one line: yes, or no with a ring where channels are not as they have to be,
@@ -341,15 +351,16 @@ Exit status:
 Usage: nbhd audit [OPTIONS]
 
 Options:
-      --forbid <A,B,C>  One to three channels, or `*` for any, that may not follow one another; may be repeated
-      --problem <NAME>  The problem that channels have to solve: mis, matching or weak2
-  -h, --help            Print help
+      --forbid <A,B,C>   One to three channels, or `*` for any, that may not follow one another; may be repeated
+      --problem <NAME>   The problem that channels have to solve: mis, matching or weak2
+      --format <FORMAT>  The form of the report: lines or json [default: lines]
+  -h, --help             Print help
 
 Standard input:  a table text, as `nbhd table` prints it
 Standard output: one line: yes, or no with a ring where channels are not as they have to be,
                  or what is refused
 
-Without options, near and far of the text tell how far apart channels have to be; a text of version 1
+Without a problem, near and far of the text tell how far apart channels have to be; a text of version 1
 has near 1 and far 0: neighbours' channels have to differ. With a problem, near and far of the text
 are left aside.
 
@@ -417,14 +428,15 @@ Exit status:
 Usage: nbhd refute [OPTIONS] --ids <M> --rounds <T> --channels <C>
 
 Options:
-      --ids <M>         How many identifiers there are; they are 0 to M-1
-      --rounds <T>      How many rounds nodes communicate, 0 to 4
-      --channels <C>    How many channels there are, 1 to 4096; they are 0 to C-1
-      --near <P>        By how much neighbours' channels have to differ, 1 to 4096 [default: 1]
-      --far <Q>         By how much the channels at distance two have to differ, 0 to 4096 [default: 0]
-      --forbid <A,B,C>  One to three channels, or `*` for any, that may not follow one another; may be repeated
-      --problem <NAME>  The problem that channels have to solve: mis, matching or weak2
-  -h, --help            Print help
+      --ids <M>          How many identifiers there are; they are 0 to M-1
+      --rounds <T>       How many rounds nodes communicate, 0 to 4
+      --channels <C>     How many channels there are, 1 to 4096; they are 0 to C-1
+      --near <P>         By how much neighbours' channels have to differ, 1 to 4096 [default: 1]
+      --far <Q>          By how much the channels at distance two have to differ, 0 to 4096 [default: 0]
+      --forbid <A,B,C>   One to three channels, or `*` for any, that may not follow one another; may be repeated
+      --problem <NAME>   The problem that channels have to solve: mis, matching or weak2
+      --format <FORMAT>  The form of the report: lines or json [default: lines]
+  -h, --help             Print help
 
 Standard input:  a refutation of the formula that `nbhd formula` prints, in LRAT
 Standard output: one line: refuted, or what is refused
@@ -516,6 +528,14 @@ For more information, try '--help'.
 For more information, try '--help'.
 """,
     ),
+    (
+        "check --ids 8 --format xml",
+        """error: invalid value 'xml' for '--format <FORMAT>'
+  [possible values: lines, json]
+
+For more information, try '--help'.
+""",
+    ),
 ]
 
 # Words that are no command. An empty line has no words, and a blank two empty ones.
@@ -547,6 +567,7 @@ NO_COMMANDS = [
     "explain --ids 8 --place 0",
     "explain --ids 8 --ring 5,1,3,7 --place",
     "trace --ids 8 --ring 5,1,3,7 --base",
+    "check --ids 8 --format",
     "plan --ring 5,1,3,7",
     "apply --ring",
     "check --ids",
@@ -599,6 +620,12 @@ NO_COMMANDS = [
     "run --ids 8 --ring 5,1,3,7 --segments 1 --segments=1",
     "explain --ids 8 --ring 5 --place 0 --place 0",
     "trace --ids 8 --ring 5 --base 2 --base 2",
+    "print --format json --format json",
+    # forms of a report that there are not
+    "check --ids 8 --format xml",
+    "print --format JSON",
+    "print --format=",
+    "print --format json,lines",
     # numbers out of their range
     "explain --ids 8 --ring 5,1,3,7 --place 4294967296",
     "explain --ids 8 --ring 5,1,3,7 --place -1",
@@ -673,8 +700,10 @@ NO_COMMANDS = [
             "--ids 8 --rounds 1 --channels 3 --ring 5,1,3,7",
             "--ids 8 --rounds 1 --channels 3 3",
             "--ids 8 --rounds one --channels 3",
+            "--ids 8 --rounds 1 --channels 3 --format dimacs",
         ]
     ),
+    *(f"formula --ids 8 --rounds 1 --channels 3 --format {name}" for name in ["lines", "json"]),
     "judge --ids 8 --rounds 1",
     "table --ids 8 --channels 3",
     # these faults come before a bad ring or a bad pattern
@@ -682,6 +711,8 @@ NO_COMMANDS = [
     "judge --ids 8 --far 4097 --problem none",
     "run --ids eight --ring 5,,1",
     "run --ids 8 --ring 5,,1 --segments 0",
+    "run --ids 8 --ring 5,,1 --format xml",
+    "judge --ids 8 --problem none --format xml",
     "run --ring 5,,1",
 ]
 
@@ -853,6 +884,10 @@ TIPS = [
     *((f"judge --ids 8 {words}", CAPITAL) for words in ["--FORBID 1,1", "--Problem mis"]),
     ("judge -near 2 --ids 8", ONE_MINUS),
     ("judge --Near=2 --ids 8", CAPITAL),
+    ("print --FORMAT json", CAPITAL),
+    ("print --Format=json", CAPITAL),
+    ("print -format json", ONE_MINUS),
+    *((f"print --format {word}", VALUE_APART) for word in ["= json", "=json"]),
 ]
 
 # What names of other programs are for, and what stands for them.
@@ -879,6 +914,10 @@ AUDIT_THREADS = (
     "; `--workers` is an option of `table`, `judge` and `plan`\n"
 )
 
+IN_JSON = "nbhd: a report is in JSON by `--format json`\n"
+TWO_FORMS = "nbhd: a report is in lines or in JSON, by `--format lines` or `--format json`\n"
+DIMACS = "nbhd: `nbhd formula` prints DIMACS, which solvers read, and has no other form\n"
+
 # Words and the end of the standard error, which names what was probably meant.
 ADVICE = [
     # A file without a suffix, and `-`.
@@ -900,6 +939,13 @@ ADVICE = [
     *((line, VERSION) for line in ["-V", "--version", "judge -V", "version"]),
     *((f"judge --ids 8 {name}", "there is no option for more or less\n") for name in "-v -q --quiet --verbose".split()),
     *((f"table --ids 8 {name} out", OUTPUT) for name in "-o --output --out".split()),
+    *((f"judge --ids 8 {name}", IN_JSON) for name in "--json --fmt --output-format=json json".split()),
+    *((f"judge --ids 8 {name}", TWO_FORMS) for name in "--yaml --csv --xml".split()),
+    *((f"{FORMULA} {words}", DIMACS) for words in ["--format json", "--format=lines", "--json", "--fmt json", "--yaml"]),
+    ("judge --ids 8 -o json", "with `--format json` in JSON, " + OUTPUT),
+    (f"{FORMULA} -o json", "nbhd: the answer is on the standard output, " + OUTPUT),
+    ("print --format:json", "nbhd: a blank or `=` separates an option from its value, as in `--ids 8`, and no colon\n"),
+    ("print format json", ONE_MINUS),
     *((f"judge {name} 8", IDENTIFIERS) for name in "-n -m --size --max --N".split()),
     (f"{RUN} --seed 3", "nbhd: nothing is random; `shuf` makes a random ring\n"),
     # Options of another command.
@@ -933,7 +979,7 @@ ADVICE = [
     ("run --ids 8 5,1,3,7", "nbhd: a ring is given by `--ring`, as in `--ring 5,1,3,7`\n"),
     ("apply 5,1,3,7", "nbhd: a ring is given by `--ring`, as in `--ring 5,1,3,7`\n"),
     ("check 8", "nbhd: each number is the value of an option, as in `--ids 8`\n"),
-    *((line, "nbhd: this command has no options, and its text is read from standard input\n") for line in ["migrate 2", "print 8"]),
+    *((line, "nbhd: this command takes no number, and its text is read from standard input\n") for line in ["migrate 2", "print 8"]),
     ("audit 8", IN_TABLE),
     *((f"{line} 1,1", "nbhd: a pattern of channels is given by `--forbid`, as in `--forbid 1,1`\n") for line in ["judge --ids 8", "audit", REFUTE]),
     (["check", "--ids", "8", ""], "nbhd: a word is empty, as of a variable without a value: leave it out\n"),
@@ -955,9 +1001,9 @@ ADVICE = [
     *((line, VERSION) for line in ["-v", "-version"]),
     ("-v judge --ids 8", FIRST),
     *((f"{word} --ids 8", "nbhd: the name of a command has no minus signs, as in `nbhd judge --ids 8`\n") for word in ["--judge", "-check", "--check=8"]),
-    # Commands without options, and values behind a colon.
-    ("migrate --to 1", "nbhd: `nbhd migrate` has no options; it writes the newest version only\n"),
-    ("audit --strict", "nbhd: `nbhd audit` has no other options than `--forbid` and `--problem`\n"),
+    # Commands with few options, and values behind a colon.
+    ("migrate --to 1", "nbhd: `nbhd migrate` has no other option than `--format`; it writes the newest version only\n"),
+    ("audit --strict", "nbhd: `nbhd audit` has no other options than `--forbid`, `--problem` and `--format`\n"),
     *((f"audit {word} 4", AUDIT_THREADS) for word in ["--workers", "-j"]),
     ("audit --hepl", NO_TIP),
     *((f"{line}:8", "nbhd: a blank or `=` separates an option from its value, as in `--ids 8`, and no colon\n") for line in ["judge --ids", "print --near"]),
@@ -1003,6 +1049,8 @@ PARTS = [("5, 1", 2, " 1"), ("", 1, ""), ("5,1,3,7,", 5, ""), ("4294967296", 1, 
 
 # Inputs, and words that have one answer.
 SAME_COMMANDS = [
+    (CV1, ["check --ids 8", "check --format lines --ids 8", "check --ids 8 --format=lines"]),
+    (CV1, ["print", "print --format lines"]),
     (cv1_of(12), ["check --ids 64", "check --ids=64", "check --ids +64"]),
     (CV1, ["check --ids 0", "check --ids=-0"]),
     (CV1, ["check --ids 4294967295", "check --ids 0004294967295"]),

@@ -20,7 +20,7 @@ use std::sync::Wait;
 use std::thread::Threads;
 use task_words::task::Task;
 use task_words::words::WordsFault;
-use task_words::{parse_task, print_words_fault};
+use task_words::{parse_request, print_words_fault};
 
 /// Does what the words after the program's name request, and returns the exit status. Writes the
 /// report or the help text to standard output, and prints faults and the note on a report to
@@ -32,7 +32,10 @@ where
     T::Reader: IsTerminal,
     ensures { IsExitStatus result }
 {
-    status_after(rt, parse_task(rt))
+    match parse_request(rt) {
+        Ok(request) => status_after(rt, Ok(request.task)),
+        Err(fault) => status_after(rt, Err(fault)),
+    }
 }
 
 // Does the task, or prints the fault of the words. Returns the exit status.

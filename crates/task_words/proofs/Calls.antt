@@ -1,4 +1,4 @@
--- The command that was parsed, and the result of its task.
+-- The command that was parsed, and the result of its request.
 use Rattle.std.proofs.Common.{◌≡◌, ◌⊎◌, List, Option, Some, None, Result, Ok, Err, Bor, false, inl, inr, refl, sym, ◌∙◌, ap, ap₂, subst, codes, Global}
 use Rattle.std.specs.Prelude.{◌↔◌, Box, IfErr, IfOk, OnOk, IsErrOf, IsOk, bytes_eq, option_map}
 use Rattle.std.proofs.lemmas.Bool.Decides.{not_from_Decides}
@@ -11,10 +11,15 @@ use Rattle.clap.specs.declared.parser.matches.SubCommand.{SubCommand}
 use Rattle.std.specs.Box.{box_value}
 use Rattle.task_words.specs.CommandLine.{command_line}
 use Rattle.task_words.specs.DemandValues.{demand_fault}
-use Rattle.task_words.specs.Options.{IsCallFault, IsGoodCall}
-use Rattle.task_words.specs.Words.{HasBadDemand, HasBadRing, IsCallOf, IsCommand, IsDemandName, IsRingBad, IsRingName, IsTaskFor, IsTaskOf}
-use Rattle.task_words.specs.WordsFault.{IsHelp, IsUsage, MemoryAside}
+use Rattle.task_words.specs.Options.{IsCallFault, IsGoodCall, IsRequestFault}
+use Rattle.task_words.specs.Formats.{HasFormat, format_of}
+use Rattle.task_words.specs.ParsedWords.{IsParsedFrom, IsRequestFrom}
+use Rattle.task_words.specs.Task.{IsInRange}
+use Rattle.task_words.specs.Words.{HasBadDemand, HasBadFormat, HasBadRing, IsAccepted, IsCallOf, IsCommand, IsDemandName, IsRingBad, IsRingName, IsTaskFor, IsTaskOf}
+use Rattle.task_words.specs.WordsFault.{IsFormatRefusal, IsHelp, IsUsage, MemoryAside}
 use Rattle.task_words.specs.declared.demand_fault.DemandFault.{DemandFault}
+use Rattle.task_words.specs.declared.format.Format.{Format}
+use Rattle.task_words.specs.declared.request.Request.{Request}
 use Rattle.task_words.specs.declared.task.Task.{Task}
 use Rattle.task_words.specs.declared.words.WordsFault.{WordsFault}
 use Rattle.task_words.specs.declared.words.WordsFault.TheVariants.{Usage, BadRing, BadDemand, OutOfMemory, Help}
@@ -148,6 +153,96 @@ told (Err (BadDemand known)) words name values clean call good (demand, fault) =
 told (Err (Usage text)) words name values clean call good refused = absurd refused
 told (Err (Help text)) words name values clean call good refused = absurd refused
 
-pub task_is : (r : Result Task WordsFault) (words : List Text) (name : Text) (values : List Row) → IsCommand words → IsCallOf words name values
+task_is : (r : Result Task WordsFault) (words : List Text) (name : Text) (values : List Row) → IsCommand words → IsCallOf words name values
     → IfOk r (IsTaskFor name values) → IfOk r (λ task. IsCommand words × IsTaskOf words task)
 task_is r words name values clean call is = IfOk-weaker r _ _ (λ task is. (clean, (name, values, call, is))) is
+
+-- the result of the task of the call that was parsed is that of the words
+parsed_is : (r : Result Task WordsFault) (words : List Text) (name : Text) (values : List Row) → IsCommand words → IsCallOf words name values
+    → IfOk r (IsTaskFor name values) → IfOk r IsInRange → OnOk r (IsGoodCall name values) → IfErr r (IsCallFault name values) → IsParsedFrom words r
+parsed_is r words name values clean call task range good refused =
+    let said = told r words name values clean call good refused in
+    record {
+      task = task_is r words name values clean call task;
+      range = range;
+      ok = said.ok;
+      bad_ring = said.bad_ring;
+      bad_demand = said.bad_demand;
+      usage = λ usage. absurd (said.no_text (inl usage));
+      help = λ help. absurd (said.no_text (inr help));
+    }
+
+-- a form that is named is known
+is_known : (values : List Row) (format : Format) → HasFormat values format → ¬ (format_of values ≡ None)
+is_known values format has none = no_form format (sym has ∙ none)
+  where
+    no_form : (f : Format) → Some f ≡ None → ⊥
+    no_form f is = cc
+
+-- a fault of the form, and one of the task where the form is known
+pub format_refused : (name : Text) (values : List Row) (fault : WordsFault) → IsFormatRefusal (format_of values) fault → IsRequestFault name values fault
+format_refused name values fault (inl memory) = subst (IsRequestFault name values) (sym memory) tt
+format_refused name values fault (inr (text, is, none)) = subst (IsRequestFault name values) (sym is) none
+
+pub task_refused : (name : Text) (values : List Row) (format : Format) (fault : WordsFault) → HasFormat values format → IsCallFault name values fault
+    → IsRequestFault name values fault
+task_refused name values format (Usage text) has refused = absurd refused
+task_refused name values format BadRing has refused = (is_known values format has, refused)
+task_refused name values format (BadDemand cause) has refused = (is_known values format has, refused)
+task_refused name values format OutOfMemory has refused = tt
+task_refused name values format (Help text) has refused = absurd refused
+
+-- the call that was parsed names no form
+IsFormlessMet : Option (Text × List Row) → Type 0
+IsFormlessMet None = ⊥
+IsFormlessMet (Some p) = format_of p.1 ≡ None
+
+no_bad_format : (words : List Text) (name : Text) (values : List Row) → IsCallOf words name values → ¬ (format_of values ≡ None) → ¬ HasBadFormat words
+unfolding IsFormlessMet
+no_bad_format words name values call known bad = known (subst IsFormlessMet (sym bad.2 ∙ call) bad.3)
+
+-- the result of the request of the call that was parsed is that of the words
+pub request_is : (r : Result Request WordsFault) (words : List Text) (name : Text) (values : List Row) → IsAccepted words → IsCallOf words name values
+    → IfOk r (λ request. IsTaskFor name values request.task) → IfOk r (λ request. IsInRange request.task)
+    → IfOk r (λ request. HasFormat values request.format) → OnOk r (IsGoodCall name values) → IfErr r (IsRequestFault name values) → IsRequestFrom words r
+request_is (Ok request) words name values accepted call task range format good refused =
+    let clean : IsCommand words = (accepted, no_bad_format words name values call (is_known values request.format format)) in
+    record {
+      task = parsed_is (Ok request.task) words name values clean call task range good tt;
+      format = (name, values, call, format);
+    }
+request_is (Err OutOfMemory) words name values accepted call task range format good refused = record {
+  task = record {
+    task = tt;
+    range = tt;
+    ok = λ aside. absurd (aside refl);
+    bad_ring = λ aside. absurd (aside refl);
+    bad_demand = λ cause aside. absurd (aside refl);
+    usage = λ usage. let same = usage.1 in cc;
+    help = λ help. let same = help.1 in cc;
+  };
+  format = tt;
+}
+request_is (Err (Usage text)) words name values accepted call task range format good none =
+    let bad : HasBadFormat words = (name, values, call, none) in
+    record {
+      task = record {
+        task = tt;
+        range = tt;
+        ok = λ aside. (λ ok. cc, λ fine. absurd (fine.0.1 bad));
+        bad_ring = λ aside. (λ is. cc, λ ring. absurd (ring.0.1 bad));
+        bad_demand = λ cause aside. (λ is. cc, λ demand. absurd (demand.0.1 bad));
+        usage = λ usage. inr (accepted, bad);
+        help = λ help. let same = help.1 in cc;
+      };
+      format = tt;
+    }
+request_is (Err BadRing) words name values accepted call task range format good (known, refused) = record {
+  task = parsed_is (Err BadRing) words name values (accepted, no_bad_format words name values call known) call task range good refused;
+  format = tt;
+}
+request_is (Err (BadDemand cause)) words name values accepted call task range format good (known, refused) = record {
+  task = parsed_is (Err (BadDemand cause)) words name values (accepted, no_bad_format words name values call known) call task range good refused;
+  format = tt;
+}
+request_is (Err (Help text)) words name values accepted call task range format good refused = absurd refused

@@ -7,7 +7,7 @@ use Rattle.clap.specs.declared.error.kind.ErrorKind.TheVariants as kind
 use Rattle.clap.proofs.OnLiterals.{clap_on_literals}
 use Rattle.task_words.specs.CommandLine.{command_line}
 use Rattle.task_words.specs.Options.{IsRefusalIn, IsRefusalOf}
-use Rattle.task_words.specs.Words.{IsCommand}
+use Rattle.task_words.specs.Words.{IsAccepted}
 use Rattle.task_words.specs.declared.words.WordsFault.{WordsFault}
 use Rattle.task_words.specs.declared.words.WordsFault.TheVariants.{Usage, BadRing, BadDemand, OutOfMemory, Help}
 
@@ -20,7 +20,7 @@ pub is_simple_line : (app : App) → app ≡ command_line → is_simple_and_free
 is_simple_line app is = ap is_simple_and_free is ∙ simple_line
 
 -- words that `clap` accepts have no fault
-pub words_taken : (app : App) (words : List Text) → app ≡ command_line → (is_simple_and_free app ≡ true → fault_of app words ≡ []) → IsCommand words
+pub words_taken : (app : App) (words : List Text) → app ≡ command_line → (is_simple_and_free app ≡ true → fault_of app words ≡ []) → IsAccepted words
 words_taken app words is clean = ap (λ (a : App). fault_of a words) (sym is) ∙ clean (is_simple_line app is)
 
 -- for this command line the contracts of `clap` give exactly the command and its values

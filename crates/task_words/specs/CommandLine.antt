@@ -76,6 +76,10 @@ rounds_rule = required_rule (codes "rounds") (Signed (pos 0) (pos MAX_ROUNDS))
 abbrev pub channels_rule : Rule
 channels_rule = required_rule (codes "channels") (Signed (pos 1) (pos MAX_CHANNELS))
 
+-- `--format FORMAT`: any text, `lines` by default
+abbrev pub format_rule : Rule
+format_rule = record (option_rule (codes "format") Set String) { defaults = codes "lines" ∷ [] }
+
 -- a command of this name with these options
 abbrev pub command_of : List ℕ → List Rule → Shape
 command_of name options = record (new_app name).top { rules = options }
@@ -84,59 +88,59 @@ command_of name options = record (new_app name).top { rules = options }
 abbrev pub IsCommandOf : Shape → Command → Type 0
 IsCommandOf shape command = (shape_of command ≡ shape) × ((out-Command command).has_globals ≡ false)
 
--- `check --ids M`
+-- `check --ids M [--format FORMAT]`
 abbrev pub check_command : Shape
-check_command = command_of (codes "check") (ids_rule ∷ [])
+check_command = command_of (codes "check") (ids_rule ∷ format_rule ∷ [])
 
--- `print`
+-- `print [--format FORMAT]`
 abbrev pub print_command : Shape
-print_command = command_of (codes "print") []
+print_command = command_of (codes "print") (format_rule ∷ [])
 
--- `table --ids M [--workers W] [--near P] [--far Q]`
+-- `table --ids M [--workers W] [--near P] [--far Q] [--format FORMAT]`
 abbrev pub table_command : Shape
-table_command = command_of (codes "table") (ids_rule ∷ workers_rule ∷ near_rule ∷ far_rule ∷ [])
+table_command = command_of (codes "table") (ids_rule ∷ workers_rule ∷ near_rule ∷ far_rule ∷ format_rule ∷ [])
 
--- `judge --ids M [--workers W] [--near P] [--far Q] [--forbid A,B,C].. [--problem NAME]`
+-- `judge --ids M [--workers W] [--near P] [--far Q] [--forbid A,B,C].. [--problem NAME] [--format FORMAT]`
 abbrev pub judge_command : Shape
-judge_command = command_of (codes "judge") (ids_rule ∷ workers_rule ∷ near_rule ∷ far_rule ∷ forbid_rule ∷ problem_rule ∷ [])
+judge_command = command_of (codes "judge") (ids_rule ∷ workers_rule ∷ near_rule ∷ far_rule ∷ forbid_rule ∷ problem_rule ∷ format_rule ∷ [])
 
--- `run --ids M --ring A,B,.. [--segments S]`
+-- `run --ids M --ring A,B,.. [--segments S] [--format FORMAT]`
 abbrev pub run_command : Shape
-run_command = command_of (codes "run") (ids_rule ∷ ring_rule ∷ segments_rule ∷ [])
+run_command = command_of (codes "run") (ids_rule ∷ ring_rule ∷ segments_rule ∷ format_rule ∷ [])
 
--- `trace --ids M --ring A,B,.. [--base B]`
+-- `trace --ids M --ring A,B,.. [--base B] [--format FORMAT]`
 abbrev pub trace_command : Shape
-trace_command = command_of (codes "trace") (ids_rule ∷ ring_rule ∷ base_rule ∷ [])
+trace_command = command_of (codes "trace") (ids_rule ∷ ring_rule ∷ base_rule ∷ format_rule ∷ [])
 
--- `explain --ids M --ring A,B,.. --place P [--base B]`
+-- `explain --ids M --ring A,B,.. --place P [--base B] [--format FORMAT]`
 abbrev pub explain_command : Shape
-explain_command = command_of (codes "explain") (ids_rule ∷ ring_rule ∷ place_rule ∷ base_rule ∷ [])
+explain_command = command_of (codes "explain") (ids_rule ∷ ring_rule ∷ place_rule ∷ base_rule ∷ format_rule ∷ [])
 
--- `plan --ids M --ring A,B,.. [--workers W]`
+-- `plan --ids M --ring A,B,.. [--workers W] [--format FORMAT]`
 abbrev pub plan_command : Shape
-plan_command = command_of (codes "plan") (ids_rule ∷ ring_rule ∷ workers_rule ∷ [])
+plan_command = command_of (codes "plan") (ids_rule ∷ ring_rule ∷ workers_rule ∷ format_rule ∷ [])
 
--- `audit [--forbid A,B,C].. [--problem NAME]`
+-- `audit [--forbid A,B,C].. [--problem NAME] [--format FORMAT]`
 abbrev pub audit_command : Shape
-audit_command = command_of (codes "audit") (forbid_rule ∷ problem_rule ∷ [])
+audit_command = command_of (codes "audit") (forbid_rule ∷ problem_rule ∷ format_rule ∷ [])
 
--- `apply --ring A,B,..`
+-- `apply --ring A,B,.. [--format FORMAT]`
 abbrev pub apply_command : Shape
-apply_command = command_of (codes "apply") (ring_rule ∷ [])
+apply_command = command_of (codes "apply") (ring_rule ∷ format_rule ∷ [])
 
--- `migrate`
+-- `migrate [--format FORMAT]`
 abbrev pub migrate_command : Shape
-migrate_command = command_of (codes "migrate") []
+migrate_command = command_of (codes "migrate") (format_rule ∷ [])
 
 -- `formula --ids M --rounds T --channels C [--near P] [--far Q] [--forbid A,B,C].. [--problem NAME]`
 abbrev pub formula_command : Shape
 formula_command =
     command_of (codes "formula") (ids_rule ∷ rounds_rule ∷ channels_rule ∷ near_rule ∷ far_rule ∷ forbid_rule ∷ problem_rule ∷ [])
 
--- `refute --ids M --rounds T --channels C [--near P] [--far Q] [--forbid A,B,C].. [--problem NAME]`
+-- `refute --ids M --rounds T --channels C [--near P] [--far Q] [--forbid A,B,C].. [--problem NAME] [--format FORMAT]`
 abbrev pub refute_command : Shape
 refute_command =
-    command_of (codes "refute") (ids_rule ∷ rounds_rule ∷ channels_rule ∷ near_rule ∷ far_rule ∷ forbid_rule ∷ problem_rule ∷ [])
+    command_of (codes "refute") (ids_rule ∷ rounds_rule ∷ channels_rule ∷ near_rule ∷ far_rule ∷ forbid_rule ∷ problem_rule ∷ format_rule ∷ [])
 
 -- the program without its commands: the words are those after its name, and a command is required
 abbrev pub program : App

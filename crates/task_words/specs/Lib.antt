@@ -1,5 +1,5 @@
 -- The definitions that the contracts cite: numbers, ring texts and pattern texts, numbers of workers and segments, tasks, the
--- command line, the values of its options and what they demand, the tasks of words, faults of words, the commands and the
+-- command line, the values of its options, the form of the report and what they demand, the tasks of words, faults of words, the commands and the
 -- rows of the tables, tips on words, and what the process gets.
 pub mod Decimal
 pub mod RingText
@@ -8,6 +8,7 @@ pub mod Counts
 pub mod Task
 pub mod CommandLine
 pub mod OptionLines
+pub mod Formats
 pub mod Words
 pub mod Options
 pub mod DemandValues

@@ -12,7 +12,8 @@ use Rattle.clap.specs.declared.error.kind.ErrorKind.TheVariants as kind
 use Rattle.task_words.specs.OptionLines.{IsOneOf, is_always_given}
 use Rattle.task_words.specs.CommandLine.{command_line}
 use Rattle.task_words.specs.DemandValues.{demand_fault}
-use Rattle.task_words.specs.Words.{AsksForHelp, IsDemandName, IsRefused, IsRingBad, IsRingName}
+use Rattle.task_words.specs.Formats.{format_of}
+use Rattle.task_words.specs.Words.{AsksForHelp, IsDemandName, IsMisused, IsRingBad, IsRingName}
 use Rattle.task_words.specs.declared.option_rows.OptionRow.{OptionRow}
 use Rattle.task_words.specs.declared.option_rows.Values.{Values}
 use Rattle.task_words.specs.declared.option_rows.Values.TheVariants as values
@@ -35,6 +36,15 @@ IsCallFault name values BadRing = IsRingName name × IsRingBad values
 IsCallFault name values (BadDemand cause) = IsDemandName name × (demand_fault values ≡ Some cause)
 IsCallFault name values OutOfMemory = ⊤
 IsCallFault name values _ = ⊥
+
+-- why the command of this name with these values has no request, unless memory was refused: the value of `--format` is neither
+-- `lines` nor `json`, or it is not for that, but there is no task
+abbrev pub IsRequestFault : Text → List Row → WordsFault → Type 0
+IsRequestFault name values (Usage text) = format_of values ≡ None
+IsRequestFault name values BadRing = (¬ (format_of values ≡ None)) × IsCallFault name values BadRing
+IsRequestFault name values (BadDemand cause) = (¬ (format_of values ≡ None)) × IsCallFault name values (BadDemand cause)
+IsRequestFault name values OutOfMemory = ⊤
+IsRequestFault name values (Help text) = ⊥
 
 -- the command of this name with these values has a task
 pub record IsGoodCall (name : Text) (values : List Row) : Type 0 where
@@ -84,7 +94,7 @@ IsRefusalOf fault (Help text) = fault ≡ kind.DisplayHelp
 
 -- the fault of the words is one that `clap` finds in them, or OutOfMemory
 abbrev pub IsRefusalIn : List Text → WordsFault → Type 0
-IsRefusalIn words (Usage text) = IsRefused words
+IsRefusalIn words (Usage text) = IsMisused words
 IsRefusalIn words BadRing = ⊥
 IsRefusalIn words (BadDemand cause) = ⊥
 IsRefusalIn words OutOfMemory = ⊤

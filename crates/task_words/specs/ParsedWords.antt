@@ -1,5 +1,5 @@
--- The tasks or faults that the words of the process are parsed to, and the tips on them.
-use Rattle.std.specs.Prelude.{◌≡◌, ◌↔◌, ◌⊎◌, Option, Some, None, List, Result, Err, String, IfOk, IfSome, IfNone, IsOk, IsErrOf, MatchOption, string_bytes}
+-- The requests or faults that the words of the process are parsed to, and the tips on them.
+use Rattle.std.specs.Prelude.{◌≡◌, ◌↔◌, ◌⊎◌, Option, Some, None, List, Result, Ok, Err, String, IfOk, IfSome, IfNone, IsOk, IsErrOf, MatchOption, string_bytes}
 use Rattle.std.specs.Option.{option_map}
 use Rattle.std.specs.declared.alloc.Global.{Global}
 use Rattle.clap.specs.Words.{Text}
@@ -8,10 +8,11 @@ use Rattle.task_words.specs.RingText.{IsRingText}
 use Rattle.task_words.specs.RingTips.{IsRingTip, ring_word}
 use Rattle.task_words.specs.Task.{IsInRange}
 use Rattle.task_words.specs.Tips.{tip_line, usage_tip}
-use Rattle.task_words.specs.Words.{IsCommand, AsksForHelp, IsRefused, HasBadDemand, HasBadRing, IsTaskOf}
+use Rattle.task_words.specs.Words.{IsCommand, AsksForHelp, IsFormatOf, IsRefused, HasBadDemand, HasBadRing, IsTaskOf}
 use Rattle.task_words.specs.WordsFault.{MemoryAside, IsUsage, IsHelp, IsNotUtf8}
 use Rattle.task_words.specs.declared.demand_fault.DemandFault.{DemandFault}
 use Rattle.task_words.specs.declared.demand_fault.DemandFault.TheVariants.{BadPattern}
+use Rattle.task_words.specs.declared.request.Request.{Request}
 use Rattle.task_words.specs.declared.task.Task.{Task}
 use Rattle.task_words.specs.declared.words.WordsFault.{WordsFault}
 use Rattle.task_words.specs.declared.words.WordsFault.TheVariants.{Usage, BadRing, BadDemand, OutOfMemory, Help}
@@ -27,13 +28,24 @@ pub record IsParsedFrom (words : List Text) (result : Result Task WordsFault) : 
   pub usage : IsUsage result → IsRefused words
   pub help : IsHelp result → AsksForHelp words
 
+-- the task of a request, or the fault of the words without one
+abbrev pub task_in : Result Request WordsFault → Result Task WordsFault
+task_in (Ok request) = Ok request.task
+task_in (Err fault) = Err fault
+
+-- What `request_of` returns for these words: a request with their task and the form of its report, or the fault for which they
+-- have no task.
+pub record IsRequestFrom (words : List Text) (result : Result Request WordsFault) : Type 0 where
+  pub task : IsParsedFrom words (task_in result)
+  pub format : IfOk result (λ request. IsFormatOf words request.format)
+
 -- the words of the process were not read: one is not UTF-8, or memory was refused
 abbrev pub IsUnread : WordsFault → Type 0
 IsUnread fault = IsNotUtf8 fault ⊎ (fault ≡ OutOfMemory)
 
--- the result is that of `task_of` for some words, or the words of the process were not read
-abbrev pub IsParsed : Result Task WordsFault → Type 0
-IsParsed result = ((words : List Text) × IsParsedFrom words result) ⊎ ((fault : WordsFault) × (result ≡ Err fault) × IsUnread fault)
+-- the result is that of `request_of` for some words, or the words of the process were not read
+abbrev pub IsParsed : Result Request WordsFault → Type 0
+IsParsed result = ((words : List Text) × IsRequestFrom words result) ⊎ ((fault : WordsFault) × (result ≡ Err fault) × IsUnread fault)
 
 -- The tip on words with this fault: on a bad ring text that of the text; on a bad pattern text the line on the first one; on
 -- other options that are no demand the line on the cause; on words that `clap` refuses the line of the tip that `usage_tip`

@@ -1,5 +1,5 @@
 -- The tasks of the words after the program's name, as `clap` reads them.
-use Rattle.std.specs.Prelude.{◌≡◌, ◌≢◌, ◌⊎◌, ℕ, List, [], Some, codes}
+use Rattle.std.specs.Prelude.{◌≡◌, ◌≢◌, ◌⊎◌, ℕ, List, [], Some, None, codes}
 use Rattle.std.specs.Str.Parse.{without_leading_plus}
 use Rattle.clap.specs.Words.{IsAmong, Row, Text, fault_of, first_of, one_of, subcommand_of}
 use Rattle.clap.specs.declared.error.kind.ErrorKind.{ErrorKind}
@@ -11,26 +11,41 @@ use Rattle.ring_problems.specs.declared.problem.Demand.TheVariants.{Apart, Solve
 use Rattle.task_words.specs.CommandLine.{command_line}
 use Rattle.task_words.specs.Decimal.{IsNumber, number_in}
 use Rattle.task_words.specs.DemandValues.{HasNoProblem, IsProblemFor, IsProblemIn, demand_fault}
+use Rattle.task_words.specs.Formats.{HasFormat, format_of}
 use Rattle.task_words.specs.RingText.{IsRingText, ring_in}
 use Rattle.task_words.specs.declared.demand_fault.DemandFault.{DemandFault}
+use Rattle.task_words.specs.declared.format.Format.{Format}
 use Rattle.task_words.specs.declared.task.Task.{Task}
 use Rattle.task_words.specs.declared.task.Task.TheVariants.{Check, Print, Table, Judge, Run, Trace, Explain, Plan, Audit, Apply, Migrate, Formula, Refute}
 
 -- `clap` accepts the words: they have no fault of any kind
-abbrev pub IsCommand : List Text → Type 0
-IsCommand words = fault_of command_line words ≡ []
+abbrev pub IsAccepted : List Text → Type 0
+IsAccepted words = fault_of command_line words ≡ []
 
 -- the words ask for help
 abbrev pub AsksForHelp : List Text → Type 0
 AsksForHelp words = IsAmong kind.DisplayHelp (fault_of command_line words)
 
 -- `clap` refuses the words, for another cause than a request for help or refused memory
-abbrev pub IsRefused : List Text → Type 0
-IsRefused words = (fault : ErrorKind) × IsAmong fault (fault_of command_line words) × (fault ≢ kind.DisplayHelp) × (fault ≢ kind.OutOfMemory)
+abbrev pub IsMisused : List Text → Type 0
+IsMisused words = (fault : ErrorKind) × IsAmong fault (fault_of command_line words) × (fault ≢ kind.DisplayHelp) × (fault ≢ kind.OutOfMemory)
 
 -- the words are a call of the command of this name, and these are the values of its options
 abbrev pub IsCallOf : List Text → Text → List Row → Type 0
 IsCallOf words name values = subcommand_of command_line words ≡ Some (name, values)
+
+-- the words are a call with a value of `--format` that is neither `lines` nor `json`
+abbrev pub HasBadFormat : List Text → Type 0
+HasBadFormat words = (name : Text) × (values : List Row) × IsCallOf words name values × (format_of values ≡ None)
+
+-- the words are a command: `clap` accepts them, and the value of `--format`, if there is one, is `lines` or `json`
+abbrev pub IsCommand : List Text → Type 0
+IsCommand words = IsAccepted words × ¬ HasBadFormat words
+
+-- the words are no command and do not ask for help: `clap` refuses them, or it accepts them, but the value of `--format` is
+-- neither `lines` nor `json`
+abbrev pub IsRefused : List Text → Type 0
+IsRefused words = IsMisused words ⊎ (IsAccepted words × HasBadFormat words)
 
 -- the value of this option, as `clap` passes it to the parser of numbers, is a decimal number up to 4294967295, perhaps
 -- after a plus sign, and this is the number
@@ -56,7 +71,7 @@ IsRingName name =
 abbrev pub IsRingBad : List Row → Type 0
 IsRingBad values = (text : Text) × (first_of (codes "ring") values ≡ Some text) × ¬ IsRingText text
 
--- `clap` accepts the words, and they name a command with a ring, but the value of `--ring` is not a ring text
+-- the words are a command with a ring, but the value of `--ring` is not a ring text
 abbrev pub HasBadRing : List Text → Type 0
 HasBadRing words = IsCommand words × (name : Text) × (values : List Row) × IsCallOf words name values × IsRingName name × IsRingBad values
 
@@ -64,8 +79,7 @@ HasBadRing words = IsCommand words × (name : Text) × (values : List Row) × Is
 abbrev pub IsDemandName : Text → Type 0
 IsDemandName name = (name ≡ codes "judge") ⊎ (name ≡ codes "audit") ⊎ (name ≡ codes "formula") ⊎ (name ≡ codes "refute")
 
--- `clap` accepts the words, and they name a command that demands something, but the values of its options are no demand,
--- for this cause
+-- the words are a command that demands something, but the values of its options are no demand, for this cause
 abbrev pub HasBadDemand : List Text → DemandFault → Type 0
 HasBadDemand words cause =
     IsCommand words × (name : Text) × (values : List Row) × IsCallOf words name values × IsDemandName name × (demand_fault values ≡ Some cause)
@@ -110,3 +124,7 @@ IsTaskFor name values (Refute ids rounds channels demand) =
 -- the task that the words request
 abbrev pub IsTaskOf : List Text → Task → Type 0
 IsTaskOf words task = (name : Text) × (values : List Row) × IsCallOf words name values × IsTaskFor name values task
+
+-- the form of the report that the words request
+abbrev pub IsFormatOf : List Text → Format → Type 0
+IsFormatOf words format = (name : Text) × (values : List Row) × IsCallOf words name values × HasFormat values format

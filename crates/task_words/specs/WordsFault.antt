@@ -1,9 +1,10 @@
 -- Faults of words, and the exit status after them.
-use Rattle.std.specs.Prelude.{◌≡◌, ◌⊎◌, ℕ, Option, Some, Result, Err, IfErr, String, codes, option_map, string_bytes}
+use Rattle.std.specs.Prelude.{◌≡◌, ◌⊎◌, ℕ, Option, Some, None, Result, Err, IfErr, String, codes, option_map, string_bytes}
 use Rattle.std.specs.declared.alloc.Global.{Global}
 use Rattle.task_words.specs.declared.demand_fault.DemandFault.{DemandFault}
 use Rattle.task_words.specs.declared.demand_fault.DemandFault.TheVariants.{BadPattern}
 use Rattle.task_words.specs.declared.demand_fault.PatternFault.{PatternFault}
+use Rattle.task_words.specs.declared.format.Format.{Format}
 use Rattle.task_words.specs.declared.words.WordsFault.{WordsFault}
 use Rattle.task_words.specs.declared.words.WordsFault.TheVariants.{Usage, BadRing, BadDemand, OutOfMemory, Help}
 
@@ -23,7 +24,11 @@ IsDemandRefusal cause fault = (fault ≡ OutOfMemory) ⊎ ((known : DemandFault)
 abbrev pub IsPatternRefusal : Option PatternFault → WordsFault → Type 0
 IsPatternRefusal cause fault = IsDemandRefusal (option_map BadPattern cause) fault
 
--- the result is a fault with a text of `clap`
+-- the fault is OutOfMemory, or Usage, if no form of a report is named
+abbrev pub IsFormatRefusal : Option Format → WordsFault → Type 0
+IsFormatRefusal format fault = (fault ≡ OutOfMemory) ⊎ ((text : String Global) × (fault ≡ Usage text) × (format ≡ None))
+
+-- the result is a fault of usage
 abbrev pub IsUsage : {T : Type 0} → Result T WordsFault → Type 0
 IsUsage result = (text : String Global) × (result ≡ Err (Usage text))
 

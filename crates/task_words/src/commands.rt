@@ -1,8 +1,8 @@
 //! The commands, in a table.
 
 use crate::option_rows::{
-    BASE, CHANNELS, FAR, FORBID, IDS, NEAR, OptionRow, PLACE, PROBLEM, RING, ROUNDS, SEGMENTS,
-    WORKERS,
+    BASE, CHANNELS, FAR, FORBID, FORMAT, IDS, NEAR, OptionRow, PLACE, PROBLEM, RING, ROUNDS,
+    SEGMENTS, WORKERS,
 };
 
 // A command. `about` is its line in the help of the program. `details` ends its own help: its input,
@@ -60,7 +60,7 @@ A problem is given in one of these two ways, and without --near and --far.
     };
 }
 
-// `check --ids M`
+// `check --ids M [--format FORMAT]`
 const CHECK: CommandRow = CommandRow {
     name: "check",
     about: "Tells whether a program is accepted for M identifiers",
@@ -74,10 +74,10 @@ Exit status:
   5  reading or writing failed
   6  memory was refused"
     ),
-    options: &[IDS],
+    options: &[IDS, FORMAT],
 };
 
-// `print`
+// `print [--format FORMAT]`
 const PRINT: CommandRow = CommandRow {
     name: "print",
     about: "Prints a program text in its one printed form",
@@ -93,10 +93,10 @@ Exit status:
   3  the program text is refused
   5  reading or writing failed
   6  memory was refused",
-    options: &[],
+    options: &[FORMAT],
 };
 
-// `table --ids M [--workers W] [--near P] [--far Q]`
+// `table --ids M [--workers W] [--near P] [--far Q] [--format FORMAT]`
 const TABLE: CommandRow = CommandRow {
     name: "table",
     about: "Prints the table of a program, one channel per window",
@@ -111,10 +111,10 @@ Exit status:
   5  reading or writing failed
   6  memory or a thread was refused"
     ),
-    options: &[IDS, WORKERS, NEAR, FAR],
+    options: &[IDS, WORKERS, NEAR, FAR, FORMAT],
 };
 
-// `judge --ids M [--workers W] [--near P] [--far Q] [--forbid A,B,C].. [--problem NAME]`
+// `judge --ids M [--workers W] [--near P] [--far Q] [--forbid A,B,C].. [--problem NAME] [--format FORMAT]`
 const JUDGE: CommandRow = CommandRow {
     name: "judge",
     about: "Tells whether a program keeps channels far apart, or solves a problem, on every ring",
@@ -136,10 +136,10 @@ Exit status:
   5  reading or writing failed
   6  memory or a thread was refused"
     ),
-    options: &[IDS, WORKERS, NEAR, FAR, FORBID, PROBLEM],
+    options: &[IDS, WORKERS, NEAR, FAR, FORBID, PROBLEM, FORMAT],
 };
 
-// `run --ids M --ring A,B,.. [--segments S]`
+// `run --ids M --ring A,B,.. [--segments S] [--format FORMAT]`
 const RUN: CommandRow = CommandRow {
     name: "run",
     about: "Runs a program by messages on a ring, and prints the channels",
@@ -155,10 +155,10 @@ Exit status:
   5  reading or writing failed
   6  memory or a thread was refused"
 ),
-    options: &[IDS, RING, SEGMENTS],
+    options: &[IDS, RING, SEGMENTS, FORMAT],
 };
 
-// `trace --ids M --ring A,B,.. [--base B]`
+// `trace --ids M --ring A,B,.. [--base B] [--format FORMAT]`
 const TRACE: CommandRow = CommandRow {
     name: "trace",
     about: "Runs a program on a ring, and prints what its nodes hold and send in each round",
@@ -182,10 +182,10 @@ Exit status:
   5  reading or writing failed
   6  memory was refused"
 ),
-    options: &[IDS, RING, BASE],
+    options: &[IDS, RING, BASE, FORMAT],
 };
 
-// `explain --ids M --ring A,B,.. --place P [--base B]`
+// `explain --ids M --ring A,B,.. --place P [--base B] [--format FORMAT]`
 const EXPLAIN: CommandRow = CommandRow {
     name: "explain",
     about: "Runs a program on a ring, and prints how one node computes each of its values",
@@ -210,10 +210,10 @@ Exit status:
   5  reading or writing failed
   6  memory was refused"
 ),
-    options: &[IDS, RING, PLACE, BASE],
+    options: &[IDS, RING, PLACE, BASE, FORMAT],
 };
 
-// `plan --ids M --ring A,B,.. [--workers W]`
+// `plan --ids M --ring A,B,.. [--workers W] [--format FORMAT]`
 const PLAN: CommandRow = CommandRow {
     name: "plan",
     about: "Prints the channels of a ring's places, looked up in the table",
@@ -229,10 +229,10 @@ Exit status:
   5  reading or writing failed
   6  memory or a thread was refused"
 ),
-    options: &[IDS, RING, WORKERS],
+    options: &[IDS, RING, WORKERS, FORMAT],
 };
 
-// `audit [--forbid A,B,C].. [--problem NAME]`
+// `audit [--forbid A,B,C].. [--problem NAME] [--format FORMAT]`
 const AUDIT: CommandRow = CommandRow {
     name: "audit",
     about: "Tells whether a table keeps channels far apart, or solves a problem, on every ring",
@@ -241,7 +241,7 @@ const AUDIT: CommandRow = CommandRow {
 Standard output: one line: yes, or no with a ring where channels are not as they have to be,
                  or what is refused
 
-Without options, near and far of the text tell how far apart channels have to be; a text of version 1
+Without a problem, near and far of the text tell how far apart channels have to be; a text of version 1
 has near 1 and far 0: neighbours' channels have to differ. With a problem, near and far of the text
 are left aside.
 ",
@@ -254,10 +254,10 @@ Exit status:
   5  reading or writing failed
   6  memory or a thread was refused"
     ),
-    options: &[FORBID, PROBLEM],
+    options: &[FORBID, PROBLEM, FORMAT],
 };
 
-// `apply --ring A,B,..`
+// `apply --ring A,B,.. [--format FORMAT]`
 const APPLY: CommandRow = CommandRow {
     name: "apply",
     about: "Prints the channels of a ring's places, looked up in a table text",
@@ -275,10 +275,10 @@ Exit status:
   4  the ring is refused
   5  reading or writing failed
   6  memory was refused",
-    options: &[RING],
+    options: &[RING, FORMAT],
 };
 
-// `migrate`
+// `migrate [--format FORMAT]`
 const MIGRATE: CommandRow = CommandRow {
     name: "migrate",
     about: "Prints a table text of any version in the newest one",
@@ -291,7 +291,7 @@ Exit status:
   3  the table text is refused
   5  reading or writing failed
   6  memory was refused",
-    options: &[],
+    options: &[FORMAT],
 };
 
 // `formula --ids M --rounds T --channels C [--near P] [--far Q] [--forbid A,B,C].. [--problem NAME]`
@@ -318,7 +318,7 @@ Exit status:
     options: &[IDS, ROUNDS, CHANNELS, NEAR, FAR, FORBID, PROBLEM],
 };
 
-// `refute --ids M --rounds T --channels C [--near P] [--far Q] [--forbid A,B,C].. [--problem NAME]`
+// `refute --ids M --rounds T --channels C [--near P] [--far Q] [--forbid A,B,C].. [--problem NAME] [--format FORMAT]`
 const REFUTE: CommandRow = CommandRow {
     name: "refute",
     about: "Checks a solver's refutation: there is no table of this size",
@@ -339,7 +339,7 @@ Exit status:
   6  memory was refused
   7  there is no such formula, or it is too large"
     ),
-    options: &[IDS, ROUNDS, CHANNELS, NEAR, FAR, FORBID, PROBLEM],
+    options: &[IDS, ROUNDS, CHANNELS, NEAR, FAR, FORBID, PROBLEM, FORMAT],
 };
 
 // The commands, in the order of the help of the program.

@@ -128,3 +128,11 @@ pub(crate) const PROBLEM: OptionRow = OptionRow {
     values: Values::Text,
     given: Given::AtMostOnce,
 };
+
+pub(crate) const FORMAT: OptionRow = OptionRow {
+    name: "format",
+    value_name: "FORMAT",
+    help: "The form of the report: lines or json",
+    values: Values::Text,
+    given: Given::ByDefault("lines"),
+};

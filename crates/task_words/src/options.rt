@@ -1,17 +1,20 @@
-//! The task of a command, from the values of its options.
+//! The request of a command, from the values of its options.
 
-ghost use Rattle.std.specs.Prelude.{◌≡◌, ◌⊎◌, ◌↔◌, IsTrue, IfErr, IfOk, IfSome, OnOk, codes};
+ghost use Rattle.std.specs.Prelude.{◌≡◌, ◌⊎◌, ◌↔◌, None, IsTrue, IfErr, IfOk, IfSome, OnOk, codes};
 ghost use Rattle.task_words.specs.Counts.{IsFar, IsNear};
 ghost use Rattle.task_words.specs.DemandValues.{IsProblemIn};
-ghost use Rattle.task_words.specs.Options.{IsBetween, IsCall, IsCallFault, IsGoodCall, IsSeparationName, IsTaken, values_of};
+ghost use Rattle.task_words.specs.Formats.{HasFormat, format_of};
+ghost use Rattle.task_words.specs.Options.{IsBetween, IsCall, IsCallFault, IsGoodCall, IsRequestFault, IsSeparationName, IsTaken, values_of};
 ghost use Rattle.task_words.specs.Task.{HasFewPatterns, IsDemandInRange, IsInRange};
 ghost use Rattle.task_words.specs.Words.{HasNumber, HasRing, IsDemandFor, IsDemandName, IsRingBad, IsRingName, IsTaskFor};
-ghost use Rattle.task_words.specs.WordsFault.{FailsBy};
+ghost use Rattle.task_words.specs.WordsFault.{FailsBy, IsFormatRefusal};
 
 use crate::demands::problem_of;
+use crate::format::{Format, format_named};
 use crate::option_rows::{
-    BASE, CHANNELS, FAR, IDS, NEAR, OptionRow, PLACE, RING, ROUNDS, SEGMENTS, WORKERS,
+    BASE, CHANNELS, FAR, FORMAT, IDS, NEAR, OptionRow, PLACE, RING, ROUNDS, SEGMENTS, WORKERS,
 };
+use crate::request::Request;
 use crate::ring_text::ring_of;
 use crate::task::Task;
 use crate::words::WordsFault;
@@ -28,10 +31,72 @@ pub(crate) struct Call<'a, 'w> {
     pub(crate) options: &'a ArgMatches<'w>,
 }
 
+// Returns the fault of words with this value of `--format`, which is the name of no form. Its text is as
+// that of `clap` on such a value.
+fn unknown_format(alloc: Global, name: &str) -> WordsFault
+    ensures { IsFormatRefusal None result }
+{
+    match format!(in alloc;
+        "error: invalid value '{name}' for '--format <FORMAT>'\n  [possible values: lines, json]\n\nFor more information, try '--help'.\n"
+    ) {
+        Ok(text) => WordsFault::Usage(text),
+        Err(_) => WordsFault::OutOfMemory,
+    }
+}
+
 impl Call<'_, '_> {
+    // Returns the request of the call: its task, and the form of its report. Fails with `Usage` if the
+    // value of `--format` is the name of no form, with `BadRing` if that of `--ring` is not a ring text,
+    // and with `BadDemand` if the command demands something, but the values of its options are no demand.
+    pub(crate) fn request(&self, alloc: Global) -> Result<Request, WordsFault>
+        requires { IsCall self.now }
+        ensures task { IfOk result (λ request. IsTaskFor self.now.name.now (values_of self.now) request.task) }
+        ensures range { IfOk result (λ request. IsInRange request.task) }
+        ensures format { IfOk result (λ request. HasFormat (values_of self.now) request.format) }
+        ensures good { OnOk result (IsGoodCall self.now.name.now (values_of self.now)) }
+        ensures refused { IfErr result (IsRequestFault self.now.name.now (values_of self.now)) }
+    {
+        match self.format(alloc) {
+            Ok(format) => self.request_in(alloc, format),
+            Err(fault) => Err(fault),
+        }
+    }
+
+    // Returns the request of the call, in whose words this form of the report is named. Fails as `task`
+    // does.
+    fn request_in(&self, alloc: Global, format: Format) -> Result<Request, WordsFault>
+        requires given { IsCall self.now }
+        requires format { HasFormat (values_of self.now) format }
+        ensures task { IfOk result (λ request. IsTaskFor self.now.name.now (values_of self.now) request.task) }
+        ensures range { IfOk result (λ request. IsInRange request.task) }
+        ensures format { IfOk result (λ request. HasFormat (values_of self.now) request.format) }
+        ensures good { OnOk result (IsGoodCall self.now.name.now (values_of self.now)) }
+        ensures refused { IfErr result (IsRequestFault self.now.name.now (values_of self.now)) }
+    {
+        match self.task(alloc) {
+            Ok(task) => Ok(Request { task, format }),
+            Err(fault) => Err(fault),
+        }
+    }
+
+    // Returns the form of the report, which is lines without `--format`. Fails with `Usage` if the value
+    // of `--format` is the name of no form.
+    fn format(&self, alloc: Global) -> Result<Format, WordsFault>
+        ensures format { IfOk result (HasFormat (values_of self.now)) }
+        ensures refused { IfErr result (IsFormatRefusal (format_of (values_of self.now))) }
+    {
+        let Some(name) = self.options.get_str(FORMAT.name) else {
+            return Ok(Format::Lines);
+        };
+        match format_named(name) {
+            Some(format) => Ok(format),
+            None => Err(unknown_format(alloc, name)),
+        }
+    }
+
     // Returns the task of the call. Fails with `BadRing` if the value of `--ring` is not a ring text,
     // and with `BadDemand` if the command demands something, but the values of its options are no demand.
-    pub(crate) fn task(&self, alloc: Global) -> Result<Task, WordsFault>
+    fn task(&self, alloc: Global) -> Result<Task, WordsFault>
         requires { IsCall self.now }
         ensures task { IfOk result (IsTaskFor self.now.name.now (values_of self.now)) }
         ensures range { IfOk result IsInRange }

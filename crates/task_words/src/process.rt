@@ -1,28 +1,28 @@
 //! The words of the process.
 ghost use Rattle.std.specs.Prelude.{◌≡◌, map, drop, IfOk, IfErr, string_bytes};
-ghost use Rattle.task_words.specs.ParsedWords.{IsParsedFrom, IsParsed, IsTipFor, IsUnread};
+ghost use Rattle.task_words.specs.ParsedWords.{IsParsed, IsRequestFrom, IsTipFor, IsUnread};
 ghost use Rattle.task_words.specs.Task.{IsRunnable};
 ghost use Rattle.task_words.specs.WordsFault.{words_fault_code};
 
 use crate::demand_fault::DemandFault;
 use crate::pattern_tips::pattern_tip;
 use crate::refused::{carriage_line, usage_advice, usage_text};
+use crate::request::Request;
 use crate::ring_tips::{ring_tip, ring_word};
-use crate::task::Task;
 use crate::tips::usage_tip;
-use crate::words::{WordsFault, task_of, words_fault};
+use crate::words::{WordsFault, request_of, words_fault};
 use std::alloc::{AllocError, Global};
 use std::env;
 use std::rt::Env;
 
-/// Returns the task that the words after the program's name request, as `task_of` does, or the fault
-/// of the words.
-pub fn parse_task<T: AllocGlobal + Env>(rt: &T) -> Result<Task, WordsFault>
+/// Returns what the words after the program's name request, as `request_of` does, or the fault of the
+/// words.
+pub fn parse_request<T: AllocGlobal + Env>(rt: &T) -> Result<Request, WordsFault>
     ensures parsed { IsParsed result }
-    ensures runnable { IfOk result IsRunnable }
+    ensures runnable { IfOk result (λ request. IsRunnable request.task) }
 {
     let words = words(rt)?;
-    task_after_name(rt.alloc(), &words)
+    request_after_name(rt.alloc(), &words)
 }
 
 // Returns the words of the process, from the program's name on.
@@ -36,11 +36,11 @@ fn words<T: AllocGlobal + Env>(rt: &T) -> Result<Vec<String>, WordsFault>
     }
 }
 
-// Returns the task that the words after the first one request.
-fn task_after_name(alloc: Global, words: &[String]) -> Result<Task, WordsFault>
-    ensures { IsParsedFrom (drop 1 (map string_bytes words.now)) result }
+// Returns what the words after the first one request.
+fn request_after_name(alloc: Global, words: &[String]) -> Result<Request, WordsFault>
+    ensures { IsRequestFrom (drop 1 (map string_bytes words.now)) result }
 {
-    task_of(alloc, after_name(words))
+    request_of(alloc, after_name(words))
 }
 
 // Returns the words after the first one, which is the program's name.

@@ -181,7 +181,7 @@ fn takes_value(name: &[u8]) -> bool
     ensures { result ≡ tips.takes_value name.now }
 {
     is_one_of(
-        "--ids --ring --rounds --channels --near --far --forbid --problem --workers --segments --place --base",
+        "--ids --ring --rounds --channels --near --far --forbid --problem --workers --segments --place --base --format",
         name,
     )
 }
@@ -549,6 +549,7 @@ fn is_all_capitals(name: &[u8]) -> bool
         || name == b"--SEGMENTS".as_slice()
         || name == b"--PLACE".as_slice()
         || name == b"--BASE".as_slice()
+        || name == b"--FORMAT".as_slice()
 }
 
 // Returns whether this is the name of an option with a capital as its first letter.
@@ -567,6 +568,7 @@ fn has_first_capital(name: &[u8]) -> bool
         || name == b"--Segments".as_slice()
         || name == b"--Place".as_slice()
         || name == b"--Base".as_slice()
+        || name == b"--Format".as_slice()
 }
 
 // Returns whether a word is the name of an option with one minus sign.
@@ -586,6 +588,7 @@ fn has_one_minus(word: &str) -> bool
         || name == b"-segments".as_slice()
         || name == b"-place".as_slice()
         || name == b"-base".as_slice()
+        || name == b"-format".as_slice()
 }
 
 // Returns whether a word begins with a dash.

@@ -104,7 +104,7 @@ fn argument_advice(command: &[u8], word: &str) -> Option<&'static str> {
 fn has_colon(name: &[u8]) -> bool {
     name.contains(&b':')
         && is_one_of(
-            "--ids --ring --rounds --channels --near --far --forbid --problem --workers --segments --place --base",
+            "--ids --ring --rounds --channels --near --far --forbid --problem --workers --segments --place --base --format",
             part_before(name, b':'),
         )
 }
@@ -115,10 +115,14 @@ fn few_options_line(text: &str, command: &[u8], word: &str) -> Option<&'static s
         return None;
     }
     if is_one_of("migrate", command) {
-        return Some("nbhd: `nbhd migrate` has no options; it writes the newest version only");
+        return Some(
+            "nbhd: `nbhd migrate` has no other option than `--format`; it writes the newest version only",
+        );
     }
     if is_one_of("audit", command) {
-        return Some("nbhd: `nbhd audit` has no other options than `--forbid` and `--problem`");
+        return Some(
+            "nbhd: `nbhd audit` has no other options than `--forbid`, `--problem` and `--format`",
+        );
     }
     None
 }
@@ -126,7 +130,7 @@ fn few_options_line(text: &str, command: &[u8], word: &str) -> Option<&'static s
 // Returns whether this is the name of an option without its minus signs.
 fn is_bare_option(word: &[u8]) -> bool {
     is_one_of(
-        "ids ring rounds channels near far forbid problem workers segments place base",
+        "ids ring rounds channels near far forbid problem workers segments place base format",
         word,
     )
 }
@@ -173,7 +177,7 @@ fn number_advice(command: &[u8], word: &[u8]) -> &'static str {
         return line_of(command, b"--ids");
     }
     if is_one_of("print migrate", command) {
-        return "nbhd: this command has no options, and its text is read from standard input";
+        return "nbhd: this command takes no number, and its text is read from standard input";
     }
     "nbhd: each number is the value of an option, as in `--ids 8`"
 }

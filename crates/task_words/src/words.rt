@@ -1,7 +1,7 @@
 //! The words of the command line.
 
 ghost use Rattle.std.specs.Prelude.{◌≡◌, ◌≢◌, map, IfOk, string_bytes};
-ghost use Rattle.task_words.specs.ParsedWords.{IsParsedFrom, IsUnread};
+ghost use Rattle.task_words.specs.ParsedWords.{IsParsedFrom, IsRequestFrom, IsUnread};
 ghost use Rattle.task_words.specs.WordsFault.{IsNotUtf8};
 ghost use Rattle.task_words.specs.declared.words.WordsFault.TheVariants.{OutOfMemory};
 ghost use Rattle.std.specs.IoError.{error_kind};
@@ -9,6 +9,7 @@ ghost use Rattle.std.specs.IoError.{error_kind};
 use crate::demand_fault::DemandFault;
 use crate::options::Call;
 use crate::parsing::parsed;
+use crate::request::Request;
 use crate::task::Task;
 use std::alloc::{AllocError, AllocFailed, Global};
 use std::io;
@@ -18,7 +19,7 @@ use thiserror::Error;
 /// The text for words that are not UTF-8.
 const NOT_UTF8: &str = "nbhd: words are not UTF-8\n";
 
-/// Why words give no task.
+/// Why words give no request.
 #[derive(Debug, Drop, Error)]
 pub enum WordsFault {
     /// The words are not a command. The text describes their fault, and ends with a line feed.
@@ -87,22 +88,37 @@ pub fn words_fault(alloc: Global, error: io::Error) -> Result<WordsFault, AllocE
     }
 }
 
-/// Returns the task that the words after the program's name request, by the rules of `clap`: the
-/// name of a command, and its options in any order, each use with one value. The table of commands is in
-/// `commands.rt`. The value of `--ring` is a ring text, those of `--forbid` are pattern texts, that of
-/// `--problem` is the name of a problem, and any other one is a decimal number in the range of its
-/// option. Patterns, a problem by its name, and `--near` or `--far` exclude one another.
+/// Returns what the words after the program's name request, a task and the form of its report, by the
+/// rules of `clap`: the name of a command, and its options in any order, each use with one value. The
+/// table of commands is in `commands.rt`. The value of `--ring` is a ring text, those of `--forbid` are
+/// pattern texts, that of `--problem` is the name of a problem, that of `--format` is `lines` or `json`,
+/// and any other one is a decimal number in the range of its option. Patterns, a problem by its name, and
+/// `--near` or `--far` exclude one another.
 ///
-/// Fails with `Usage` if `clap` refuses the words, with `BadRing` if it accepts them but the value
-/// of `--ring` is not a ring text, with `BadDemand` and the cause if it accepts them but the values
-/// of these options are no demand, with `Help` if they ask for help, and with `OutOfMemory` if memory
-/// was refused.
-pub fn task_of(alloc: Global, words: &[String]) -> Result<Task, WordsFault>
-    ensures { IsParsedFrom (map string_bytes words.now) result }
+/// The report is in JSON exactly if the value of `--format` is `json`, so a command without that option
+/// has lines.
+///
+/// Fails with `Usage` if `clap` refuses the words, or if it accepts them but the value of `--format` is
+/// neither `lines` nor `json`. Of words that are a command by this it fails with `BadRing` if the value of
+/// `--ring` is not a ring text, and with `BadDemand` and the cause if the values of the options that demand
+/// something are no demand. It fails with `Help` if the words ask for help, and with `OutOfMemory` if
+/// memory was refused.
+pub fn request_of(alloc: Global, words: &[String]) -> Result<Request, WordsFault>
+    ensures { IsRequestFrom (map string_bytes words.now) result }
 {
     let matches = parsed(alloc, words)?;
     match matches.subcommand() {
-        Some((name, options)) => Call { name, options }.task(alloc),
+        Some((name, options)) => Call { name, options }.request(alloc),
         None => unreachable!(),
+    }
+}
+
+/// Returns the task that the words after the program's name request. Fails as `request_of` does.
+pub fn task_of(alloc: Global, words: &[String]) -> Result<Task, WordsFault>
+    ensures { IsParsedFrom (map string_bytes words.now) result }
+{
+    match request_of(alloc, words) {
+        Ok(request) => Ok(request.task),
+        Err(fault) => Err(fault),
     }
 }
