@@ -4,7 +4,7 @@ use Rattle.std.specs.Prelude.{◌↔◌, Box, IfErr, IfOk, OnOk, IsErrOf, IsOk, 
 use Rattle.std.proofs.lemmas.Bool.Decides.{not_from_Decides}
 use Rattle.std.proofs.lemmas.Result.{IfOk-weaker}
 use Rattle.std.proofs.lemmas.Slice.Eq.{bytes_eq-Decides}
-use Rattle.clap.specs.Words.{Row, Text, found_of, rows_of, subcommand_name_of, subcommand_of, subcommand_rows, subcommand_rows_of}
+use Rattle.clap.specs.Words.{Row, Text, first_of, found_of, rows_of, subcommand_name_of, subcommand_of, subcommand_rows, subcommand_rows_of}
 use Rattle.clap.specs.declared.parser.matches.ArgMatches.{ArgMatches}
 use Rattle.clap.specs.declared.parser.matches.ArgMatches.TheViews.{out-ArgMatches, out-SubCommand}
 use Rattle.clap.specs.declared.parser.matches.SubCommand.{SubCommand}
@@ -12,15 +12,17 @@ use Rattle.std.specs.Box.{box_value}
 use Rattle.task_words.specs.CommandLine.{command_line}
 use Rattle.task_words.specs.DemandValues.{demand_fault}
 use Rattle.task_words.specs.Options.{IsCallFault, IsGoodCall, IsRequestFault}
-use Rattle.task_words.specs.Formats.{HasFormat, format_of}
+use Rattle.task_words.specs.Formats.{HasFormat, format_of, named_format}
 use Rattle.task_words.specs.ParsedWords.{IsParsedFrom, IsRequestFrom}
-use Rattle.task_words.specs.Task.{IsInRange}
+use Rattle.task_words.specs.Task.{IsFormula, IsInRange}
 use Rattle.task_words.specs.Words.{HasBadDemand, HasBadFormat, HasBadRing, IsAccepted, IsCallOf, IsCommand, IsDemandName, IsRingBad, IsRingName, IsTaskFor, IsTaskOf}
 use Rattle.task_words.specs.WordsFault.{IsFormatRefusal, IsHelp, IsUsage, MemoryAside}
 use Rattle.task_words.specs.declared.demand_fault.DemandFault.{DemandFault}
 use Rattle.task_words.specs.declared.format.Format.{Format}
+use Rattle.task_words.specs.declared.format.Format.TheVariants.{Lines}
 use Rattle.task_words.specs.declared.request.Request.{Request}
 use Rattle.task_words.specs.declared.task.Task.{Task}
+use Rattle.task_words.specs.declared.task.Task.TheVariants.{Formula}
 use Rattle.task_words.specs.declared.words.WordsFault.{WordsFault}
 use Rattle.task_words.specs.declared.words.WordsFault.TheVariants.{Usage, BadRing, BadDemand, OutOfMemory, Help}
 
@@ -201,17 +203,29 @@ no_bad_format : (words : List Text) (name : Text) (values : List Row) → IsCall
 unfolding IsFormlessMet
 no_bad_format words name values call known bad = known (subst IsFormlessMet (sym bad.2 ∙ call) bad.3)
 
+-- the report of a formula is in lines, since it is called without `--format`
+formula_named : (name : Text) (values : List Row) (task : Task) → IsTaskFor name values task → IsFormula task → name ≡ codes "formula"
+formula_named name values (Formula ids rounds channels demand) task is = task.0
+formula_named name values _ task is = absurd is
+
+only_lines : (values : List Row) (format : Format) → HasFormat values format → first_of (codes "format") values ≡ None → format ≡ Lines
+only_lines values format has none = same_form format (sym has ∙ ap named_format none)
+  where
+    same_form : (f : Format) → Some f ≡ Some Lines → f ≡ Lines
+    same_form f is = cc
+
 -- the result of the request of the call that was parsed is that of the words
 pub request_is : (r : Result Request WordsFault) (words : List Text) (name : Text) (values : List Row) → IsAccepted words → IsCallOf words name values
-    → IfOk r (λ request. IsTaskFor name values request.task) → IfOk r (λ request. IsInRange request.task)
+    → (name ≡ codes "formula" → first_of (codes "format") values ≡ None) → IfOk r (λ request. IsTaskFor name values request.task) → IfOk r (λ request. IsInRange request.task)
     → IfOk r (λ request. HasFormat values request.format) → OnOk r (IsGoodCall name values) → IfErr r (IsRequestFault name values) → IsRequestFrom words r
-request_is (Ok request) words name values accepted call task range format good refused =
+request_is (Ok request) words name values accepted call formless task range format good refused =
     let clean : IsCommand words = (accepted, no_bad_format words name values call (is_known values request.format format)) in
     record {
       task = parsed_is (Ok request.task) words name values clean call task range good tt;
       format = (name, values, call, format);
+      formula = λ is. only_lines values request.format format (formless (formula_named name values request.task task is));
     }
-request_is (Err OutOfMemory) words name values accepted call task range format good refused = record {
+request_is (Err OutOfMemory) words name values accepted call formless task range format good refused = record {
   task = record {
     task = tt;
     range = tt;
@@ -222,8 +236,9 @@ request_is (Err OutOfMemory) words name values accepted call task range format g
     help = λ help. let same = help.1 in cc;
   };
   format = tt;
+  formula = tt;
 }
-request_is (Err (Usage text)) words name values accepted call task range format good none =
+request_is (Err (Usage text)) words name values accepted call formless task range format good none =
     let bad : HasBadFormat words = (name, values, call, none) in
     record {
       task = record {
@@ -236,13 +251,16 @@ request_is (Err (Usage text)) words name values accepted call task range format 
         help = λ help. let same = help.1 in cc;
       };
       format = tt;
+      formula = tt;
     }
-request_is (Err BadRing) words name values accepted call task range format good (known, refused) = record {
+request_is (Err BadRing) words name values accepted call formless task range format good (known, refused) = record {
   task = parsed_is (Err BadRing) words name values (accepted, no_bad_format words name values call known) call task range good refused;
   format = tt;
+  formula = tt;
 }
-request_is (Err (BadDemand cause)) words name values accepted call task range format good (known, refused) = record {
+request_is (Err (BadDemand cause)) words name values accepted call formless task range format good (known, refused) = record {
   task = parsed_is (Err (BadDemand cause)) words name values (accepted, no_bad_format words name values call known) call task range good refused;
   format = tt;
+  formula = tt;
 }
-request_is (Err (Help text)) words name values accepted call task range format good refused = absurd refused
+request_is (Err (Help text)) words name values accepted call formless task range format good refused = absurd refused

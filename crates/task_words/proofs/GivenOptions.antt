@@ -1,10 +1,10 @@
 -- The values of the options of the command that is called, if `clap` accepts the words.
 use Rattle.std.proofs.Common.{◌≡◌, ℕ, Bool, true, false, true≢false, not, List, [], ◌∷◌, Option, Some, None, Result, inl, inr, pos, refl, sym, ◌∙◌, ap, subst, arith, codes, ◌<◌, ◌^◌}
-use Rattle.std.specs.Prelude.{◌||◌, ◌&&◌, ◌==◌, if◌then◌else◌}
+use Rattle.std.specs.Prelude.{◌||◌, ◌&&◌, ◌==◌, cond, find, is_none, option_and_then, slice_get, if◌then◌else◌}
 use Rattle.std.proofs.lemmas.Bool.{and_parts, or_left, or_right}
 use Rattle.std.proofs.lemmas.Bool.Decides.{Decides-ltb, Decides-eqb}
 use Rattle.std.proofs.lemmas.Slice.Eq.{bytes_eq-Decides}
-use Rattle.std.specs.List.{list_any}
+use Rattle.std.specs.List.{list_all, list_any}
 use Rattle.std.specs.Option.{IsSomeAnd}
 use Rattle.std.specs.Str.{bytes_eq}
 use Rattle.std.specs.Str.Parse.{ParsesUnsigned, ExplainsUnsignedError, HasUnsignedDigitsIfOk}
@@ -12,12 +12,15 @@ use Rattle.std.specs.declared.num.ParseIntError.{ParseIntError}
 use Rattle.clap.specs.Facts.{parser_of_value}
 use Rattle.clap.specs.declared.parser.matches.Found.{Found}
 use Rattle.clap.specs.Words.{Accepts, IsSignedIn, ReadsOne, Row, Rule, Shape, Text, fault_of, first_of, one_of, one_text, read_as, reading_of, rows_of, subcommand_of, without_minus}
+use Rattle.clap.specs.Simple.{built}
+use Rattle.clap.specs.Walk.{arg_by_id}
 use Rattle.clap.proofs.CallerReads.{signed_reads}
 use Rattle.clap.proofs.WalkLemmas.{one_text-rows}
 use Rattle.clap.specs.declared.builder.value_parser.ValueParser.{ValueParser}
 use Rattle.clap.specs.declared.builder.value_parser.ValueParser.TheVariants.{Signed}
 use Rattle.task_words.specs.OptionLines.{HasValue, HaveValues, IsOneOf, is_always_given, is_option_line}
-use Rattle.task_words.proofs.OwnSubcommands.{options_have_values}
+use Rattle.task_words.proofs.OptionRows.{AreRowsOf}
+use Rattle.task_words.proofs.OwnSubcommands.{IsMet, options_have_values}
 use Rattle.task_words.specs.CommandLine.{command_line}
 use Rattle.task_words.specs.Options.{IsBetween, IsNamed, IsTaken, is_parser_of, is_rule_of, names_with}
 use Rattle.task_words.specs.Words.{HasNumber, IsRingName}
@@ -171,15 +174,59 @@ ring_given name rows one on_ring =
 is_line : is_option_line command_line ≡ true
 is_line = refl
 
+-- whether a command has another name than `formula`, or no option `--format`
+abbrev lacks_format : Shape → Bool
+lacks_format s = not (bytes_eq s.name (codes "formula")) || is_none (arg_by_id s.rules (codes "format"))
+
+each_lacks : list_all lacks_format (built command_line).subs ≡ true
+each_lacks = refl
+
 -- if `clap` accepts the words, they name one of the commands, whose options have their values
-taken : (words : List Text) → fault_of command_line words ≡ [] → IsSomeAnd (subcommand_of command_line words) (λ met. IsOneOf command_line.subs met.0 met.1)
-taken words clean = options_have_values command_line words is_line clean
+abbrev IsMetHere : Text × List Row → Type 0
+IsMetHere met = IsMet lacks_format command_line.subs met.0 met.1
+
+taken : (words : List Text) → fault_of command_line words ≡ [] → IsSomeAnd (subcommand_of command_line words) IsMetHere
+taken words clean = options_have_values command_line words is_line clean lacks_format each_lacks
+
+met_here : (words : List Text) (name : Text) (values : List Row) → fault_of command_line words ≡ [] → subcommand_of command_line words ≡ Some (name, values)
+    → IsMetHere (name, values)
+met_here words name values clean met = subst (λ o. IsSomeAnd o IsMetHere) met (taken words clean)
 
 pub command_given : (words : List Text) (name : Text) (values : List Row) → fault_of command_line words ≡ []
     → subcommand_of command_line words ≡ Some (name, values) → IsOneOf command_line.subs name values
-command_given words name values clean met =
-    subst (λ o. IsSomeAnd o (λ (p : Text × List Row). IsOneOf command_line.subs p.0 p.1)) met (taken words clean)
+command_given words name values clean met = (met_here words name values clean met).0
 
 pub some_command : (words : List Text) → fault_of command_line words ≡ [] → subcommand_of command_line words ≡ None → ⊥
-some_command words clean met =
-    subst (λ o. IsSomeAnd o (λ (p : Text × List Row). IsOneOf command_line.subs p.0 p.1)) met (taken words clean)
+some_command words clean met = subst (λ o. IsSomeAnd o IsMetHere) met (taken words clean)
+
+-- ---- the form of a report
+
+-- an option that a command lacks has no row
+no_row : (rules : List Rule) (id : Text) (rows : List Row) → arg_by_id rules id ≡ None → AreRowsOf rules rows → find (λ row. bytes_eq row.id id) rows ≡ None
+no_row rules id [] none are = refl
+no_row rules id (row ∷ rows) none are = go (bytes_eq row.id id) refl (no_row rules id rows none are.1)
+  where
+    no_rule : (rule : Rule) → None ≡ Some rule → ⊥
+    no_rule rule is = cc
+
+    go : (b : Bool) → bytes_eq row.id id ≡ b → find (λ other. bytes_eq other.id id) rows ≡ None → cond b (Some row) (find (λ other. bytes_eq other.id id) rows) ≡ None
+    go true is next = absurd (no_rule are.0.0 (sym none ∙ ap (arg_by_id rules) (sym ((bytes_eq-Decides row.id id).0 is)) ∙ are.0.1))
+    go false is next = next
+
+lacking : (s : Shape) → lacks_format s ≡ true → s.name ≡ codes "formula" → arg_by_id s.rules (codes "format") ≡ None
+lacking s test named = none_is (arg_by_id s.rules (codes "format")) (go (bytes_eq s.name (codes "formula")) ((bytes_eq-Decides s.name (codes "formula")).1 named) test)
+  where
+    none_is : (o : Option Rule) → is_none o ≡ true → o ≡ None
+    none_is None is = refl
+    none_is (Some rule) is = absurd (true≢false (sym is))
+
+    go : (b : Bool) → b ≡ true → (not b || is_none (arg_by_id s.rules (codes "format"))) ≡ true → is_none (arg_by_id s.rules (codes "format")) ≡ true
+    go true is passes = passes
+    go false is passes = absurd (true≢false (sym is))
+
+-- a formula is called without `--format`
+pub no_format_given : (words : List Text) (name : Text) (values : List Row) → fault_of command_line words ≡ []
+    → subcommand_of command_line words ≡ Some (name, values) → name ≡ codes "formula" → first_of (codes "format") values ≡ None
+no_format_given words name values clean met is =
+    let (s, passes, named, are) = (met_here words name values clean met).1 in
+    ap (option_and_then (λ (row : Row). slice_get row.values 0)) (no_row s.rules (codes "format") values (lacking s passes (named ∙ is)) are)

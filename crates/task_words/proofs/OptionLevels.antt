@@ -229,8 +229,9 @@ module _ (c : List Rule) (rows : List Row) (good : AreRowsOf c rows) where
       let parts = either_false (a.required && not (is_given a.id rows)) (list_any (λ x. x.required && not (is_given x.id rows)) rest) required in
       (one_value a plain.0 parts.0 defaults.0, each_value rest plain.1 parts.1 defaults.1)
 
--- if a subcommand's level has no fault, its options have their values
-pub level_values : (s : Shape) (words : List Text) → has_plain_options s ≡ true → level_fault s [] nothing_held words false [] ≡ [] → HaveValues s.rules (rows_after s.rules [] words)
+-- if a subcommand's level has no fault, its options have their values, and there are no others
+pub level_values : (s : Shape) (words : List Text) → has_plain_options s ≡ true → level_fault s [] nothing_held words false [] ≡ []
+    → HaveValues s.rules (rows_after s.rules [] words) × AreRowsOf s.rules (rows_after s.rules [] words)
 level_values s words options e =
     let plain = plain_options s options in
     let again = s.args_override_self in
@@ -243,4 +244,4 @@ level_values s words options e =
     let held = held_good s.rules plain again last b.0 (walk_good s [] plain (walk_from nothing_held) words a.0 tt) in
     let good = defaults_good s.rules s.rules (settled s.rules last).rows plain d.0 held in
     let required = not_both s.subcommand_negates_reqs _ (wants_no_argument _ _ _ d.1) in
-    each_value s.rules rows good s.rules plain required (defaults_in s.rules (settled s.rules last).rows)
+    (each_value s.rules rows good s.rules plain required (defaults_in s.rules (settled s.rules last).rows), good)

@@ -18,7 +18,7 @@ use Rattle.clap.specs.declared.builder.value_parser.ValueParser.{ValueParser}
 use Rattle.clap.proofs.WalkLemmas.{both}
 use Rattle.clap.proofs.SimpleLemmas.{is_false}
 use Rattle.task_words.specs.OptionLines.{HasValue, HaveValues, IsOneOf, gets_help, has_plain_options, is_always_given, is_option_line, is_made_of_options, is_made_with_values, is_named_help, is_plain_subcommand, has_values}
-use Rattle.task_words.proofs.OptionRows.{same_some, split_or}
+use Rattle.task_words.proofs.OptionRows.{AreRowsOf, same_some, split_or}
 use Rattle.task_words.proofs.OptionLevels.{level_values, or_more}
 use Rattle.task_words.proofs.Stops.{IsNotHelp, StopsAtNoHelp, walk_stops}
 
@@ -140,29 +140,42 @@ there_where_required : (a b : Bool) → (not a && b) ≡ false → b ≡ true �
 there_where_required true b e required = refl
 there_where_required false b e required = absurd (true≢false (sym required ∙ e))
 
-module _ (own : List Shape) (above : Shape) (a : App) (same : a.subs ≡ all above own) (options : list_all is_made_of_options own ≡ true) (plain : list_all is_plain_subcommand a.subs ≡ true) where
+-- the rows are of options of a built subcommand with this name that passes a test
+abbrev pub AreRowsWith : (Shape → Bool) → Text → List Row → Type 0
+AreRowsWith test name rows = (s : Shape) × (test s ≡ true) × (s.name ≡ name) × AreRowsOf s.rules rows
+
+-- the subcommand of this name is the caller's own, and its options have their values in the rows, which are those of one that
+-- passes a test
+abbrev pub IsMet : (Shape → Bool) → List Shape → Text → List Row → Type 0
+IsMet test own name rows = IsOneOf own name rows × AreRowsWith test name rows
+
+module _ (own : List Shape) (above : Shape) (a : App) (same : a.subs ≡ all above own) (options : list_all is_made_of_options own ≡ true)
+    (plain : list_all is_plain_subcommand a.subs ≡ true) (test : Shape → Bool) (each : list_all test a.subs ≡ true) where
   found_one : (p : Text × List Text) (s : Shape) → IsNotHelp p.0 → find (λ x. answers_to p.0 (label_of x)) a.subs ≡ Some s → level_fault s [] nothing_held p.1 false [] ≡ []
-      → IsOneOf own s.name (rows_after s.rules [] p.1)
+      → IsMet test own s.name (rows_after s.rules [] p.1)
   found_one p s named found e =
       let passes = found_passes is_plain_subcommand (λ x. answers_to p.0 (label_of x)) a.subs s plain found in
       let parts = both (is_empty s.aliases) (is_named_help s || has_plain_options s) passes.0 in
       let other : IsNotHelp s.name = subst IsNotHelp (sym (only_name s p.0 parts.0 passes.1)) named in
       let own_options : has_plain_options s ≡ true = rw other at parts.1 in
-      own_found above own (λ x. answers_to p.0 (label_of x)) s (rows_after s.rules [] p.1) (sym (ap (find (λ x. answers_to p.0 (label_of x))) same) ∙ found) other options
-      (level_values s p.1 own_options e)
+      let level = level_values s p.1 own_options e in
+      let rows = rows_after s.rules [] p.1 in (
+        own_found above own (λ x. answers_to p.0 (label_of x)) s rows (sym (ap (find (λ x. answers_to p.0 (label_of x))) same) ∙ found) other options level.0,
+        (s, (found_passes test (λ x. answers_to p.0 (label_of x)) a.subs s each found).0, refl, level.1),
+      )
 
-  entered_one : (stop : Option (Text × List Text)) → StopsAtNoHelp stop → entered_fault a stop ≡ [] → is_some (entered a stop) ≡ true → IsSomeAnd (entered a stop) (λ met. IsOneOf own met.0 met.1)
+  entered_one : (stop : Option (Text × List Text)) → StopsAtNoHelp stop → entered_fault a stop ≡ [] → is_some (entered a stop) ≡ true → IsSomeAnd (entered a stop) (λ met. IsMet test own met.0 met.1)
   entered_one None named e some = absurd (true≢false (sym some))
   entered_one (Some p) named e some = go (find (λ x. answers_to p.0 (label_of x)) a.subs) refl e some
     where
       go : (o : Option Shape) → find (λ x. answers_to p.0 (label_of x)) a.subs ≡ o → option_map_or (λ s. level_fault s [] nothing_held p.1 false []) o [] ≡ []
-          → is_some (option_map (λ s. rows_at s p.1) o) ≡ true → IsSomeAnd (option_map (λ s. rows_at s p.1) o) (λ met. IsOneOf own met.0 met.1)
+          → is_some (option_map (λ s. rows_at s p.1) o) ≡ true → IsSomeAnd (option_map (λ s. rows_at s p.1) o) (λ met. IsMet test own met.0 met.1)
       go None found f has = absurd (true≢false (sym has))
       go (Some s) found f has = found_one p s named found f
 
   -- the parse of the built command, if it has no fault
   met_one : a.top.disable_help_subcommand ≡ false → a.top.subcommand_required ≡ true → (words : List Text) → built_fault a nothing_held words ≡ []
-      → IsSomeAnd (entered a (stop_after a.top.rules (names_of a) words)) (λ met. IsOneOf own met.0 met.1)
+      → IsSomeAnd (entered a (stop_after a.top.rules (names_of a) words)) (λ met. IsMet test own met.0 met.1)
   met_one enabled required words e =
       let stop = (walk a.top.rules (names_of a) nothing_held words).stopped in
       let last = (walk a.top.rules (names_of a) nothing_held words).held in
@@ -190,15 +203,15 @@ built_requires : (app : App) → app.top.is_built ≡ false → (app.top.is_leaf
 built_requires app fresh helps = rw (fresh, helps) refl
 
 -- If the words have no fault, a subcommand of the caller's was given, and each of its options that is required or has a
--- default has a value that its parser accepts.
-pub options_have_values : (app : App) (words : List Text) → is_option_line app ≡ true → fault_of app words ≡ []
-    → IsSomeAnd (subcommand_of app words) (λ met. IsOneOf app.subs met.0 met.1)
-options_have_values app words line taken =
+-- default has a value that its parser accepts. It has no other options, so it passes a test that all subcommands pass.
+pub options_have_values : (app : App) (words : List Text) → is_option_line app ≡ true → fault_of app words ≡ [] → (test : Shape → Bool)
+    → list_all test (built app).subs ≡ true → IsSomeAnd (subcommand_of app words) (λ met. IsMet test app.subs met.0 met.1)
+options_have_values app words line taken test each =
     let gets = both (gets_help app) (app.top.subcommand_required && (list_all is_made_of_options app.subs && list_all is_plain_subcommand (built app).subs)) line in
     let needs = both app.top.subcommand_required (list_all is_made_of_options app.subs && list_all is_plain_subcommand (built app).subs) gets.1 in
     let subs = both (list_all is_made_of_options app.subs) (list_all is_plain_subcommand (built app).subs) needs.1 in
     let new = both (not app.top.is_built) (not (app.top.is_leaf || app.top.disable_help_subcommand)) gets.0 in
     let fresh = is_false app.top.is_built new.0 in
     let helps = is_false (app.top.is_leaf || app.top.disable_help_subcommand) new.1 in
-    met_one app.subs (with_leaf_noted (marked_built app.top)) (built app) (built_subs app fresh helps) subs.0 subs.1 (built_helps app fresh helps)
+    met_one app.subs (with_leaf_noted (marked_built app.top)) (built app) (built_subs app fresh helps) subs.0 subs.1 test each (built_helps app fresh helps)
     (built_requires app fresh helps ∙ needs.0) (argument_words app words) taken

@@ -6,12 +6,13 @@ use Rattle.clap.specs.Words.{Text}
 use Rattle.task_words.specs.PatternTips.{demand_line, pattern_tip}
 use Rattle.task_words.specs.RingText.{IsRingText}
 use Rattle.task_words.specs.RingTips.{IsRingTip, ring_word}
-use Rattle.task_words.specs.Task.{IsInRange}
+use Rattle.task_words.specs.Task.{IsFormula, IsInRange}
 use Rattle.task_words.specs.Tips.{tip_line, usage_tip}
 use Rattle.task_words.specs.Words.{IsCommand, AsksForHelp, IsFormatOf, IsRefused, HasBadDemand, HasBadRing, IsTaskOf}
 use Rattle.task_words.specs.WordsFault.{MemoryAside, IsUsage, IsHelp, IsNotUtf8}
 use Rattle.task_words.specs.declared.demand_fault.DemandFault.{DemandFault}
 use Rattle.task_words.specs.declared.demand_fault.DemandFault.TheVariants.{BadPattern}
+use Rattle.task_words.specs.declared.format.Format.TheVariants.{Lines}
 use Rattle.task_words.specs.declared.request.Request.{Request}
 use Rattle.task_words.specs.declared.task.Task.{Task}
 use Rattle.task_words.specs.declared.words.WordsFault.{WordsFault}
@@ -33,11 +34,12 @@ abbrev pub task_in : Result Request WordsFault → Result Task WordsFault
 task_in (Ok request) = Ok request.task
 task_in (Err fault) = Err fault
 
--- What `request_of` returns for these words: a request with their task and the form of its report, or the fault for which they
--- have no task.
+-- What `request_of` returns for these words: a request with their task and the form of its report, which for a formula is
+-- lines, or the fault for which they have no task.
 pub record IsRequestFrom (words : List Text) (result : Result Request WordsFault) : Type 0 where
   pub task : IsParsedFrom words (task_in result)
   pub format : IfOk result (λ request. IsFormatOf words request.format)
+  pub formula : IfOk result (λ request. IsFormula request.task → request.format ≡ Lines)
 
 -- the words of the process were not read: one is not UTF-8, or memory was refused
 abbrev pub IsUnread : WordsFault → Type 0

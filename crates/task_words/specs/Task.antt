@@ -14,6 +14,11 @@ abbrev pub segments_of : Task → ℕ
 segments_of (Run ids ring segments) = segments
 segments_of _ = 1
 
+-- the task is to print a formula
+abbrev pub IsFormula : Task → Type 0
+IsFormula (Formula ids rounds channels demand) = ⊤
+IsFormula _ = ⊥
+
 -- the problem has 1 to MAX_PATTERNS patterns
 pub record HasFewPatterns (problem : Problem) : Type 0 where
   pub some : 1 ≤ length (patterns_of problem)

@@ -1,5 +1,5 @@
 use Rattle.std.proofs.Common.{◌≡◌, ◌∙◌, ap, codes, subst, sym, None, Option, Some}
-use Rattle.clap.specs.Words.{Text, first_of, first_value, found_of, rows_of}
+use Rattle.clap.specs.Words.{Text, first_value, found_of, rows_of}
 use Rattle.clap.specs.declared.parser.matches.Found.{Found}
 use Rattle.clap.proofs.WalkLemmas.{first_value-rows}
 use Rattle.task_words.specs.Formats.{format_of, named_format}
