@@ -6,8 +6,8 @@ use Rattle.devices.specs.declared.fault.EngineFault.TheVariants.{Read, Write, Me
 use Rattle.devices.specs.Output.{AppendsFront}
 use Rattle.table_formula.specs.declared.fault.RefuteError.TheVariants as refute
 use Rattle.reports.specs.Findings.{Fault, of_segments, of_formula, of_refutation, Finding, refused}
-use Rattle.reports.specs.declared.line.Line.{Line}
-use Rattle.reports.specs.declared.line.Line.TheVariants as line
+use Rattle.reports.specs.declared.fault_line.Line.{Line}
+use Rattle.reports.specs.declared.fault_line.Line.TheVariants as line
 
 -- what a fault leaves in the writer of a report of these bytes: after Write a prefix of it, after each other fault nothing
 abbrev pub LeavesFront : List ℕ → (before after : Option (List ℕ)) → EngineFault → Type 0

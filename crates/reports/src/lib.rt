@@ -2,13 +2,15 @@
 //! and how one is written.
 #![tactic(auto)]
 
+mod codes;
 pub mod fault;
+mod fault_line;
 pub mod finding;
 mod formula_lines;
 pub mod formulas;
 pub mod judgement;
-mod line;
 mod lines;
+pub mod pattern_places;
 pub mod places;
 pub mod problem;
 pub mod problem_judgement;

@@ -1,27 +1,23 @@
 //! Lines of the report. Each call fails only if memory was refused.
 
-ghost use Rattle.std.specs.Prelude.{◌≡◌, ◌+◌, ◌^◌, ◌<◌, [], ◌∷◌, ◌++◌, length, slice_index, IfOk, OnErr, OnOk, string_bytes};
+ghost use Rattle.std.specs.Prelude.{◌≡◌, ◌+◌, ◌^◌, ◌<◌, [], ◌∷◌, ◌++◌, length, slice_index, IfOk, OnOk, string_bytes};
 ghost use Rattle.node_lang.specs.Printed.{printed};
 ghost use Rattle.reports.specs.Lines.{line, numbers_text};
 ghost use Rattle.reports.specs.Bytes as report;
-ghost use Rattle.reports.specs.Bytes.{bytes_of, fault_line};
-ghost use Rattle.reports.specs.Written.{bytes_in, NeedsMemory};
-ghost use Rattle.reports.specs.Findings.{answer_of, fault_of};
+ghost use Rattle.reports.specs.Bytes.{bytes_of};
+ghost use Rattle.reports.specs.Findings.{answer_of};
 
-use crate::fault::Fault;
 use crate::finding::Answer;
-use crate::formula_lines::{formula_fault_line, refutation_fault_line, refuted_line};
-use crate::line::Line;
-use lang_check::CheckFault;
+use crate::formula_lines::refuted_line;
+use crate::pattern_places::{places_of, shown_len};
 use nbhd_check::{PatternWitness, Separation, Witness};
-use node_lang::{FaultKind, Program, TextFault, print};
+use node_lang::{Program, print};
 use node_program::OutOfMemory;
 use source_places::write_joined;
 use std::alloc::{AllocError, Global};
 use std::fmt::Write;
-use table_text::TableFault;
 use value_trees::{explanation_text, trace_text};
-use win_index::{Ring, RingFault};
+use win_index::Ring;
 
 // Returns a line of numbers in decimal, separated by single blanks and followed by a line feed.
 fn numbers_line(alloc: Global, numbers: &[u32]) -> Result<String, OutOfMemory>
@@ -31,99 +27,6 @@ fn numbers_line(alloc: Global, numbers: &[u32]) -> Result<String, OutOfMemory>
     write_joined(&mut text, numbers, " ")?;
     text.push_str("\n")?;
     Ok(text)
-}
-
-// Returns the number of a kind of text fault.
-fn number_of(fault: FaultKind) -> u32
-    ensures { result ≡ report.kind_number fault }
-{
-    match fault {
-        FaultKind::TooLong => 1,
-        FaultKind::NotAscii => 2,
-        FaultKind::BadWord => 3,
-        FaultKind::NumberTooLarge => 4,
-        FaultKind::HeaderRange => 5,
-        FaultKind::Unexpected => 6,
-        FaultKind::TooDeep => 7,
-        FaultKind::TooManyNodes => 8,
-        FaultKind::EndOfText => 9,
-        FaultKind::OutOfMemory => 10,
-    }
-}
-
-// Returns the line of a text fault.
-fn text_fault_line(alloc: Global, fault: TextFault) -> Result<String, AllocError>
-    ensures { IfOk result (λ text. string_bytes text ≡ report.text_fault_line fault.kind fault.offset) }
-{
-    let number = number_of(fault.kind);
-    let offset = fault.offset;
-    format!(in alloc; "text fault N{number} at {offset}\n")
-}
-
-// Returns the line of a program that is not accepted.
-fn check_fault_line(alloc: Global, fault: CheckFault) -> Result<String, AllocError>
-    ensures { IfOk result (λ text. string_bytes text ≡ report.check_fault_line fault) }
-{
-    match fault {
-        CheckFault::IdsOutOfRange => String::from_str(alloc, "check fault X1\n"),
-        CheckFault::TooManyWindows => String::from_str(alloc, "check fault X2\n"),
-        CheckFault::RegisterOutOfRange(register) => {
-            format!(in alloc; "check fault C1 register {register}\n")
-        }
-        CheckFault::IdOutsideStart => String::from_str(alloc, "check fault C2\n"),
-        CheckFault::MessageOutsideStep => String::from_str(alloc, "check fault C3\n"),
-        CheckFault::ChannelBound(bound) => format!(in alloc; "check fault C4 bound {bound}\n"),
-    }
-}
-
-// Returns the line of a list that is not a ring.
-fn ring_fault_line(alloc: Global, fault: RingFault) -> Result<String, AllocError>
-    ensures { IfOk result (λ text. string_bytes text ≡ report.ring_fault_line fault) }
-{
-    match fault {
-        RingFault::TooShort => String::from_str(alloc, "ring fault G1\n"),
-        RingFault::TooLong => String::from_str(alloc, "ring fault G2\n"),
-        RingFault::IdTooLarge(place) => format!(in alloc; "ring fault G3 place {place}\n"),
-        RingFault::Repeated(first, second) => {
-            format!(in alloc; "ring fault G4 places {first} {second}\n")
-        }
-    }
-}
-
-// Returns the line of a place that a ring has not.
-fn place_fault_line(alloc: Global, place: u32) -> Result<String, AllocError>
-    ensures { IfOk result (λ text. string_bytes text ≡ report.place_fault_line place) }
-{
-    format!(in alloc; "ring fault G5 place {place}\n")
-}
-
-// Returns the line of a text that is not a table text, or an empty text for `OutOfMemory`.
-fn table_fault_line(alloc: Global, fault: TableFault) -> Result<String, AllocError>
-    ensures { IfOk result (λ text. string_bytes text ≡ report.table_fault_line fault) }
-{
-    match fault {
-        TableFault::Syntax(offset) => format!(in alloc; "table fault A1 at {offset}\n"),
-        TableFault::WrongWindow(line) => format!(in alloc; "table fault A2 line {line}\n"),
-        TableFault::ChannelTooLarge(line) => format!(in alloc; "table fault A3 line {line}\n"),
-        TableFault::OutOfMemory => Ok(String::new(alloc)),
-    }
-}
-
-// Returns the line of a refusal.
-pub(crate) fn line_of(alloc: Global, fault: &Fault) -> Result<Line, AllocError>
-    ensures line { IfOk result (λ line. bytes_in line ≡ fault_line (fault_of fault.now)) }
-    ensures memory { OnErr result (NeedsMemory (fault_of fault.now)) }
-{
-    match fault {
-        Fault::Text(fault) => Ok(Line::Made(text_fault_line(alloc, *fault)?)),
-        Fault::Program { fault, .. } => Ok(Line::Made(check_fault_line(alloc, *fault)?)),
-        Fault::Ring { fault, .. } => Ok(Line::Made(ring_fault_line(alloc, *fault)?)),
-        Fault::Place { place, .. } => Ok(Line::Made(place_fault_line(alloc, *place)?)),
-        Fault::Segments { .. } => Ok(Line::Fixed("segments fault E1\n")),
-        Fault::TableText(fault) => Ok(Line::Made(table_fault_line(alloc, *fault)?)),
-        Fault::Formula { fault, .. } => Ok(Line::Fixed(formula_fault_line(*fault))),
-        Fault::Refutation(fault) => refutation_fault_line(alloc, *fault),
-    }
 }
 
 // Returns the lines of an answer.
@@ -221,8 +124,8 @@ fn broken_line(alloc: Global, witness: &PatternWitness) -> Result<String, AllocE
     ensures { IfOk result (λ text. string_bytes text
         ≡ report.broken_line witness.now.ring.items witness.now.place witness.now.channels witness.now.pattern) }
 {
-    let count = witness.pattern.span().max(2) as usize;
-    let places = places_from(&witness.ring, witness.place);
+    let count = shown_len(witness.pattern);
+    let places = places_of(witness);
     let (first, second, third) = witness.channels;
     let channels = [first, second, third];
     let mut text = String::new(alloc);
@@ -234,21 +137,6 @@ fn broken_line(alloc: Global, witness: &PatternWitness) -> Result<String, AllocE
     write_joined(&mut text, &channels[..count], " ")?;
     text.push_str("\n")?;
     Ok(text)
-}
-
-// Returns three places of a ring, from this one on.
-fn places_from(ring: &[u32], place: u32) -> [u32; 3]
-    requires place { place + 2 < 2 ^ 32 }
-    requires some { 0 < length ring.now }
-    ensures { result ≡ report.places_from ring.now place 3 }
-{
-    let len = ring.len();
-    let place = place as usize;
-    [
-        (place % len) as u32,
-        ((place + 1) % len) as u32,
-        ((place + 2) % len) as u32,
-    ]
 }
 
 // Returns the lines of a ring's places with these channels.

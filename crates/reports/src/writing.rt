@@ -10,7 +10,8 @@ ghost use Rattle.reports.specs.Written.{MayLackMemory, WritesBytes};
 
 use crate::fault::Fault;
 use crate::finding::{Answer, Finding, TableReport};
-use crate::lines::{line_of, text_of};
+use crate::fault_line::line_of;
+use crate::lines::text_of;
 use devices::fault::{EngineFault, OutFault};
 use devices::output::send;
 use devices::watched::Watched;
