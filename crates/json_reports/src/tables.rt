@@ -1,0 +1,146 @@
+//! Writing a table as JSON.
+
+ghost use Rattle.devices.specs.Output.{SendsText};
+ghost use Rattle.devices.specs.Watched.{device_of, has_failed};
+ghost use Rattle.devices.specs.declared.chunk.TheConstants.{CHUNK_LEN};
+ghost use Rattle.json_reports.specs.Json.{size_fields, table_fields, table_head};
+ghost use Rattle.json_reports.specs.Puts.{PutsFields};
+ghost use Rattle.json_reports.specs.Reports.{IsRead};
+ghost use Rattle.json_reports.specs.TableTexts.{entry_text, head_text, rest_text, table_json};
+ghost use Rattle.json_reports.specs.Values.{object_of};
+ghost use Rattle.reports.specs.Written.{WritesBytes};
+ghost use Rattle.std.specs.Prelude.{◌≡◌, ◌+◌, ◌≤◌, ◌++◌, ◌∷◌, [], IfOk, OnOk, drop, false, length};
+
+use crate::answers::{put_separation, put_sizes};
+use crate::fields::put_text;
+use channel_tables::{Separation, Table};
+use devices::chunk::Chunk;
+use devices::fault::EngineFault;
+use devices::output::send;
+use devices::watched::Watched;
+use itoa::write_digits;
+use json::Writer;
+use reports::finding::TableReport;
+use std::alloc::{AllocError, Global};
+use std::io::Write;
+
+// The maximum length of the text of a channel: a comma and five digits.
+const ENTRY_LEN: usize = 6;
+
+// Writes the JSON text of a table and a separation, and a line feed.
+//
+// Fails with `Write` exactly if a write failed or took no byte, and a prefix was written then; with
+// `Memory` if memory was refused, and nothing was written then.
+pub(crate) fn write_table<W: Write>(
+    alloc: Global,
+    report: &TableReport,
+    writer: &mut Watched<W>,
+) -> Result<(), EngineFault>
+    requires { has_failed writer.old ≡ false }
+    ensures writes { WritesBytes (table_json report.now.table report.now.separation) (W.contents (device_of writer.old)) (W.contents (device_of writer.new)) (has_failed writer.new) result }
+    ensures reads { OnOk result (IsRead (object_of (table_fields report.now.table report.now.separation))) }
+{
+    let head = head_text(alloc, &report.table, report.separation)?;
+    let mut chunk = Chunk::new(alloc)?;
+    write_parts(writer, &head, &mut chunk, report.table.entries())
+}
+
+// Returns the text of a table up to the channel of its first window.
+fn head_text(alloc: Global, table: &Table, separation: Separation) -> Result<Vec<u8>, AllocError>
+    ensures { IfOk result (λ bytes. bytes.items ≡ head_text table.now separation) }
+{
+    let mut writer = Writer::new(Vec::new(alloc));
+    writer.begin_object()?;
+    put_table_head(&mut writer, table, separation)?;
+    writer.key("entries")?;
+    writer.begin_array()?;
+    if let [first, ..] = table.entries() {
+        writer.u64(u64::from(*first))?;
+    }
+    Ok(writer.into_inner())
+}
+
+// Appends the members of a table but for the channels of its windows.
+fn put_table_head(
+    writer: &mut Writer,
+    table: &Table,
+    separation: Separation,
+) -> Result<(), AllocError>
+    ensures { PutsFields result writer.old writer.new (table_head table.now separation) }
+{
+    put_text(writer, "kind", "table")?;
+    put_table_sizes(writer, table)?;
+    put_separation(writer, separation)
+}
+
+// Appends the numbers of identifiers, rounds and channels of a table.
+fn put_table_sizes(writer: &mut Writer, table: &Table) -> Result<(), AllocError>
+    ensures { PutsFields result writer.old writer.new (size_fields table.now.ids table.now.rounds table.now.channels) }
+{
+    let shape = table.shape();
+    put_sizes(writer, shape.ids(), shape.rounds(), table.channels())
+}
+
+// Writes the head of a table, and the channels of all windows but the first one.
+fn write_parts<W: Write>(
+    writer: &mut Watched<W>,
+    head: &[u8],
+    chunk: &mut Chunk,
+    entries: &[u16],
+) -> Result<(), EngineFault>
+    requires working { has_failed writer.old ≡ false }
+    requires empty { chunk.old ≡ [] }
+    ensures { SendsText (head.now ++ rest_text (drop 1 entries.now)) (W.contents (device_of writer.old)) (W.contents (device_of writer.new)) (has_failed writer.new) result }
+{
+    send(writer, head)?;
+    write_rest(writer, chunk, others(entries))
+}
+
+// Returns all but the first one.
+fn others(entries: &[u16]) -> &[u16]
+    ensures { result.now ≡ drop 1 entries.entry.now }
+{
+    match entries {
+        [_first, others @ ..] => others,
+        [] => entries,
+    }
+}
+
+// Writes these channels, each after a comma, and the end of the table.
+fn write_rest<W: Write>(
+    writer: &mut Watched<W>,
+    chunk: &mut Chunk,
+    entries: &[u16],
+) -> Result<(), EngineFault>
+    requires working { has_failed writer.old ≡ false }
+    requires empty { chunk.old ≡ [] }
+    ensures { SendsText (rest_text entries.now) (W.contents (device_of writer.old)) (W.contents (device_of writer.new)) (has_failed writer.new) result }
+{
+    for entry in entries {
+        chunk.make_room(ENTRY_LEN, writer)?;
+        push_entry(chunk, *entry);
+    }
+    chunk.make_room(3, writer)?;
+    chunk.push(b"]}\n");
+    chunk.send(writer)
+}
+
+// Appends a comma and a channel.
+fn push_entry(chunk: &mut Chunk, entry: u16)
+    requires { length chunk.old + ENTRY_LEN ≤ CHUNK_LEN }
+    ensures { chunk.new ≡ chunk.old ++ entry_text entry }
+{
+    let mut bytes = [0; ENTRY_LEN];
+    let start = write_entry(entry, &mut bytes);
+    chunk.push(&bytes[start..]);
+}
+
+// Writes a comma and a channel at the end of the bytes, and returns where they start.
+fn write_entry(entry: u16, bytes: &mut [u8; ENTRY_LEN]) -> usize
+    ensures start { result ≤ ENTRY_LEN }
+    ensures text { drop result bytes.new ≡ entry_text entry }
+{
+    let start = write_digits(u64::from(entry), bytes, ENTRY_LEN);
+    bytes[start - 1] = b',';
+    start - 1
+}
