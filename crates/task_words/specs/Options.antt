@@ -38,7 +38,7 @@ IsCallFault name values OutOfMemory = ⊤
 IsCallFault name values _ = ⊥
 
 -- why the command of this name with these values has no request, unless memory was refused: the value of `--format` is neither
--- `lines` nor `json`, or it is not for that, but there is no task
+-- `lines` nor `json`, or it is fine, but there is no task
 abbrev pub IsRequestFault : Text → List Row → WordsFault → Type 0
 IsRequestFault name values (Usage text) = format_of values ≡ None
 IsRequestFault name values BadRing = (¬ (format_of values ≡ None)) × IsCallFault name values BadRing

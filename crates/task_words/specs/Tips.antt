@@ -189,7 +189,7 @@ is_all_capitals name =
     bytes_eq name (codes "--IDS") || (bytes_eq name (codes "--RING") || (bytes_eq name (codes "--ROUNDS")
     || (bytes_eq name (codes "--CHANNELS") || (bytes_eq name (codes "--NEAR") || (bytes_eq name (codes "--FAR")
     || (bytes_eq name (codes "--FORBID") || (bytes_eq name (codes "--PROBLEM") || (bytes_eq name (codes "--WORKERS")
-    || (bytes_eq name (codes "--SEGMENTS") || (bytes_eq name (codes "--PLACE") || ((bytes_eq name (codes "--BASE") || bytes_eq name (codes "--FORMAT")))))))))))))
+    || (bytes_eq name (codes "--SEGMENTS") || (bytes_eq name (codes "--PLACE") || (bytes_eq name (codes "--BASE") || bytes_eq name (codes "--FORMAT"))))))))))))
 
 -- whether this is the name of an option with a capital as its first letter
 abbrev pub has_first_capital : List ℕ → Bool
@@ -197,7 +197,7 @@ has_first_capital name =
     bytes_eq name (codes "--Ids") || (bytes_eq name (codes "--Ring") || (bytes_eq name (codes "--Rounds")
     || (bytes_eq name (codes "--Channels") || (bytes_eq name (codes "--Near") || (bytes_eq name (codes "--Far")
     || (bytes_eq name (codes "--Forbid") || (bytes_eq name (codes "--Problem") || (bytes_eq name (codes "--Workers")
-    || (bytes_eq name (codes "--Segments") || (bytes_eq name (codes "--Place") || ((bytes_eq name (codes "--Base") || bytes_eq name (codes "--Format")))))))))))))
+    || (bytes_eq name (codes "--Segments") || (bytes_eq name (codes "--Place") || (bytes_eq name (codes "--Base") || bytes_eq name (codes "--Format"))))))))))))
 
 -- whether a word is the name of an option in capitals, or with a capital
 abbrev pub is_in_capitals : List ℕ → Bool
@@ -209,7 +209,7 @@ is_minus_name name =
     bytes_eq name (codes "-ids") || (bytes_eq name (codes "-ring") || (bytes_eq name (codes "-rounds")
     || (bytes_eq name (codes "-channels") || (bytes_eq name (codes "-near") || (bytes_eq name (codes "-far")
     || (bytes_eq name (codes "-forbid") || (bytes_eq name (codes "-problem") || (bytes_eq name (codes "-workers")
-    || (bytes_eq name (codes "-segments") || (bytes_eq name (codes "-place") || ((bytes_eq name (codes "-base") || bytes_eq name (codes "-format")))))))))))))
+    || (bytes_eq name (codes "-segments") || (bytes_eq name (codes "-place") || (bytes_eq name (codes "-base") || bytes_eq name (codes "-format"))))))))))))
 
 abbrev pub has_one_minus : List ℕ → Bool
 has_one_minus word = is_minus_name (name_part word)

@@ -1,6 +1,7 @@
 -- Faults of words, and the exit status after them.
-use Rattle.std.specs.Prelude.{◌≡◌, ◌⊎◌, ℕ, Option, Some, None, Result, Err, IfErr, String, codes, option_map, string_bytes}
+use Rattle.std.specs.Prelude.{◌≡◌, ◌⊎◌, ℕ, List, Option, Some, None, Result, Err, IfErr, String, codes, option_map, string_bytes}
 use Rattle.std.specs.declared.alloc.Global.{Global}
+use Rattle.task_words.specs.Formats.{format_text}
 use Rattle.task_words.specs.declared.demand_fault.DemandFault.{DemandFault}
 use Rattle.task_words.specs.declared.demand_fault.DemandFault.TheVariants.{BadPattern}
 use Rattle.task_words.specs.declared.demand_fault.PatternFault.{PatternFault}
@@ -24,9 +25,13 @@ IsDemandRefusal cause fault = (fault ≡ OutOfMemory) ⊎ ((known : DemandFault)
 abbrev pub IsPatternRefusal : Option PatternFault → WordsFault → Type 0
 IsPatternRefusal cause fault = IsDemandRefusal (option_map BadPattern cause) fault
 
--- the fault is OutOfMemory, or Usage, if no form of a report is named
+-- the fault is OutOfMemory, or Usage, where no form of a report is named
 abbrev pub IsFormatRefusal : Option Format → WordsFault → Type 0
 IsFormatRefusal format fault = (fault ≡ OutOfMemory) ⊎ ((text : String Global) × (fault ≡ Usage text) × (format ≡ None))
+
+-- the fault is OutOfMemory, or Usage with the text on this value of `--format`
+abbrev pub IsUnknownFormat : List ℕ → WordsFault → Type 0
+IsUnknownFormat name fault = (fault ≡ OutOfMemory) ⊎ ((text : String Global) × (fault ≡ Usage text) × (string_bytes text ≡ format_text name))
 
 -- the result is a fault of usage
 abbrev pub IsUsage : {T : Type 0} → Result T WordsFault → Type 0

@@ -1,13 +1,13 @@
 //! The request of a command, from the values of its options.
 
-ghost use Rattle.std.specs.Prelude.{◌≡◌, ◌⊎◌, ◌↔◌, None, IsTrue, IfErr, IfOk, IfSome, OnOk, codes};
+ghost use Rattle.std.specs.Prelude.{◌≡◌, ◌⊎◌, ◌↔◌, IsTrue, IfErr, IfOk, IfSome, OnOk, codes, string_bytes};
 ghost use Rattle.task_words.specs.Counts.{IsFar, IsNear};
 ghost use Rattle.task_words.specs.DemandValues.{IsProblemIn};
-ghost use Rattle.task_words.specs.Formats.{HasFormat, format_of};
+ghost use Rattle.task_words.specs.Formats.{HasFormat, format_of, format_text};
 ghost use Rattle.task_words.specs.Options.{IsBetween, IsCall, IsCallFault, IsGoodCall, IsRequestFault, IsSeparationName, IsTaken, values_of};
 ghost use Rattle.task_words.specs.Task.{HasFewPatterns, IsDemandInRange, IsInRange};
 ghost use Rattle.task_words.specs.Words.{HasNumber, HasRing, IsDemandFor, IsDemandName, IsRingBad, IsRingName, IsTaskFor};
-ghost use Rattle.task_words.specs.WordsFault.{FailsBy, IsFormatRefusal};
+ghost use Rattle.task_words.specs.WordsFault.{FailsBy, IsFormatRefusal, IsUnknownFormat};
 
 use crate::demands::problem_of;
 use crate::format::{Format, format_named};
@@ -22,7 +22,7 @@ use channel_tables::Separation;
 use clap::ArgMatches;
 use numerals::Base;
 use ring_problems::{Demand, Problem};
-use std::alloc::Global;
+use std::alloc::{AllocError, Global};
 
 // A call of a command: its name, and the values of its options.
 #[derive(Clone, Copy)]
@@ -31,14 +31,21 @@ pub(crate) struct Call<'a, 'w> {
     pub(crate) options: &'a ArgMatches<'w>,
 }
 
-// Returns the fault of words with this value of `--format`, which is the name of no form. Its text is as
-// that of `clap` on such a value.
-fn unknown_format(alloc: Global, name: &str) -> WordsFault
-    ensures { IsFormatRefusal None result }
+// Returns the text on this value of `--format`, which is the name of no form: as that of `clap` on such a
+// value.
+fn format_text(alloc: Global, name: &str) -> Result<String, AllocError>
+    ensures { IfOk result (λ text. string_bytes text ≡ format_text name.now) }
 {
-    match format!(in alloc;
+    format!(in alloc;
         "error: invalid value '{name}' for '--format <FORMAT>'\n  [possible values: lines, json]\n\nFor more information, try '--help'.\n"
-    ) {
+    )
+}
+
+// Returns the fault of words with this value of `--format`, which is the name of no form.
+fn unknown_format(alloc: Global, name: &str) -> WordsFault
+    ensures { IsUnknownFormat name.now result }
+{
+    match format_text(alloc, name) {
         Ok(text) => WordsFault::Usage(text),
         Err(_) => WordsFault::OutOfMemory,
     }
