@@ -19,7 +19,7 @@ pub struct TreePart<'p> {
     pub expression: &'p Expr,
     /// Its value.
     pub value: u32,
-    /// Whether it counts: it is no branch that is not taken.
+    /// Whether it counts: false for a branch that is not taken.
     pub counts: bool,
 }
 

@@ -62,7 +62,7 @@ fn rounds_of(
         ≡ rounds_rows places.old.program places.old.places) }
     ensures done { OnOk result (places.new ≡ record places.old { round = length places.old.program.steps }) }
 {
-    let mut rounds = Vec::new(alloc);
+    let mut rounds = Vec::with_capacity(alloc, count as usize)?;
     for _round in 0..count {
         rounds.push(next_round(alloc, places)?)?;
     }
@@ -92,7 +92,7 @@ fn registers_of(alloc: Global, places: &Configuration<'_>) -> Result<Vec<Vec<u32
     ensures { IfOk result (λ rows. items_of rows.items
         ≡ register_rows places.now.program places.now.places places.now.round) }
 {
-    let mut rows = Vec::new(alloc);
+    let mut rows = Vec::with_capacity(alloc, places.registers() as usize)?;
     for register in 0..places.registers() {
         rows.push(numbers_of(alloc, places, Reading::Register(register))?)?;
     }
@@ -108,7 +108,7 @@ fn numbers_of(
     requires { CanRead places.now what }
     ensures { IfOk result (λ numbers. numbers.items ≡ of_places places.now.places (reading places.now what)) }
 {
-    let mut numbers = Vec::new(alloc);
+    let mut numbers = Vec::with_capacity(alloc, places.places() as usize)?;
     for place in 0..places.places() {
         numbers.push(places.reading(what, place))?;
     }

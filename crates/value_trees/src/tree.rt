@@ -29,7 +29,7 @@ pub(crate) fn write_parts(
 fn values_of(alloc: Global, parts: &[TreePart<'_>]) -> Result<Vec<u32>, AllocError>
     ensures { IfOk result (λ values. values.items ≡ part_values (map part_value parts.now)) }
 {
-    let mut values = Vec::new(alloc);
+    let mut values = Vec::with_capacity(alloc, parts.len())?;
     'parts: for part in parts {
         values.push(part.value)?;
     }

@@ -1,5 +1,4 @@
 use Rattle.std.proofs.Common.{ℕ, List, slice_index}
-use Rattle.std.specs.Prelude.{Vec}
 use Rattle.node_program.specs.GlobalRounds.{state}
 use Rattle.value_trees.specs.Rows.{of_places}
 use Rattle.value_trees.proofs.Rows.{one_more}

@@ -1,4 +1,4 @@
-use Rattle.std.proofs.Common.{ap, append_assoc}
+use Rattle.std.proofs.Common.{append_assoc}
 use Rattle.node_lang.proofs.Writing.{next_item}
 use Rattle.value_trees.proofs.trace_lines.write_registers.Goals as goal
 
