@@ -94,9 +94,8 @@ fn write_details(out: &mut String, fault: &Fault) -> Result<(), AllocError>
         Fault::Ring { fault, .. } => write_ring_details(out, *fault),
         Fault::Place { place, .. } => write!(out, " place {place}"),
         Fault::TableText(TableFault::Syntax(offset)) => write!(out, " at {offset}"),
-        Fault::TableText(
-            TableFault::WrongWindow(line) | TableFault::ChannelTooLarge(line),
-        ) => write!(out, " line {line}"),
+        Fault::TableText(TableFault::WrongWindow(line) | TableFault::ChannelTooLarge(line)) =>
+            write!(out, " line {line}"),
         Fault::Refutation(RefuteError::At { line, .. }) => write!(out, " line {line}"),
         Fault::TableText(TableFault::OutOfMemory)
         | Fault::Refutation(RefuteError::TooLong | RefuteError::OutOfMemory)

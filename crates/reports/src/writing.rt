@@ -9,8 +9,8 @@ ghost use Rattle.reports.specs.Findings.{answer_of, fault_of, value_of, refused}
 ghost use Rattle.reports.specs.Written.{MayLackMemory, WritesBytes};
 
 use crate::fault::Fault;
-use crate::finding::{Answer, Finding, TableReport};
 use crate::fault_line::line_of;
+use crate::finding::{Answer, Finding, TableReport};
 use crate::lines::text_of;
 use devices::fault::{EngineFault, OutFault};
 use devices::output::send;
