@@ -1,2 +1,3 @@
-pub mod Found
+pub mod Left
+pub mod OfInput
 pub mod Workers

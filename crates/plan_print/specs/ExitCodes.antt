@@ -11,6 +11,7 @@ use Rattle.devices.specs.declared.fault.EngineFault.TheVariants.{Write}
 use Rattle.task_words.specs.ParsedWords.{IsParsed}
 use Rattle.task_words.specs.Task.{IsRunnable}
 use Rattle.task_words.specs.WordsFault.{words_fault_code}
+use Rattle.task_words.specs.declared.request.Request.{Request}
 use Rattle.task_words.specs.declared.task.Task.{Task}
 use Rattle.task_words.specs.declared.words.WordsFault.{WordsFault}
 use Rattle.task_words.specs.declared.words.WordsFault.TheVariants.{Usage, BadRing, BadDemand, OutOfMemory, Help}
@@ -47,10 +48,11 @@ IsStatusAfter BadRing status = status ≡ words_fault_code BadRing
 IsStatusAfter (BadDemand f) status = status ≡ words_fault_code (BadDemand f)
 IsStatusAfter OutOfMemory status = status ≡ words_fault_code OutOfMemory
 
--- the status after words that were parsed: that of a task, or that of the fault
-abbrev pub IsStatusFor : Result Task WordsFault → ℕ → Type 0
-IsStatusFor parsed status = MatchResult parsed (λ task. IsStatusOf task status) (λ fault. IsStatusAfter fault status)
+-- the status after words that were parsed: that of the task that is requested, or that of the fault
+abbrev pub IsStatusFor : Result Request WordsFault → ℕ → Type 0
+IsStatusFor parsed status = MatchResult parsed (λ request. IsStatusOf request.task status) (λ fault. IsStatusAfter fault status)
 
 -- the status is one after some words: of a task that they request and that can be done, or of their fault
 abbrev pub IsExitStatus : ℕ → Type 0
-IsExitStatus status = (parsed : Result Task WordsFault) × IsParsed parsed × IfOk parsed IsRunnable × IsStatusFor parsed status
+IsExitStatus status =
+    (parsed : Result Request WordsFault) × IsParsed parsed × IfOk parsed (λ request. IsRunnable request.task) × IsStatusFor parsed status

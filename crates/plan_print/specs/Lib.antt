@@ -43,6 +43,10 @@ pub use Rattle.reports.specs.Findings
 pub use Rattle.reports.specs.Bytes
 pub mod Notes
 pub use Rattle.reports.specs.Written
+pub use Rattle.json_reports.specs.Values
+pub use Rattle.json_reports.specs.Json
+pub use Rattle.json_reports.specs.Reports
+pub mod Formats
 pub mod FirstTuples
 pub mod Engine
 pub mod ReportedFaults

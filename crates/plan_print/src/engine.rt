@@ -2,10 +2,11 @@
 
 ghost use Rattle.std.specs.Prelude.{◌≡◌, false};
 ghost use Rattle.task_words.specs.Task.{IsRunnable};
+ghost use Rattle.task_words.specs.declared.format.Format.TheVariants.{Lines};
 ghost use Rattle.devices.specs.Watched.{has_failed};
 ghost use Rattle.plan_print.specs.Engine.{max_read, streams_of, DoesTask, WritesReport, TellsReport};
 
-use crate::note::note_on;
+use crate::found::Found;
 use crate::report::report_of;
 use channel_tables::one_witness;
 use devices::fault::EngineFault;
@@ -14,13 +15,14 @@ use devices::watched::Watched;
 use node_lang::LONGEST_TEXT;
 use node_program::OutOfMemory;
 use reports::status::Status;
-use reports::writing::write_finding;
 use std::alloc::Global;
 use std::io::{Read, Write};
 use std::sync::Wait;
 use std::thread::Threads;
 use table_formula::LONGEST_REFUTATION;
 use table_text::LONGEST_TABLE_TEXT;
+use task_words::format::Format;
+use task_words::request::Request;
 use task_words::task::Task;
 
 /// Reads the input of a task and writes its report. Returns the report's status.
@@ -44,9 +46,13 @@ pub fn engine<T: Threads + Wait + Sync, R: Read, W: Write>(
     requires runnable { IsRunnable task }
     requires reads { has_failed reader.old ≡ false }
     requires writes { has_failed writer.old ≡ false }
-    ensures { DoesTask task (streams_of R.remaining W.contents reader.old reader.new writer.old writer.new) WritesReport result }
+    ensures { DoesTask Lines task (streams_of R.remaining W.contents reader.old reader.new writer.old writer.new) WritesReport result }
 {
-    match engine_with_note(rt, alloc, task, reader, writer) {
+    let request = Request {
+        task,
+        format: Format::Lines,
+    };
+    match engine_with_note(rt, alloc, request, reader, writer) {
         Ok(reported) => Ok(reported.status),
         Err(fault) => Err(fault),
     }
@@ -61,28 +67,32 @@ pub struct Reported {
     pub note: Option<Result<String, OutOfMemory>>,
 }
 
-/// Does the same as `engine`, and returns the note on what was found, if it has one. The note is not
-/// written.
+/// Does the same as `engine`, with the report in the format that is requested, and returns the note on
+/// what was found, if it has one. The note is not written, but JSON has it too. If memory for it was
+/// refused, the report is written in lines, and in JSON the call fails with `Memory`.
 pub fn engine_with_note<T: Threads + Wait + Sync, R: Read, W: Write>(
     rt: &T,
     alloc: Global,
-    task: Task,
+    request: Request,
     reader: &mut Watched<R>,
     writer: &mut Watched<W>,
 ) -> Result<Reported, EngineFault>
-    requires runnable { IsRunnable task }
+    requires runnable { IsRunnable request.task }
     requires reads { has_failed reader.old ≡ false }
     requires writes { has_failed writer.old ≡ false }
-    ensures { DoesTask task (streams_of R.remaining W.contents reader.old reader.new writer.old writer.new) TellsReport result }
+    ensures { DoesTask request.format request.task (streams_of R.remaining W.contents reader.old reader.new writer.old writer.new) TellsReport result }
 {
     one_witness();
+    let Request { task, format } = request;
     let input = read_input(alloc, reader, max_read(&task))?;
     let finding = report_of(rt, alloc, task, &input)?;
-    write_finding(rt, alloc, &finding, writer)?;
-    Ok(Reported {
-        status: finding.status(),
-        note: note_on(alloc, &input, &finding),
-    })
+    let found = Found {
+        input: &input,
+        finding: &finding,
+    };
+    let note = found.write(rt, alloc, format, writer)?;
+    let status = finding.status();
+    Ok(Reported { status, note })
 }
 
 // Returns the maximum number of bytes that are read of the input of a task.

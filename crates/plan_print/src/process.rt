@@ -18,6 +18,7 @@ use std::io::{ErrorKind, IsTerminal, Read, Write};
 use std::rt::Env;
 use std::sync::Wait;
 use std::thread::Threads;
+use task_words::request::Request;
 use task_words::task::Task;
 use task_words::words::WordsFault;
 use task_words::{parse_request, print_words_fault};
@@ -32,27 +33,24 @@ where
     T::Reader: IsTerminal,
     ensures { IsExitStatus result }
 {
-    match parse_request(rt) {
-        Ok(request) => status_after(rt, Ok(request.task)),
-        Err(fault) => status_after(rt, Err(fault)),
-    }
+    status_after(rt, parse_request(rt))
 }
 
 // Does the task, or prints the fault of the words. Returns the exit status.
 fn status_after<T: AllocGlobal + Env + Input + Print + Eprint + Threads + Wait + Sync>(
     rt: &T,
-    parsed: Result<Task, WordsFault>,
+    parsed: Result<Request, WordsFault>,
 ) -> u8
 where
     T::Reader: IsTerminal,
-    requires { IfOk parsed IsRunnable }
+    requires { IfOk parsed (λ request. IsRunnable request.task) }
     ensures { IsStatusFor parsed result }
 {
     match parsed {
-        Ok(task) => {
-            tell_of_terminal(rt, &task);
+        Ok(request) => {
+            tell_of_terminal(rt, &request.task);
             let mut reader = Watched::new(rt.reader());
-            let answer = run_engine(rt, task, &mut reader);
+            let answer = run_engine(rt, request, &mut reader);
             let status = print_result(rt, answer);
             tell_of_folder(rt, reader.failure());
             status
@@ -124,16 +122,16 @@ fn write_text<W: Write>(writer: &mut Watched<W>, text: &str) -> Result<Status, E
     Ok(Status::Done)
 }
 
-// Runs the engine for a task on this input and standard output.
+// Runs the engine for what is requested on this input and standard output.
 fn run_engine<T: AllocGlobal + Print + Threads + Wait + Sync, R: Read>(
     rt: &T,
-    task: Task,
+    request: Request,
     reader: &mut Watched<R>,
 ) -> Result<Reported, EngineFault>
-    requires runnable { IsRunnable task }
+    requires runnable { IsRunnable request.task }
     requires working { has_failed reader.old ≡ false }
-    ensures { IsAnswerFor task result }
+    ensures { IsAnswerFor request.task result }
 {
     let mut writer = Watched::new(io::writer(rt));
-    engine_with_note(rt, rt.alloc(), task, reader, &mut writer)
+    engine_with_note(rt, rt.alloc(), request, reader, &mut writer)
 }

@@ -25,12 +25,6 @@ use Rattle.reports.specs.Findings as value
 use Rattle.reports.specs.ProblemFaults.{problem as numbered}
 use Rattle.task_words.specs.Task.{IsRunnable}
 use Rattle.plan_print.specs.TaskReport.{IsReport}
-use Rattle.devices.specs.Input.{GivesInput}
-use Rattle.devices.specs.declared.fault.EngineFault.{EngineFault}
-use Rattle.devices.specs.declared.fault.EngineFault.TheVariants as fault
-use Rattle.reports.specs.Bytes.{bytes_of}
-use Rattle.reports.specs.Written.{LeavesFront}
-use Rattle.plan_print.specs.Engine.{max_read, Streams, LeavesOutput}
 
 -- a finding that is this one is of the input if this one is
 its : (input : List ℕ) (f value : Finding) → f ≡ value → IsFound input value → IsFound input f
@@ -139,12 +133,3 @@ found placed (Formula ids rounds channels demand) able input f =
     in_either input _ _ f (in_refusal input (numbered ids rounds channels demand) able.0.few_rounds) (λ said. its input f _ said.1 tt)
 found placed (Refute ids rounds channels demand) able input f =
     in_refutation input input (numbered ids rounds channels demand) f able.0.few_rounds
-
--- what a fault of writing leaves is left of a report of the task
-pub left_after : (task : Task) (s : Streams) (input : List ℕ) (f : Finding) (e : EngineFault) → GivesInput s.unread s.left (max_read task) input
-    → IsReport task input f → LeavesFront (bytes_of f) s.before s.after e → LeavesOutput task s e
-left_after task s input f fault.Read read is left = left
-left_after task s input f fault.Write read is left = record { input = input; read = read; report = f; is_report = is; written = left }
-left_after task s input f fault.Memory read is left = left
-left_after task s input f fault.Thread read is left = left
-left_after task s input f fault.Stranger read is left = left
