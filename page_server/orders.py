@@ -16,6 +16,8 @@ COMMANDS = {
     "table": {"ids"},
     "apply": {"ring"},
 }
+# The option of each of them.
+FORM = {"format"}
 
 
 def words_and_text(body):
@@ -23,7 +25,7 @@ def words_and_text(body):
     try:
         asked = json.loads(body)
         command, options, text = asked["command"], asked["options"], asked["text"]
-        if command not in COMMANDS or not set(options) <= COMMANDS[command] or not isinstance(text, str):
+        if command not in COMMANDS or not set(options) <= COMMANDS[command] | FORM or not isinstance(text, str):
             raise ValueError
         words = [command]
         for name, value in options.items():

@@ -55,7 +55,8 @@ class Runs:
                 os.killpg(child.pid, signal.SIGKILL)
 
     def run(self, words, text, client_is_gone):
-        """The status, the standard output and the standard error of nbhd with these words and this input."""
+        """The status, the standard output and the standard error of nbhd with these words and this input. A status below 0 is that of
+        a signal that ended it."""
         child = self.start(words)
         try:
             # Early enough: nbhd reads its whole input before it computes, and has none of it yet. Setting the limits between fork and

@@ -134,6 +134,9 @@ def long_requests(server):
     STEPS.equal("two patterns", (answer[0], answer[1].get("out")), (200, nbhd(CV1, "judge", *words)))
     answer = server.run("judge", {"ids": "8", "problem": "mis"}, CV1)
     STEPS.equal("a problem", (answer[0], answer[1].get("out")), (200, nbhd(CV1, "judge", "--ids", "8", "--problem", "mis")))
+    answer = server.run("judge", {"ids": "8", "format": "json"}, CV1)
+    STEPS.equal("a report in JSON", (answer[0], answer[1].get("out")), (200, nbhd(CV1, "judge", "--ids", "8", "--format", "json")))
+    STEPS.equal("another format", server.run("check", {"ids": "8", "format": "xml"}, CV1)[1].get("status"), 2)
     linial = (ROOT / "examples/linial_poly.txt").read_text(encoding="ascii")
     refused = {"refused": "the output is longer than 8 MB"}
     STEPS.equal("a table over 8 MB", server.run("table", {"ids": "102"}, linial), (503, refused))
@@ -189,6 +192,7 @@ class Limits:
         STEPS.equal("a file", self.run("write")[1].get("out"), "stub\nrefused\n")
         STEPS.check("nothing is written", not WRITTEN.exists() or WRITTEN.stat().st_size == 0)
         WRITTEN.unlink(missing_ok=True)
+        STEPS.equal("the signals that end a run", [self.run(f"die {signal}")[1].get("status") for signal in (9, 15)], [-9, -15])
         STEPS.equal("an input that is not read", self.run("deaf " + "x" * 150000)[1].get("out"), "stub\n")
 
     def timed(self, name, text, status, least, most):

@@ -70,6 +70,8 @@ def server_parts():
     STEPS.equal("words and text", orders.words_and_text(body), (["trace", "--ids=8", "--ring=-h"], "\u00e9".encode()))
     body = b'{"command": "judge", "options": {"ids": "8", "forbid": ["0,0", "-h"]}, "text": ""}'
     STEPS.equal("words of patterns", orders.words_and_text(body), (["judge", "--ids=8", "--forbid=0,0", "--forbid=-h"], b""))
+    body = b'{"command": "apply", "options": {"ring": "0,1", "format": "json"}, "text": ""}'
+    STEPS.equal("the word of a format", orders.words_and_text(body), (["apply", "--ring=0,1", "--format=json"], b""))
     for broken in (b"", b"null", b'{"command": "table", "options": {"ring": "1"}, "text": ""}'):
         STEPS.equal(f"no words: {broken}", refused(orders.words_and_text, broken), 400)
     files = page_files(ROOT)
@@ -78,6 +80,7 @@ def server_parts():
     present = runs.Runs(STUB)
     here = lambda: False
     STEPS.equal("a run", present.run(["check"], b"echo", here), (0, b"stub\n['check']\n", b""))
+    STEPS.equal("a run that a signal ends", present.run([], b"die 9", here)[0], -9)
     STEPS.equal("a flood", refused(present.run, [], b"flood", here), 503)
     begin = time.monotonic()
     try:
