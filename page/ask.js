@@ -1,19 +1,38 @@
-// Requests to nbhd through the server. nbhd is deterministic, so the last answers are cached.
+// Requests to nbhd through the server. nbhd is deterministic, so its last reports are cached.
+
+import { reportOf } from "./report.js";
 
 const CACHED = 8;
-const answers = new Map();
+const reports = new Map();
 const latest = new Map();
 
 /**
- * Runs a command of nbhd on a text. Resolves to `{ status, out, note }`, to `{ refused }` where the server refuses the request or
- * stops the run, and to `undefined` where a newer request with the same `purpose` replaced this one.
+ * Runs a command of nbhd on a text. Resolves to its report, or to why there is none, as `reportOf` gives them, and to `undefined` where
+ * a newer request with the same `purpose` replaced this one.
  */
 export async function ask(purpose, command, options, text) {
-  const body = JSON.stringify({ command, options, text });
+  const body = JSON.stringify({ command, options: { ...options, format: "json" }, text });
+  drop(purpose);
+  if (reports.has(body)) return reports.get(body);
+  const answer = await send(purpose, body);
+  if (answer === undefined) return undefined;
+  const report = reportOf(command, answer);
+  if (!["stopped", "silent"].includes(report.kind)) cache(body, report);
+  return report;
+}
+
+/** Runs a command as `ask` does, and resolves to `{ status, out, note }` with the report in lines, or to `{ refused }`. */
+export const askLines = (purpose, command, options, text) => send(purpose, JSON.stringify({ command, options, text }));
+
+/** Aborts the open request of this purpose. */
+export function drop(purpose) {
   latest.get(purpose)?.abort();
+}
+
+async function send(purpose, body) {
+  drop(purpose);
   const control = new AbortController();
   latest.set(purpose, control);
-  if (answers.has(body)) return answers.get(body);
   for (;;) {
     try {
       const response = await fetch("nbhd", {
@@ -21,9 +40,7 @@ export async function ask(purpose, command, options, text) {
       });
       const answer = await response.json();
       showReachable(true);
-      if (control.signal.aborted) return undefined;
-      if (response.ok) cache(body, answer);
-      return answer;
+      return control.signal.aborted ? undefined : answer;
     } catch {
       if (control.signal.aborted) return undefined;
       showReachable(false);
@@ -33,14 +50,9 @@ export async function ask(purpose, command, options, text) {
   }
 }
 
-/** Aborts the open request of this purpose. */
-export function drop(purpose) {
-  latest.get(purpose)?.abort();
-}
-
-function cache(body, answer) {
-  answers.set(body, answer);
-  if (answers.size > CACHED) answers.delete(answers.keys().next().value);
+function cache(body, report) {
+  reports.set(body, report);
+  if (reports.size > CACHED) reports.delete(reports.keys().next().value);
 }
 
 /** Shows or hides the message that the server does not answer. */

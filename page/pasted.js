@@ -4,11 +4,10 @@ import { ask, drop } from "./ask.js";
 import { byId, coded } from "./dom.js";
 import { demandOf } from "./demand.js";
 import { change, state } from "./state.js";
-import { readRefusal } from "./faults.js";
+import { reasonOf } from "./faults.js";
 import { lookOf } from "./look.js";
 import { drawRing } from "./ring.js";
 import { whyNoRing, withCommas } from "./ring-text.js";
-import { readPlaces } from "./table.js";
 
 const field = byId("pasted-ring");
 const refused = byId("pasted-refused");
@@ -21,11 +20,9 @@ export async function updatePasted() {
   if (text === "") return show(null, "");
   const why = whyNoRing(state.ring);
   if (why) return show(null, why);
-  const answer = await ask("pasted", "apply", { ring: state.ring }, text);
-  if (answer === undefined) return undefined;
-  if (answer.status === 0) return show(readPlaces(answer.out), "");
-  const { line, note } = readRefusal(answer, text);
-  return show(null, [line, note].filter(Boolean).join(" – "));
+  const report = await ask("pasted", "apply", { ring: state.ring }, text);
+  if (report === undefined) return undefined;
+  return report.kind === "places" ? show(report, "") : show(null, reasonOf(report));
 }
 
 /** Shows the ring with its channels, or why there is none. */

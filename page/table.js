@@ -1,31 +1,16 @@
-// Reading the text of a table, and the lines of a ring's places.
+// The windows of a table with their channels, from the report of `nbhd table`.
 
-/** Reads a table text as `{ rounds, ids, windows, channels }`; a window is the text of its identifiers. */
-export function readTable(text) {
-  const lines = text.split("\n");
-  const header = lines[1].split(" ");
-  const windows = [];
-  const channels = [];
-  for (let i = 2; i < lines.length && lines[i] !== "end"; i += 1) {
-    const cut = lines[i].indexOf(" : ");
-    windows.push(lines[i].slice(0, cut));
-    channels.push(Number(lines[i].slice(cut + 3)));
+/** A table as `{ ids, windows, channels }`; a window is the list of its identifiers. */
+export const tableOf = ({ ids, rounds, entries }) => ({ ids, windows: windowsOf(ids, 2 * rounds + 1), channels: entries });
+
+/** All lists of so many distinct identifiers below `ids`, in lexicographic order. */
+export function windowsOf(ids, length) {
+  const identifiers = Array.from({ length: ids }, (_, i) => i);
+  let windows = [[]];
+  for (let i = 0; i < length; i += 1) {
+    windows = windows.flatMap((window) => identifiers.filter((next) => !window.includes(next)).map((next) => [...window, next]));
   }
-  return { rounds: Number(header[1]), ids: Number(header[3]), windows, channels };
-}
-
-/** Reads the lines of a ring's places as `{ ring, channels }`. */
-export function readPlaces(text) {
-  const rows = text.trimEnd().split("\n").map((line) => line.trim().split(/ +/).map(Number));
-  return { ring: rows.map((row) => row[1]), channels: rows.map((row) => row[2]) };
-}
-
-/** The least number of bytes of a table's lines: at each place of a window each identifier is equally often. */
-export function leastBytes({ ids, rounds, windows }) {
-  let digits = 0;
-  for (let identifier = 0; identifier < ids; identifier += 1) digits += String(identifier).length;
-  // After each identifier a blank; then a colon, a blank, a channel of one digit and the end of the line.
-  return windows * ((2 * rounds + 1) * (digits / ids + 1) + 4);
+  return windows;
 }
 
 /** The channels that occur, ascending, each with the number of its windows. */
@@ -37,14 +22,7 @@ export function countChannels(channels) {
 
 /** The edges of the neighbourhood graph as pairs of window numbers, from each window to those of its right neighbour. */
 export function edgesOf({ ids, windows }) {
-  const numbers = new Map(windows.map((window, i) => [window, i]));
-  const edges = [];
-  windows.forEach((window, from) => {
-    const identifiers = window.split(" ");
-    for (let next = 0; next < ids; next += 1) {
-      if (identifiers.includes(String(next))) continue;
-      edges.push([from, numbers.get([...identifiers.slice(1), next].join(" "))]);
-    }
-  });
-  return edges;
+  const numbers = new Map(windows.map((window, i) => [window.join(), i]));
+  return windows.flatMap((window, from) => Array.from({ length: ids }, (_, next) => next)
+    .filter((next) => !window.includes(next)).map((next) => [from, numbers.get([...window.slice(1), next].join())]));
 }

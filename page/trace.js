@@ -1,27 +1,17 @@
-// Reading the lines of `nbhd trace` as steps.
+// The steps of a run, from the report of `nbhd trace`.
 
 /**
  * The steps `{ kind, round, registers, left, right, channels }` of a trace: the start, a step that sends and one that assigns for
- * each round, and the finish. `registers[j][p]` is register `j` at place `p`. The line of the identifiers gives no step.
+ * each round, and the finish. `registers[j][p]` is register `j` at place `p`.
  */
-export function stepsOf(text) {
-  const rows = text.trim().split("\n").map((line) => line.split(" "));
-  const numbers = (row, from) => row.slice(from).map(Number);
-  const start = rows.filter((row) => row[0] === "start").map((row) => numbers(row, 2));
+export function stepsOf({ start, rounds, finish }) {
   const steps = [{ kind: "start", round: 0, registers: start }];
-  for (let round = 1; ; round += 1) {
-    const own = rows.filter((row) => row[0] === "round" && Number(row[1]) === round);
-    if (own.length === 0) break;
-    const sent = (way) => numbers(own.find((row) => row[2] === way), 3);
-    const before = steps.at(-1).registers;
-    const [left, right] = [sent("left"), sent("right")];
-    const after = own.filter((row) => /^r\d$/.test(row[2])).map((row) => numbers(row, 3));
-    steps.push({ kind: "send", round, registers: before, left, right });
-    steps.push({ kind: "assign", round, registers: after, before, left, right });
-  }
-  const finish = rows.find((row) => row[0] === "finish");
-  steps.push({ kind: "finish", round: steps.at(-1).round, registers: steps.at(-1).registers, channels: numbers(finish, 1) });
-  return steps;
+  rounds.forEach(({ left, right, registers }, i) => {
+    const [round, before] = [i + 1, steps.at(-1).registers];
+    steps.push({ kind: "send", round, registers: before, left, right }, { kind: "assign", round, registers, before, left, right });
+  });
+  const { round, registers } = steps.at(-1);
+  return [...steps, { kind: "finish", round, registers, channels: finish }];
 }
 
 export const nameOf = (step) =>

@@ -1,27 +1,27 @@
-// Reading the lines of `nbhd explain` as trees.
+// The trees of an explanation, from the report of `nbhd explain`.
 
 /**
- * The trees of an explanation, in the order of the text: each has its `head`, as `round 1 r0`, and its `parts` as
- * `{ depth, word, value, counts, number, end }`. A branch that is not taken does not count. Of the `words` of the program's expressions
- * the line of a part stands for those from `number` to before `end`: for one, or for all of a branch that is not taken.
+ * The trees of an explanation: each has the `kind` and the `round` of the step that it belongs to, its `head`, as `round 1 r0`, and its
+ * `parts` as `{ depth, word, value, taken, number, end }`. Of the `words` of the program's expressions a part stands for those from
+ * `number` to before `end`: for one, or for all of a branch that is not taken.
  */
-export function treesOf(text, words) {
-  const trees = [];
+export function treesOf({ trees }, words) {
   let number = 0;
-  for (const line of text.split("\n")) {
-    if (line === "") continue;
-    const depth = line.search(/\S/);
-    if (depth === 0) {
-      trees.push({ head: line.split(",")[0], parts: [] });
-      continue;
-    }
-    const [word, value, ...note] = line.trim().split(" ");
-    const counts = note.length === 0;
-    const end = number + (counts ? 1 : words[number]?.size ?? 1);
-    trees.at(-1).parts.push({ depth, word, value: Number(value), counts, number, end });
-    number = end;
-  }
-  return trees;
+  return trees.map(({ round, gives, parts }) => ({
+    ...placeOf(round, gives),
+    parts: parts.map((part) => {
+      const first = number;
+      number += part.taken ? 1 : words[first]?.size ?? 1;
+      return { ...part, number: first, end: number };
+    }),
+  }));
+}
+
+/** The step and the head of the tree of a value. */
+function placeOf(round, gives) {
+  if (gives === "finish") return { kind: "finish", round, head: gives };
+  if (gives === "left" || gives === "right") return { kind: "send", round, head: `round ${round} ${gives}` };
+  return round === 0 ? { kind: "start", round, head: `start ${gives}` } : { kind: "assign", round, head: `round ${round} ${gives}` };
 }
 
 /** The number behind the last part of the tree whose root is at `i`. */
@@ -37,8 +37,8 @@ export function branchesOf(parts) {
     if (word !== "if") return;
     const operands = [];
     for (let j = i + 1; j < endOf(parts, i); j += 1) if (parts[j].depth === depth + 1) operands.push(j);
-    // The first operand is the condition. An `if` that does not count itself has none here.
-    for (const j of operands.slice(1)) found[j] = parts[j].counts ? "taken" : "other";
+    // The first operand is the condition. An `if` that is not taken itself has none here.
+    for (const j of operands.slice(1)) found[j] = parts[j].taken ? "taken" : "other";
   });
   return found;
 }
@@ -48,19 +48,10 @@ export function branchesOf(parts) {
  * further that node is; `null` for other words.
  */
 export function sourceOf({ kind, round }, word) {
-  if (word === "L") return { kind: "send", round, head: `round ${round} right`, further: -1 };
-  if (word === "R") return { kind: "send", round, head: `round ${round} left`, further: 1 };
-  if (!/^r[0-9]$/.test(word)) return null;
-  const from = kind === "finish" ? round : round - 1;
-  return from === 0
-    ? { kind: "start", round: 0, head: `start ${word}`, further: 0 }
-    : { kind: "assign", round: from, head: `round ${from} ${word}`, further: 0 };
+  if (word === "L") return { ...placeOf(round, "right"), further: -1 };
+  if (word === "R") return { ...placeOf(round, "left"), further: 1 };
+  return /^r[0-9]$/.test(word) ? { ...placeOf(kind === "finish" ? round : round - 1, word), further: 0 } : null;
 }
 
 /** The trees that belong to a step of a run. */
-export function treesIn(trees, { kind, round }) {
-  const heads = {
-    start: /^start /, send: new RegExp(`^round ${round} (left|right)$`), assign: new RegExp(`^round ${round} r[0-9]`), finish: /^finish$/,
-  };
-  return trees.filter(({ head }) => heads[kind].test(head));
-}
+export const treesIn = (trees, { kind, round }) => trees.filter((tree) => tree.kind === kind && tree.round === round);

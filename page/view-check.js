@@ -3,39 +3,39 @@
 import { ask, drop } from "./ask.js";
 import { byId, coded, html } from "./dom.js";
 import { goToFault, markFault } from "./editor.js";
-import { readRefusal } from "./faults.js";
+import { refusalOf } from "./faults.js";
 import { whyNoNumber } from "./numbers.js";
 
 const box = byId("check");
+// What the other views say.
+const REFUSED = "The program is refused; the reason stands under its text.";
+const NOT_CHECKED = "The program could not be checked; the reason stands under its text.";
 
-/** Checks a text and shows the result. Resolves to `{ accepted }` or `{ refusal }`, or to `undefined` if a newer check began. */
+/**
+ * Checks a text and shows the result. Resolves to `{ accepted }` with the numbers of the program, to `{ refusal }` with what the other
+ * views say, or to `undefined` if a newer check began.
+ */
 export async function check({ text, ids }) {
   const note = whyNoNumber("ids", ids);
   byId("ids").setAttribute("aria-invalid", note !== null);
   drop("check");
-  if (note) return refuse({ line: "", note, at: null });
+  if (note) return refuse({ line: "", note, at: null }, REFUSED);
   box.classList.add("pending");
-  const answer = await ask("check", "check", { ids }, text);
-  if (answer === undefined) return undefined;
+  const report = await ask("check", "check", { ids }, text);
+  if (report === undefined) return undefined;
   box.classList.remove("pending");
-  if (answer.status !== 0) return refuse(readRefusal(answer, text));
+  if (report.kind !== "accepted") return refuse(refusalOf(report, text), isChecked(report) ? REFUSED : NOT_CHECKED);
   markFault(null);
-  const accepted = readAccepted(answer.out);
-  showAccepted(accepted);
-  return { accepted };
+  showAccepted(report);
+  return { accepted: report };
 }
 
-function refuse(refusal) {
-  markFault(refusal.at);
-  showRefusal(refusal);
+const isChecked = ({ kind }) => kind === "fault" || kind === "refused";
+
+function refuse(fault, refusal) {
+  markFault(fault.at);
+  showRefusal(fault, refusal);
   return { refusal };
-}
-
-function readAccepted(out) {
-  const words = out.trim().split(" ").slice(1);
-  const accepted = {};
-  for (let i = 0; i + 1 < words.length; i += 2) accepted[words[i]] = Number(words[i + 1]);
-  return accepted;
 }
 
 function showAccepted({ ids, rounds, channels, bound, windows }) {
@@ -52,12 +52,13 @@ function showAccepted({ ids, rounds, channels, bound, windows }) {
   );
 }
 
-function showRefusal({ code, line, note, at }) {
+function showRefusal({ code, line, note, at }, refusal) {
   box.className = "check bad";
+  const head = code ?? (refusal === REFUSED ? "Refused" : "Not checked");
   const where = at && `line ${at.row}, column ${at.column}`;
   const place = at && html("button", { type: "button", class: "place", onclick: goToFault }, where);
   box.replaceChildren(
-    html("p", { class: "headline" }, html("strong", {}, code ?? "Refused"), place && [" at ", place],
+    html("p", { class: "headline" }, html("strong", {}, head), place && [" at ", place],
       html("code", { class: "line" }, line)),
     ...(note ? [html("p", { class: "note" }, ...coded(note))] : []),
   );

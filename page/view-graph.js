@@ -3,12 +3,12 @@
 // problem is solved on every ring exactly if no path of two or three windows has channels that match a forbidden pattern.
 
 import { ask, drop } from "./ask.js";
-import { byId, html, point, svg } from "./dom.js";
+import { byId, coded, html, point, svg } from "./dom.js";
 import { change, state } from "./state.js";
 import { badge, badgeImage } from "./channels.js";
 import { demandOf, NO_PATTERNS, patternsText } from "./demand.js";
-import { edgesOf, readTable } from "./table.js";
-import { PROGRAM_REFUSED, readRefusal } from "./faults.js";
+import { reasonOf } from "./faults.js";
+import { edgesOf, tableOf } from "./table.js";
 import { wrongPaths } from "./paths.js";
 
 const MOST = 120;
@@ -26,7 +26,7 @@ export async function updateGraph(checked) {
   if (byId("graph-near").value !== near) byId("graph-near").value = near;
   byId("graph-near").setAttribute("aria-invalid", demand.why !== undefined);
   drop("table");
-  if (checked.refusal) return showNothing(PROGRAM_REFUSED);
+  if (checked.refusal) return showNothing(checked.refusal);
   if (demand.patterns === null) return showNothing(NO_PATTERNS);
   if (demand.why) return showNothing(demand.why);
   const { ids, windows, rounds } = checked.accepted;
@@ -36,10 +36,11 @@ export async function updateGraph(checked) {
     const tooMany = `${windows.toLocaleString("en")} windows are too many to draw: at most ${MOST} can be. `;
     return showNothing(tooMany, ...advice(rounds));
   }
-  const answer = await ask("table", "table", { ids: state.ids }, state.text);
-  if (answer === undefined) return undefined;
-  if (answer.status !== 0) return showNothing(readRefusal(answer, state.text).line);
-  return show(readTable(answer.out), demand);
+  const report = await ask("table", "table", { ids: state.ids }, state.text);
+  if (report === undefined) return undefined;
+  if (report.kind !== "table") return showNothing(...coded(reasonOf(report)));
+  const table = tableOf(report);
+  return show({ ...table, windows: table.windows.map((window) => window.join(" ")) }, edgesOf(table), demand);
 }
 
 /** Buttons for few identifiers, or where the rounds allow none of them, which programs have few enough windows. */
@@ -66,8 +67,8 @@ function showNothing(...why) {
   byId("edges").replaceChildren();
 }
 
-function show(table, demand) {
-  const edges = edgesOf(table);
+/** Shows the graph of a table, whose windows are texts here. */
+function show(table, edges, demand) {
   const paths = wrongPaths(table, edges, demand);
   sentence.className = "say";
   sentence.textContent = `${table.windows.length} windows, ${edges.length.toLocaleString("en")} edges. ${sentenceOn(paths.length, demand)}`;

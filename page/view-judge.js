@@ -8,11 +8,11 @@ import { drawNo } from "./drawings.js";
 import { change, exampleOf, state } from "./state.js";
 import { badgeImage } from "./channels.js";
 import { fewerChannels } from "./least.js";
-import { PROGRAM_REFUSED, readRefusal } from "./faults.js";
+import { reasonOf } from "./faults.js";
 import { channelsNamed, spanOf } from "./patterns.js";
 import { fewerRounds } from "./problems.js";
+import { sentencesOf } from "./report.js";
 import { drawTuple, WINDOWS } from "./tuple.js";
-import { readNo, readNotes } from "./verdict.js";
 
 const verdict = byId("verdict");
 const witness = byId("witness");
@@ -24,27 +24,19 @@ export async function updateJudge(checked) {
   markPatterns(demand.patterns === null && state.forbid !== "");
   drop("judge");
   drop("witness");
-  if (checked.refusal) return showNothing(PROGRAM_REFUSED);
+  if (checked.refusal) return showNothing(checked.refusal);
   if (demand.why) return showNothing(demand.why);
   const { ids, text } = state;
   const slow = setTimeout(() => showNothing("nbhd judges all tuples…", "waiting"), 400);
-  const answer = await ask("judge", "judge", { ids, ...demand.options }, text);
+  const report = await ask("judge", "judge", { ids, ...demand.options }, text);
   clearTimeout(slow);
-  if (answer === undefined) return undefined;
-  const line = answer.refused ? "" : answer.out.split("\n")[0];
-  if (answer.status === 0) return showYes(line, readNotes(answer.note), checked.accepted, demand);
-  const no = readNo(line);
-  if (answer.status !== 1 || !no) {
-    const refusal = readRefusal(answer, text);
-    const advice = answer.refused ? "Take fewer identifiers." : refusal.note;
-    return showNothing([refusal.line, advice].filter(Boolean).join(" – "));
-  }
-  const run = await ask("witness", "trace", { ids, ring: no.ring.join(",") }, text);
-  if (run === undefined) return undefined;
-  return showNo(no, readNotes(answer.note), checked.accepted, demand, run.status === 0 ? channelsOf(run.out) : undefined);
+  if (report === undefined) return undefined;
+  if (report.kind === "yes") return showYes(report, checked.accepted, demand);
+  if (report.kind !== "no") return showNothing(reasonOf(report) + (report.kind === "stopped" ? ". Take fewer identifiers." : ""));
+  const run = await ask("witness", "trace", { ids, ring: report.ring.join(",") }, text);
+  // Without a trace the ring is shown without its channels.
+  return run && showNo(report, checked.accepted, demand, run.finish);
 }
-
-const channelsOf = (trace) => trace.trim().split("\n").at(-1).split(" ").slice(1).map(Number);
 
 function showNothing(why, kind = "refused") {
   verdict.className = "verdict";
@@ -80,9 +72,8 @@ function fewer(accepted, { near, far, name, patterns }) {
 /** Whether a pattern asks something of the third place. */
 const isLong = ({ patterns }) => patterns?.some((pattern) => spanOf(pattern) === 3) ?? false;
 
-function showYes(line, { others }, accepted, demand) {
+function showYes({ tuples, note }, accepted, demand) {
   const { ids, rounds } = accepted;
-  const tuples = Number(line.match(/\d+/)?.[0] ?? 0);
   // Where distance two counts, the least rings have one identifier more.
   const least = 2 * rounds + (demand.far > 0 ? 3 : 2);
   const rings = `On every ring of ${least < ids ? `${least} to ` : ""}${ids} distinct identifiers below ${ids}`;
@@ -92,7 +83,7 @@ function showYes(line, { others }, accepted, demand) {
     html("p", {}, least > ids ? `No ring has ${least} distinct identifiers below ${ids}.`
       : `${rings}, ${asked(demand, mostChannels(accepted))}.`),
     html("p", { class: "aside" }, `${tuples.toLocaleString("en")} tuples were looked at.`),
-    ...notes(demand.patterns ? others : []),
+    ...notes(demand.patterns ? sentencesOf(note) : []),
     ...fewer(accepted, demand),
   );
   showTuple(rounds, demand);
@@ -115,7 +106,7 @@ const notes = (sentences) => sentences.map((sentence) =>
   html("p", { class: "aside" }, coded(`${sentence[0].toUpperCase()}${sentence.slice(1)}.`)));
 
 /** What is wrong on the ring of a no. */
-function wrongOn({ ring, places, channels }, { wrong }, { patterns }) {
+function wrongOn({ ring, places, channels }, wrong, { patterns }) {
   if (patterns) return `On the ring ${ring.join(" ")} ${wrong}.`;
   const apart = (places[1] - places[0] + ring.length) % ring.length === 1 ? "are neighbours" : "are at distance two";
   const isEqual = channels[0] === channels[1];
@@ -123,13 +114,15 @@ function wrongOn({ ring, places, channels }, { wrong }, { patterns }) {
   return `On the ring ${ring.join(" ")} the nodes ${ring[places[0]]} and ${ring[places[1]]} ${apart} and ${have}.`;
 }
 
-function showNo(no, said, accepted, demand, all) {
-  const sentence = wrongOn(no, said, demand);
+function showNo(no, accepted, demand, all) {
+  const said = sentencesOf(no.note).map((part) => part.replace(`on the ring ${no.ring.join(",")} `, ""));
+  const [wrong = "channels match a forbidden pattern", ...others] = said;
+  const sentence = wrongOn(no, wrong, demand);
   verdict.className = "verdict no";
   verdict.replaceChildren(
     html("p", { class: "word" }, "No"),
     html("p", {}, coded(sentence)),
-    ...notes(demand.patterns ? said.others : []),
+    ...notes(demand.patterns ? others : []),
     ...fewer(accepted, demand),
   );
 

@@ -17,7 +17,7 @@ import { closeWhy, openWhy, showWhy, startWhy, whyPlace } from "./why.js";
 import { numerals, widthOf } from "./numerals.js";
 import { markRows } from "./editor.js";
 import { rowsOfStep } from "./language.js";
-import { PROGRAM_REFUSED, readRefusal } from "./faults.js";
+import { reasonOf } from "./faults.js";
 
 const STEP_MS = 1500;
 const stage = byId("stage");
@@ -41,7 +41,7 @@ export async function updateRun(checked) {
     (event, identifier) => drawing && dragIn(event, drawing, ring, identifier, edit));
   drop("run");
   byId("run").classList.remove("pending");
-  if (checked.refusal) return showRefused(PROGRAM_REFUSED);
+  if (checked.refusal) return showRefused(checked.refusal, false);
   offerSizes(checked.accepted);
   const why = whyNoRing(state.ring);
   if (why) return showRefused(why);
@@ -50,27 +50,25 @@ export async function updateRun(checked) {
   show();
   byId("run").classList.add("pending");
   const asked = state.ring;
-  const answer = await ask("run", "trace", { ids: state.ids, ring: asked }, state.text);
+  const report = await ask("run", "trace", { ids: state.ids, ring: asked }, state.text);
   // An example may have brought another ring by now, whose run is asked for when its text is checked.
-  if (answer === undefined || state.ring !== asked) return undefined;
+  if (report === undefined || state.ring !== asked) return undefined;
   byId("run").classList.remove("pending");
-  if (answer.status !== 0) {
-    const { line, note } = readRefusal(answer, state.text);
-    showRefused([line, note].filter(Boolean).join(" – "));
-    const places = line.match(/^ring fault \w+ places? ([\d ]+)$/)?.[1].split(" ") ?? [];
-    for (const place of places) drawing?.nodes[place]?.classList.add("faulty");
+  if (report.kind !== "trace") {
+    showRefused(reasonOf(report));
+    for (const place of report.places ?? [report.place]) drawing?.nodes[place]?.classList.add("faulty");
     return undefined;
   }
   refused.hidden = true;
   byId("ring").setAttribute("aria-invalid", "false");
-  steps = stepsOf(answer.out);
+  steps = stepsOf(report);
   // The same step stays open after an edit of the ring.
   const last = steps.length - 1;
   at = state.step === "end" ? last : Math.min(Number(state.step.match(/^[0-9]+$/) ?? 0), last);
   register = Math.min(register, steps[0].registers.length - 1);
   fillTimeline();
   fillRegisters();
-  showTrace(byId("trace"), readRing(state.ring), steps, { show: shown, go, highlight });
+  showTrace(byId("trace"), report.ring, steps, { show: shown, go, highlight });
   return show();
 }
 
@@ -82,11 +80,11 @@ function sayRefused(why) {
   refused.hidden = false;
 }
 
-/** Shows the ring without a run, and why. */
-function showRefused(why) {
+/** Shows the ring without a run, and why; whether that is for the ring itself is marked in its field. */
+function showRefused(why, isForRing = true) {
   steps = null;
   closeWhy();
-  byId("ring").setAttribute("aria-invalid", String(why !== PROGRAM_REFUSED));
+  byId("ring").setAttribute("aria-invalid", String(isForRing));
   sayRefused(why);
   byId("trace").replaceChildren();
   timeline.replaceChildren();

@@ -1,57 +1,56 @@
 // Table: the windows with their channels, how often each channel occurs, and the text to save; below them a ring by
 // another table.
 
-import { ask, drop } from "./ask.js";
+import { ask, askLines, drop } from "./ask.js";
 import { byId, coded, download, html } from "./dom.js";
 import { drawHistogram } from "./histogram.js";
 import { change, exampleOf, state } from "./state.js";
 import { badgeImage, colourOf, largeBadge } from "./channels.js";
 import { startPasted, updatePasted } from "./pasted.js";
-import { countChannels, leastBytes, readTable } from "./table.js";
-import { PROGRAM_REFUSED, readRefusal } from "./faults.js";
+import { reasonOf } from "./faults.js";
+import { noReport } from "./report.js";
+import { countChannels, tableOf } from "./table.js";
 
-const LONGEST = 8_000_000; // the bytes of the longest answer of nbhd-page
+const MOST = 1_000_000; // the windows of a table that are kept here
 const SHOWN = 240;
 const BARS = 40;
 const refused = byId("table-refused");
 
-let text = "";
-let table = null;
+let table = null; // with the `ids` and the `text` that nbhd was asked about
 
 export async function updateTable(checked) {
   if (byId("prefix").value !== state.prefix) byId("prefix").value = state.prefix;
   drop("table");
   updatePasted();
-  if (checked.refusal) return showNothing(PROGRAM_REFUSED);
-  if (leastBytes(checked.accepted) > LONGEST) {
-    const windows = checked.accepted.windows.toLocaleString("en");
-    return showNothing(`${windows} windows are too many to show here; \`nbhd table\` prints them.`);
-  }
+  if (checked.refusal) return showNothing(checked.refusal);
+  const { windows } = checked.accepted;
+  if (windows > MOST) return showNothing(`${windows.toLocaleString("en")} windows are too many to show here; \`nbhd table\` prints them.`);
+  const { ids, text } = state;
   const slow = setTimeout(() => showNothing("nbhd fills the table…"), 400);
-  const answer = await ask("table", "table", { ids: state.ids }, state.text);
+  const report = await ask("table", "table", { ids }, text);
   clearTimeout(slow);
-  if (answer === undefined) return undefined;
-  if (answer.status !== 0) {
-    const refusal = readRefusal(answer, state.text);
-    return showNothing(answer.refused ? `${answer.refused}. Take fewer identifiers to see the table here.` : refusal.line);
-  }
+  if (report === undefined) return undefined;
+  const advice = report.kind === "stopped" ? ". Take fewer identifiers to see the table here." : "";
+  if (report.kind !== "table") return showNothing(reasonOf(report) + advice);
   refused.hidden = true;
   byId("save").disabled = false;
-  if (text !== answer.out) {
-    text = answer.out;
-    table = readTable(text);
+  if (table?.channels !== report.entries) {
+    table = { ...tableOf(report), ids, text };
     showHistogram();
   }
   return showWindows();
 }
 
 function showNothing(why) {
-  text = "";
   table = null;
-  refused.replaceChildren(...coded(why));
-  refused.hidden = false;
+  sayRefused(why);
   byId("save").disabled = true;
   for (const id of ["histogram", "windows", "table-say"]) byId(id).replaceChildren();
+}
+
+function sayRefused(why) {
+  refused.replaceChildren(...coded(why));
+  refused.hidden = false;
 }
 
 function showHistogram() {
@@ -77,7 +76,7 @@ function showWindows() {
   const found = [];
   let count = 0;
   table.windows.forEach((window, i) => {
-    if (wanted.length && !begins(window.split(" "), wanted)) return;
+    if (wanted.length && !begins(window, wanted)) return;
     count += 1;
     if (found.length < SHOWN) found.push(i);
   });
@@ -87,24 +86,28 @@ function showWindows() {
     ? `${count.toLocaleString("en")} of ${all} windows ${count === 1 ? "begins" : "begin"} with ${wanted.join(" ")}${shown}.`
     : `${all} windows${shown}. The middle identifier is the node itself.`;
   const most = (texts) => Math.max(...texts.map((text) => String(text).length));
-  const letters = most(["0 1 2", ...found.map((i) => table.windows[i])]);
+  const letters = most(["0 1 2", ...found.map((i) => table.windows[i].join(" "))]);
   const style = { "--letters": letters, "--badge": largeBadge(most([0, ...found.map((i) => table.channels[i])])) };
   byId("windows").replaceChildren(html("ul", { style }, found.map((i) => {
-    const identifiers = table.windows[i].split(" ");
-    const middle = (identifiers.length - 1) / 2;
-    const parts = identifiers.flatMap((identifier, j) => [j === middle ? html("b", {}, identifier) : identifier, " "]);
+    const middle = (table.windows[i].length - 1) / 2;
+    const parts = table.windows[i].flatMap((identifier, j) => [j === middle ? html("b", {}, identifier) : identifier, " "]);
     return html("li", {}, html("span", { class: "code" }, parts), badgeImage(table.channels[i]));
   })));
 }
 
-const begins = (identifiers, wanted) => wanted.every((identifier, i) => identifiers[i] === identifier);
+const begins = (window, wanted) => wanted.every((identifier, i) => String(window[i]) === identifier);
 
 /** The drawing of the channels' counts; nothing if there is no table. */
 export const histogram = () => table && drawHistogram(countChannels(table.channels).slice(0, BARS), table.windows.length);
 
-function save() {
-  const name = (exampleOf(state.text)?.name ?? "program.txt").replace(/\.txt$/, "");
-  download(`${name}-ids${state.ids}.table.txt`, text, "text/plain");
+/** Saves the text of the table, for which nbhd is asked in lines. */
+async function save() {
+  const { ids, text } = table;
+  const answer = await askLines("save", "table", { ids }, text);
+  if (answer === undefined) return;
+  const name = (exampleOf(text)?.name ?? "program.txt").replace(/\.txt$/, "");
+  if (answer.status === 0) download(`${name}-ids${ids}.table.txt`, answer.out, "text/plain");
+  else sayRefused(`The table is not saved: ${reasonOf(noReport(answer))}.`);
 }
 
 export function startTable() {

@@ -3,7 +3,7 @@
 import { ask, drop } from "./ask.js";
 import { byId, coded, html } from "./dom.js";
 import { markWord, onWord, scrollToRows } from "./editor.js";
-import { readRefusal } from "./faults.js";
+import { reasonOf } from "./faults.js";
 import { partTokens } from "./language.js";
 import { numerals, widthOf } from "./numerals.js";
 import { change, state } from "./state.js";
@@ -46,16 +46,13 @@ export async function showWhy(step, ring) {
   const place = whyPlace();
   if (place === null || place >= ring.length) return panel.hidden && state.why === "" ? undefined : closeWhy();
   const { ids, text } = state;
-  const answer = await ask("why", "explain", { ids, ring: ring.join(","), place: String(place) }, text);
-  if (answer === undefined || whyPlace() !== place) return undefined;
+  const report = await ask("why", "explain", { ids, ring: ring.join(","), place: String(place) }, text);
+  if (report === undefined || whyPlace() !== place) return undefined;
   byId("why-heading").textContent = `Why? Node ${numerals(ring, state.base)[place]} at place ${place}`;
   panel.hidden = false;
-  if (answer.status !== 0) {
-    const { line, note } = readRefusal(answer, text);
-    return box.replaceChildren(html("p", { class: "refused" }, ...coded(note || line)));
-  }
+  if (report.kind !== "explanation") return box.replaceChildren(html("p", { class: "refused" }, ...coded(reasonOf(report))));
   const tokens = partTokens(text);
-  box.replaceChildren(...treesIn(treesOf(answer.out, tokens), step).map((tree) => drawTree(tree, tokens, step, ring)));
+  box.replaceChildren(...treesIn(treesOf(report, tokens), step).map((tree) => drawTree(tree, tokens, step, ring)));
   panel.scrollTop = 0;
   scrollToRows();
   return bringIntoView();
@@ -76,8 +73,8 @@ function drawTree({ head, parts }, tokens, step, ring) {
     const source = sourceOf(step, word);
     const follow = source && (() => lead(source));
     return html("li", {
-      role: "treeitem", class: branches[i], "aria-level": depth, "data-part": number, "data-end": end, tabindex: i === 0 ? "0" : "-1",
-      style: { paddingLeft: `${depth * 1.1 - 0.6}em` },
+      role: "treeitem", class: branches[i], "aria-level": depth + 1, "data-part": number, "data-end": end, tabindex: i === 0 ? "0" : "-1",
+      style: { paddingLeft: `${depth * 1.1 + 0.5}em` },
       onfocus: () => mark(number, tokens), onpointerenter: () => mark(number, tokens), onkeydown: (event) => treeKey(event, follow),
     }, html("code", {}, word), " ", html("b", { class: "code" }, values[i]),
     source && html("button", { type: "button", class: "source", tabindex: "-1", onclick: follow }, nameOf(source, ring)),

@@ -61,11 +61,10 @@ const { readRules, svgText } = await import("../page/picture.js");
 const { say } = await import("../page/ring.js");
 const { tikzText } = await import("../page/tikz.js");
 const { nameOf, stepsOf } = await import("../page/trace.js");
-const { readNo } = await import("../page/verdict.js");
 
 const [what, format, problem] = process.argv.slice(2);
 const lines = readFileSync(0, "utf8").split("\n").filter(Boolean);
-const TRACE = /^(ring|start r\d|round \d+ (left|right|r\d)|finish)( \d+)+$/;
+const ROW = /^(ring|start r\d|round \d+ (?:left|right|r\d)|finish) (\d+(?: \d+)*)$/;
 
 function refuse(why) {
   writeSync(2, `tools/picture: ${why}\n`);
@@ -74,14 +73,19 @@ function refuse(why) {
 
 /** The ring and the steps of a trace; nothing if the lines are no trace. */
 function traceOf(rows) {
-  const ring = rows[0]?.split(" ").slice(1).map(Number) ?? [];
-  const isTrace = rows.length > 2 && rows[0].startsWith("ring ") && rows[1].startsWith("start r0 ") && rows.at(-1).startsWith("finish ")
-    && rows.every((row) => TRACE.test(row) && numbersIn(row) === ring.length);
-  return isTrace ? { ring, steps: stepsOf(rows.join("\n")) } : undefined;
+  const named = rows.map((row) => row.match(ROW)?.slice(1) ?? ["", ""]);
+  const values = new Map(named.map(([name, text]) => [name, text.split(" ").map(Number)]));
+  const registersOf = (head) => Array.from({ length: 10 }, (_, j) => values.get(`${head} r${j}`)).filter(Boolean);
+  const [ring, start, finish, rounds] = [values.get("ring"), registersOf("start"), values.get("finish"), []];
+  while (values.has(`round ${rounds.length + 1} left`)) {
+    const head = `round ${rounds.length + 1}`;
+    rounds.push({ left: values.get(`${head} left`), right: values.get(`${head} right`), registers: registersOf(head) });
+  }
+  const lists = [ring, ...start, ...rounds.flatMap(({ left, right, registers }) => [left, right, ...registers]), finish];
+  const isTrace = start.length > 0 && rounds.every(({ registers }) => registers.length === start.length)
+    && lists.length === rows.length && lists.every((list) => list?.length === ring?.length);
+  return isTrace ? { ring, steps: stepsOf({ start, rounds, finish }) } : undefined;
 }
-
-/** How many numbers of a row are those of nodes. */
-const numbersIn = (row) => row.replace(/^(ring|start r\d|round \d+ \w+|finish) /, "").split(" ").length;
 
 function runOf(rows) {
   const trace = traceOf(rows) ?? refuse("this is no trace: give what `nbhd trace` prints");
@@ -92,6 +96,18 @@ function runOf(rows) {
   const drawing = drawStep(ring, step, sizesOf(ring, steps, 0, show), { demand: demandOf({ problem }), register: 0, show, label });
   say(drawing.layers.centre, centreOf(step));
   return drawing.image;
+}
+
+/**
+ * Reads `no: ring A B .. place P channel X`, `.. places P Q channels X Y` or `.. places P Q R channels X Y Z`; nothing if the line is
+ * none of these.
+ */
+function readNo(line) {
+  const [ring, places, channels] = (line.match(/^no: ring ([\d ]+) places? ([\d ]+) channels? ([\d ]+)$/) ?? [])
+    .slice(1).map((numbers) => numbers.split(" ").map(Number));
+  if (places?.length !== 1) return ring && { ring, places, channels };
+  // Of one place the right neighbour has the same channel.
+  return { ring, places: [places[0], (places[0] + 1) % ring.length], channels: [channels[0], channels[0]] };
 }
 
 function noOf([first = "", ...rows]) {

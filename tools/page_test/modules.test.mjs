@@ -4,9 +4,10 @@ import assert from "node:assert/strict";
 import { readFileSync } from "node:fs";
 import { test } from "node:test";
 
+import { ask, askLines, drop } from "../../page/ask.js";
 import { classOf } from "../../page/classes.js";
 import { classSentence, demandOf, sentenceOn } from "../../page/demand.js";
-import { readRefusal } from "../../page/faults.js";
+import { reasonOf, refusalOf } from "../../page/faults.js";
 import { headRows, OPERATIONS, partTokens, pieces, roundsOf, rowsOfStep } from "../../page/language.js";
 import { fewerChannels, knownChannels } from "../../page/least.js";
 import { lookOf } from "../../page/look.js";
@@ -15,51 +16,127 @@ import { numerals, widthOf } from "../../page/numerals.js";
 import { wrongPaths } from "../../page/paths.js";
 import { brokenPlaces, channelsNamed, readPattern, spanOf, textOf, wordsOf } from "../../page/patterns.js";
 import { askedBy, fewerRounds, knownRounds, PROBLEMS } from "../../page/problems.js";
+import { noReport, reportOf, sentencesOf } from "../../page/report.js";
 import { readRing, whyNoRing, withCommas } from "../../page/ring-text.js";
-import { countChannels, edgesOf, leastBytes, readPlaces, readTable } from "../../page/table.js";
+import { countChannels, edgesOf, tableOf, windowsOf } from "../../page/table.js";
 import { equalPairs, equalSentence, nameOf, sentenceOf, stepsOf } from "../../page/trace.js";
 import { branchesOf, sourceOf, treesIn, treesOf } from "../../page/trees.js";
-import { readNo, readNotes } from "../../page/verdict.js";
 
 const FAULTY = "rounds 1\nchannels 6\nregisters 1\nstart\nr0 = id\nround\n  send lift 0\n";
-const TABLE = "nbhd-table 2\nrounds 0 ids 3 channels 2 near 1 far 0\n0 : 0\n1 : 1\n2 : 0\nend\n";
-const TRACE = "start r0 5 1 3 7\nround 1 left 0 0 0 0\nround 1 right 5 1 3 7\nround 1 r0 2 4 3 5\nfinish 2 4 3 5\n";
+const CV1_TEXT = readFileSync(new URL("../../programs/cv1.txt", import.meta.url), "utf-8");
+const TABLE = { kind: "table", ids: 3, rounds: 0, channels: 2, near: 1, far: 0, entries: [0, 1, 0] };
 
-test("refusal: a note with a place", () => {
-  const index = FAULTY.indexOf("lift");
-  const line = `text fault N3 at ${index}`;
-  const note = "unknown word `lift`";
-  const found = readRefusal({ out: `${line}\n`, note: `nbhd: line 7, column 8: ${note}\n    send lift 0\n         ^\n` }, FAULTY);
-  assert.deepEqual(found, { code: "N3", line, note, at: { row: 7, column: 8, index } });
-  assert.deepEqual(readRefusal({ out: `${line}\n`, note: "" }, FAULTY).at, found.at);
+// The lines in JSON of docs/LANGUAGE.md, by the kind of their object.
+const SAID = Object.fromEntries(readFileSync(new URL("../../docs/LANGUAGE.md", import.meta.url), "utf-8").split("\n")
+  .filter((line) => /^\{"kind":.*\}$/.test(line)).map((line) => [JSON.parse(line).kind, `${line}\n`]));
+const reported = (kind) => JSON.parse(SAID[kind]);
+const fault = (members) => ({ kind: "fault", of: "text", code: "N3", ...members });
+
+test("report: the object of each command", () => {
+  const kinds = { check: ["accepted"], trace: ["trace"], explain: ["explanation"], judge: ["yes", "no"], table: ["table"], apply: ["places"] };
+  for (const [command, own] of Object.entries(kinds)) {
+    for (const kind of [...own, "fault"]) assert.deepEqual(reportOf(command, { status: 0, out: SAID[kind], note: "" }), reported(kind));
+    const other = own.includes("yes") ? "trace" : "yes";
+    assert.deepEqual(reportOf(command, { status: 0, out: SAID[other], note: "" }), { kind: "silent", note: "nbhd printed no report" });
+  }
 });
 
-test("refusal: a note without a place, and of two lines", () => {
-  const first = "the bound of `finish` is 11, which its values need not reach: write `channels 12` or more";
-  const out = "check fault C4 bound 11\n";
-  const { note, at } = readRefusal({ out, note: `nbhd: ${first}\n` }, FAULTY);
-  assert.deepEqual([note, at], [first, null]);
-  const second = "bounds of r0 after `start` and each round: 8 7";
-  assert.equal(readRefusal({ out, note: `nbhd: ${first}\nnbhd: ${second}\n` }, FAULTY).note, `${first} – ${second}`);
+test("report: an output that is none", () => {
+  const silent = (out, status = 0, note = "") => reportOf("trace", { status, out, note });
+  for (const out of ["", "\n", "ring 5 1 3 7\n", "null\n", "[]\n", "5\n", "{}\n", "{\"kind\":7}\n", SAID.trace.slice(0, 40)]) {
+    assert.deepEqual(silent(out), { kind: "silent", note: "nbhd printed no report" }, out);
+  }
+  assert.deepEqual(silent("", 6, "nbhd: out of memory\n"), { kind: "silent", note: "nbhd printed no report: out of memory" });
+  assert.deepEqual(silent(SAID.trace.slice(0, 40), 5, "nbhd: write failed\n").note, "nbhd printed no report: write failed");
 });
 
-test("refusal: a place of a program that is not accepted", () => {
-  const note = "nbhd: line 5, column 6: `L` and `R` can be read in a round alone\n  r0 = id\n       ^\n";
-  assert.equal(readRefusal({ out: "check fault C3\n", note }, FAULTY).at.index, FAULTY.indexOf("id"));
+test("report: a program that was ended, and one that was stopped", () => {
+  const said = (status, out = "") => reportOf("trace", { status, out, note: "" });
+  const killed = { kind: "silent", note: "nbhd was ended by signal 9; memory may have run out" };
+  assert.deepEqual([said(-9), said(137), said(-9, SAID.trace)], [killed, killed, killed]);
+  assert.deepEqual([said(-11).note, said(143).note], ["nbhd was ended by signal 11", "nbhd was ended by signal 15"]);
+  const refused = "four runs are under way already";
+  assert.deepEqual(reportOf("check", { refused }), { kind: "stopped", note: refused });
+  assert.deepEqual(noReport({ status: 0, out: "", note: "" }), { kind: "silent", note: "nbhd printed no report" });
 });
 
-test("refusal: refused words", () => {
-  const line = (note) => readRefusal({ out: "", note }, FAULTY).line;
+test("report: refused words", () => {
+  const line = (note) => refusalOf(reportOf("trace", { status: 2, out: "", note }), FAULTY).line;
   assert.equal(line("nbhd: bad ring\n"), "bad ring");
   assert.equal(line("nbhd: bad ring\nnbhd: part 2, ` 1`, is not a number\n"), "bad ring – part 2, ` 1`, is not a number");
   const words = "invalid value '65' for '--ids <M>': 65 is no";
   assert.equal(line(`error: ${words}\n\nFor more information, try '--help'.\n`), words);
-  assert.equal(readRefusal({ refused: "four runs are under way already" }, FAULTY).line, "four runs are under way already");
+});
+
+test("ask: JSON is asked for, and a report is kept, but not that there was none", async () => {
+  const bodies = [];
+  const answers = [{ status: -9, out: "", note: "" }, { status: 0, out: SAID.accepted, note: "" }, { status: 0, out: "nbhd-table 2\n", note: "" }];
+  const gone = {};
+  globalThis.document = { getElementById: () => gone };
+  globalThis.fetch = async (_, { body }) => {
+    bodies.push(JSON.parse(body));
+    return { json: async () => answers[bodies.length - 1] };
+  };
+  const check = () => ask("check", "check", { ids: "8" }, CV1_TEXT);
+  assert.equal((await check()).kind, "silent");
+  const report = await check();
+  assert.deepEqual(report, reported("accepted"));
+  assert.equal(await check(), report);
+  assert.deepEqual(await askLines("save", "table", { ids: "8" }, CV1_TEXT), answers[2]);
+  const asked = { command: "check", options: { ids: "8", format: "json" }, text: CV1_TEXT };
+  assert.deepEqual(bodies, [asked, asked, { command: "table", options: { ids: "8" }, text: CV1_TEXT }]);
+  assert.equal(gone.hidden, true);
+  // A newer request of the same purpose replaces one that is open, also where its report is kept.
+  globalThis.fetch = (_, { signal }) => new Promise((_unused, reject) => signal.addEventListener("abort", reject));
+  const open = ask("check", "check", { ids: "9" }, CV1_TEXT);
+  assert.equal(await check(), report);
+  assert.equal(await open, undefined);
+  const saving = askLines("save", "table", { ids: "9" }, CV1_TEXT);
+  drop("save");
+  assert.equal(await saving, undefined);
+});
+
+test("report: the sentences of a note", () => {
+  assert.deepEqual(sentencesOf("nbhd: line 7, column 6: unknown word\n  nbhd: send lift 0\n       ^\nnbhd: more\n"), ["line 7, column 6: unknown word", "more"]);
+  assert.deepEqual([sentencesOf(""), sentencesOf(undefined), sentencesOf("Killed\n")], [[], [], []]);
+});
+
+test("refusal: a note with a place", () => {
+  const index = FAULTY.indexOf("lift");
+  const note = "unknown word `lift`";
+  const report = fault({ at: index, line: 7, column: 8, note: `nbhd: line 7, column 8: ${note}\n    send lift 0\n         ^\n` });
+  const found = refusalOf(report, FAULTY);
+  assert.deepEqual(found, { code: "N3", line: "text fault N3", note, at: { row: 7, column: 8, index } });
+  assert.equal(reasonOf(report), `text fault N3 – ${note}`);
+  assert.deepEqual(refusalOf(fault({ at: index, line: 7, column: 8 }), FAULTY), { ...found, note: "" });
+});
+
+test("refusal: a note without a place, and of two lines", () => {
+  const first = "the bound of `finish` is 11, which its values need not reach: write `channels 12` or more";
+  const bound = { of: "check", code: "C4", bound: 11 };
+  const { line, note, at } = refusalOf(fault({ ...bound, note: `nbhd: ${first}\n` }), FAULTY);
+  assert.deepEqual([line, note, at], ["check fault C4", first, null]);
+  const second = "bounds of r0 after `start` and each round: 8 7";
+  assert.equal(refusalOf(fault({ ...bound, note: `nbhd: ${first}\nnbhd: ${second}\n` }), FAULTY).note, `${first} – ${second}`);
+});
+
+test("refusal: a place of a program that is not accepted", () => {
+  const note = "nbhd: line 5, column 6: `L` and `R` can be read in a round alone\n  r0 = id\n       ^\n";
+  assert.equal(refusalOf(fault({ of: "check", code: "C3", line: 5, column: 6, note }), FAULTY).at.index, FAULTY.indexOf("id"));
+});
+
+test("refusal: that of a ring, as docs/LANGUAGE.md has it", () => {
+  const same = "places 0 and 3 have the same identifier 5; a ring closes by itself";
+  assert.deepEqual(refusalOf(reported("fault"), FAULTY), { code: "G4", line: "ring fault G4", note: same, at: null });
+  assert.equal(refusalOf(fault({ of: "table", code: "A2", line: 4 }), FAULTY).at, null);
 });
 
 test("refusal: bytes are counted, not UTF-16 units", () => {
-  const text = "# é🙂\nx";
-  assert.deepEqual(readRefusal({ out: "text fault N3 at 9\n", note: "" }, text).at, { row: 2, column: 1, index: text.indexOf("x") });
+  const text = "# é🙂\nx 🙂 y";
+  const at = (line, column) => refusalOf(fault({ line, column }), text).at;
+  assert.deepEqual(at(2, 1), { row: 2, column: 1, index: text.indexOf("x") });
+  assert.deepEqual(at(2, 8), { row: 2, column: 8, index: text.indexOf("y") });
+  assert.deepEqual([at(2, 99).index, at(9, 1).index], [text.length, text.length]);
 });
 
 test("language: pieces are the text, without gaps", () => {
@@ -118,47 +195,47 @@ test("numbers: an emptied field", () => {
 });
 
 test("table: windows, channels and edges", () => {
-  const table = readTable(TABLE);
-  assert.deepEqual(table, { rounds: 0, ids: 3, windows: ["0", "1", "2"], channels: [0, 1, 0] });
-  assert.deepEqual(readPlaces("   0    2    0\n   1    0 4095\n"), { ring: [2, 0], channels: [0, 4095] });
+  const table = tableOf(TABLE);
+  assert.deepEqual(table, { ids: 3, windows: [[0], [1], [2]], channels: [0, 1, 0] });
   assert.deepEqual(countChannels(table.channels), [[0, 2], [1, 1]]);
   assert.deepEqual(edgesOf(table), [[0, 1], [0, 2], [1, 0], [1, 2], [2, 0], [2, 1]]);
-  const lines = TABLE.split("\n").slice(2, 5);
-  assert.equal(leastBytes(table.windows.length === 3 && { ids: 3, rounds: 0, windows: 3 }), lines.join("\n").length + 1);
+  assert.deepEqual(tableOf(reported("table")), { ids: 2, windows: [[0], [1]], channels: [0, 1] });
+});
+
+test("table: windows are all lists of distinct identifiers, in lexicographic order", () => {
+  assert.deepEqual(windowsOf(3, 3), [[0, 1, 2], [0, 2, 1], [1, 0, 2], [1, 2, 0], [2, 0, 1], [2, 1, 0]]);
+  assert.deepEqual(windowsOf(2, 3), []);
+  for (const [ids, length] of [[12, 1], [11, 3], [7, 5]]) {
+    // The numbers of so many digits to the base `ids`, without those that have a digit twice.
+    const all = Array.from({ length: ids ** length }, (_, number) =>
+      Array.from({ length }, (_unused, i) => Math.floor(number / ids ** (length - 1 - i)) % ids));
+    assert.deepEqual(windowsOf(ids, length), all.filter((window) => new Set(window).size === length));
+  }
 });
 
 test("trace: the steps of a run", () => {
-  const steps = stepsOf(TRACE);
+  const steps = stepsOf(reported("trace"));
   assert.deepEqual(steps.map(nameOf), ["start", "1 send", "1 assign", "finish"]);
   assert.deepEqual(steps[0].registers, [[5, 1, 3, 7]]);
   assert.deepEqual([steps[1].left, steps[1].right, steps[1].registers], [[0, 0, 0, 0], [5, 1, 3, 7], [[5, 1, 3, 7]]]);
   assert.deepEqual([steps[2].before, steps[2].registers], [[[5, 1, 3, 7]], [[2, 4, 3, 5]]]);
-  assert.deepEqual(steps[3].channels, [2, 4, 3, 5]);
-  assert.deepEqual(stepsOf("start r0 1 2\nfinish 1 2\n").map(({ kind }) => kind), ["start", "finish"]);
+  assert.deepEqual([steps[3].round, steps[3].channels], [1, [2, 4, 3, 5]]);
+  assert.deepEqual(stepsOf({ start: [[1, 2]], rounds: [], finish: [1, 2] }), [
+    { kind: "start", round: 0, registers: [[1, 2]] }, { kind: "finish", round: 0, registers: [[1, 2]], channels: [1, 2] },
+  ]);
+  const round = { left: [0, 0], right: [1, 1], registers: [[2, 2], [3, 3]] };
+  const two = stepsOf({ start: [[1, 2], [0, 0]], rounds: [round, round], finish: [1, 2] });
+  assert.deepEqual(two.map(nameOf), ["start", "1 send", "1 assign", "2 send", "2 assign", "finish"]);
+  assert.deepEqual([two[3].registers, two[4].before], [round.registers, round.registers]);
 });
 
 test("trace: sentences", () => {
-  const steps = stepsOf(TRACE);
+  const steps = stepsOf(reported("trace"));
   assert.match(sentenceOf(steps[2], [5, 1, 3, 7]), /the 3 identifiers within distance 1\.$/);
   assert.equal(sentenceOf(steps[3], [5, 1, 3, 7]), "`finish` gives each node its channel.");
   assert.match(equalSentence([2, 4, 3, 5], [5, 1, 3, 7]), /neighbours’ channels differ\.$/);
   assert.deepEqual(equalPairs([1, 1, 2, 1]), [0, 3]);
   assert.equal(equalSentence([1, 1, 2, 1], [5, 1, 3, 7]), "Neighbours 5 and 1 have the same channel; so has 1 other pair.");
-});
-
-test("verdict: a no of neighbours and one at distance two", () => {
-  assert.deepEqual(readNo("no: ring 0 1 2 3 place 3 channel 0"), { ring: [0, 1, 2, 3], places: [3, 0], channels: [0, 0] });
-  assert.deepEqual(readNo("no: ring 0 2 1 places 0 2 channels 0 1"), { ring: [0, 2, 1], places: [0, 2], channels: [0, 1] });
-  assert.equal(readNo("yes: 24 tuples"), null);
-});
-
-test("verdict: a no to a problem, and its notes", () => {
-  const no = readNo("no: ring 1 2 3 4 5 6 places 2 3 4 channels 0 0 1");
-  assert.deepEqual(no, { ring: [1, 2, 3, 4, 5, 6], places: [2, 3, 4], channels: [0, 0, 1] });
-  const idle = "the pattern 7,7 never matches: all channels are below 2";
-  const found = readNotes(`nbhd: on the ring 1,2,3,4,5,6 node 4 is not in the set, and neither is a neighbour\nnbhd: ${idle}\n`);
-  assert.deepEqual(found, { wrong: "node 4 is not in the set, and neither is a neighbour", others: [idle] });
-  assert.deepEqual(readNotes(""), { wrong: undefined, others: [] });
 });
 
 test("patterns: words, entries and texts", () => {
@@ -325,7 +402,7 @@ test("look: what is red, and what a problem looks like", () => {
 });
 
 test("paths: those of windows whose channels are wrong", () => {
-  const table = readTable(TABLE);
+  const table = tableOf(TABLE);
   const edges = edgesOf(table);
   const found = (problem, forbid) => wrongPaths(table, edges, demandOf({ problem, near: "1", far: "0", forbid }));
   assert.deepEqual(found("differ"), [[0, 2], [2, 0]]);
@@ -358,30 +435,43 @@ test("numerals: decimal, and binary as wide as the widest", () => {
   assert.deepEqual(numerals([4294967295], "2"), ["1".repeat(32)]);
 });
 
+/** An explanation of these trees, each its round, what it gives and its parts, as lines with a blank for each part above. */
+const explained = (...trees) => ({
+  kind: "explanation", place: 0,
+  trees: trees.map(([round, gives, ...lines]) => ({
+    round, gives,
+    parts: lines.map((line) => {
+      const [word, value] = line.trim().split(" ");
+      return { depth: line.search(/\S/), word, value: Number(value), taken: !line.endsWith("(not taken)") };
+    }),
+  })),
+});
+
 test("trees: the trees of an explanation, and those of a step", () => {
-  const text = "start r0\n id 5\nround 1 left, registers of start\n 0 0\nround 1 right, registers of start\n r0 5\n"
-    + "round 1 r0, registers of start\n add 2\n  L 1\n  1 1\nfinish, registers of round 1\n r0 2\n";
-  const trees = treesOf(text, []);
+  const trees = treesOf(explained([0, "r0", "id 5"], [1, "left", "0 0"], [1, "right", "r0 5"], [1, "r0", "add 2", " L 1", " 1 1"],
+    [1, "finish", "r0 2"]), []);
   assert.deepEqual(trees.map(({ head, parts }) => [head, parts.length]), [
     ["start r0", 1], ["round 1 left", 1], ["round 1 right", 1], ["round 1 r0", 3], ["finish", 1],
   ]);
-  assert.deepEqual(trees[3].parts[1], { depth: 2, word: "L", value: 1, counts: true, number: 4, end: 5 });
+  assert.deepEqual(trees[3].parts[1], { depth: 1, word: "L", value: 1, taken: true, number: 4, end: 5 });
   const heads = (kind, round) => treesIn(trees, { kind, round }).map(({ head }) => head);
   assert.deepEqual([heads("start", 0), heads("send", 1), heads("assign", 1), heads("finish", 1)], [
     ["start r0"], ["round 1 left", "round 1 right"], ["round 1 r0"], ["finish"],
   ]);
   assert.deepEqual(heads("assign", 2), []);
+  // Without a round the finish has the round of the start.
+  const found = treesOf(reported("explanation"), []);
+  assert.deepEqual(["start", "finish"].map((kind) => treesIn(found, { kind, round: 0 }).map(({ head }) => head)), [["start r0"], ["finish"]]);
 });
 
-test("trees: the branch of an if that is taken, and the other one, whose parts are no lines", () => {
+test("trees: the branch of an if that is taken, and the other one, which is one part", () => {
   const text = "rounds 0 channels 9 registers 1 start r0 = if(eq(id, 3), if(0, 5, 1), if(id, add(id, 4), not(2))) finish r0";
   const words = partTokens(text);
-  const out = "start r0\n if 5\n  eq 0\n   id 1\n   3 3\n  if 1 (not taken)\n  if 5\n   id 1\n   add 5\n    id 1\n    4 4\n"
-    + "   not 4294967293 (not taken)\nfinish, registers of start\n r0 5\n";
-  const [{ parts }, last] = treesOf(out, words);
+  const start = ["if 5", " eq 0", "  id 1", "  3 3", " if 1 (not taken)", " if 5", "  id 1", "  add 5", "   id 1", "   4 4"];
+  const [{ parts }, last] = treesOf(explained([0, "r0", ...start, "  not 4294967293 (not taken)"], [0, "finish", "r0 5"]), words);
   assert.deepEqual(branchesOf(parts), ["", "", "", "", "other", "taken", "", "taken", "", "", "other"]);
   assert.deepEqual(parts.map(({ number }) => number), [0, 1, 2, 3, 4, 8, 9, 10, 11, 12, 13]);
-  assert.deepEqual(parts.filter(({ counts }) => !counts).map(({ end }) => end), [8, 15]);
+  assert.deepEqual(parts.filter(({ taken }) => !taken).map(({ end }) => end), [8, 15]);
   assert.equal(last.parts[0].number, 15);
   for (const { number, word } of [...parts, ...last.parts]) {
     const { at, length } = words[number];

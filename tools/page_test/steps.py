@@ -41,6 +41,11 @@ def nbhd(text, *words):
     return ran.stdout.decode()
 
 
+def kind_of(line):
+    """The kind of a fault, by the line that the program prints: its first word, `fault` and the code."""
+    return " ".join(line.split()[:3])
+
+
 def note_of(text, *words):
     """The place and the sentence of the note that the program tells on standard error, each empty without one. A note without a
     place may have more lines, which the page joins."""

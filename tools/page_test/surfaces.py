@@ -129,7 +129,7 @@ def readers(page):
     page.wait("it is valid again", f"{invalid} === 'false'")
     described = "document.querySelector('#ring').getAttribute('aria-describedby').split(' ').every(id => document.getElementById(id))"
     STEPS.check("the ring names its refusal", page.value(described))
-    page.open(view="table", ids="86", text=LDB.replace("channels 3", "channels 86").replace("ldb(r0, L)", "r0"))
+    page.open(view="table", ids="102", example="linial_poly.txt")
     page.wait("a refused table", "document.querySelector('[role=status] #table-refused').textContent")
     ring = ",".join(str(i * 5 % 1024) for i in range(1024))
     page.open(view="run", ids="1024", ring=ring, example="identity.txt")

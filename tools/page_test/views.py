@@ -6,7 +6,7 @@ import re
 import time
 from collections import Counter
 
-from steps import CV1, LDB, ROOT, STEPS, nbhd, note_of
+from steps import CV1, LDB, ROOT, STEPS, kind_of, nbhd, note_of
 
 IDS = ("--ids", "8")
 NO_DRAWN = "document.querySelector('.verdict.no') && document.querySelector('#witness .badge')"
@@ -38,21 +38,22 @@ def check(page):
     line = nbhd(faulty, "check", *IDS).strip()
     offset = int(line.split()[-1])
     row, column = faulty[:offset].count("\n") + 1, offset - faulty.rfind("\n", 0, offset)
-    STEPS.equal("its line of the report", page.text(".check .line"), line)
+    STEPS.equal("its kind", page.text(".check .line"), kind_of(line))
     STEPS.equal("its mark", page.texts(".ink .fault"), ["lift"])
     STEPS.equal("its row", page.value("[...document.querySelectorAll('.ink .faulty')].map(e => e.dataset.row)"), [str(row)])
     STEPS.equal("its place", page.text(".check .place"), f"line {row}, column {column}")
-    shown_note(page, "its note", faulty)
+    shown_fault(page, "its note", faulty)
     page.click(".check .place")
     STEPS.equal("the cursor goes there", page.value("document.querySelector('#text').selectionStart"), offset)
 
 
-def shown_note(page, name, text, *options):
-    """The page shows the note of the program, without its backquotes, and its place."""
-    place, sentence = note_of(text, "check", *(options or IDS))
-    STEPS.equal(name, page.text(".check .note"), sentence.replace("`", ""))
-    if place:
-        STEPS.equal(f"{name}: its place", page.text(".check .place"), place)
+def shown_fault(page, name, text, *options):
+    """The page shows the kind of the fault, and the note of the program without its backquotes, and its place."""
+    words = ("check", *(options or IDS))
+    place, sentence = note_of(text, *words)
+    wanted = [kind_of(nbhd(text, *words)), sentence.replace("`", ""), place]
+    shown = "['.line', '.note', '.place'].map(part => document.querySelector(`.check ${part}`)?.textContent ?? '').join()"
+    page.wait(name, f"{shown} === {json.dumps(','.join(wanted))}")
 
 
 def faults(page):
@@ -69,11 +70,8 @@ def faults(page):
     }
     for name, text in texts.items():
         page.fill("#text", text)
-        line = nbhd(text, "check", *IDS).strip()
-        page.wait(f"the fault at {name}", f"document.querySelector('.check .line')?.textContent === {json.dumps(line)}")
-        shown_note(page, f"{name}: its note", text)
-        has_place = line.startswith("text") or note_of(text, "check", *IDS)[0]
-        STEPS.equal(f"{name}: marks", page.count(".ink .fault"), 1 if has_place else 0)
+        shown_fault(page, f"the fault at {name}", text)
+        STEPS.equal(f"{name}: marks", page.count(".ink .fault"), 1 if note_of(text, "check", *IDS)[0] else 0)
         copy = page.value("document.querySelector('.ink').textContent")
         STEPS.equal(f"{name}: the coloured copy has the same text", copy, text + "\n")
     refused = "The program is refused; the reason stands under its text."
@@ -82,8 +80,8 @@ def faults(page):
         page.wait(f"the {view} of a refused program", f"document.querySelector('{place}').textContent === '{refused}'")
     page.fill("#text", CV1)
     page.fill("#ids", "3")
-    page.wait("a refusal without a place", "document.querySelector('.check .line')?.textContent === 'check fault X1'")
-    shown_note(page, "its note", CV1, "--ids", "3")
+    shown_fault(page, "a refusal without a place", CV1, "--ids", "3")
+    STEPS.equal("its kind", page.text(".check .line"), "check fault X1")
     page.fill("#ids", "x")
     page.wait("no number", "document.querySelector('.check.bad strong')?.textContent === 'Refused'")
     page.fill("#ids", "4294967296")
@@ -402,7 +400,10 @@ def table(page):
     one = "document.querySelector('#table-say').textContent === '1 of 3,360 windows begins with 1 6 15.'"
     page.wait("a search for one window", one)
     page.open(view="table", ids="86", text=LDB.replace("channels 3", "channels 86").replace("ldb(r0, L)", "r0"))
-    page.wait("a table that is too long", "/longer than 8 MB/.test(document.querySelector('#table-refused').textContent)")
+    page.wait("a table whose text is too long", "document.querySelector('#table-say').textContent.startsWith('614,040 windows')")
+    page.click("#save")
+    said = "The table is not saved: the output is longer than 8 MB."
+    page.wait("it is not saved", f"document.querySelector('#table-refused').textContent === {json.dumps(said)}")
 
 
 def pasted_table(page):
@@ -425,7 +426,7 @@ def pasted_table(page):
         ("#pasted-ring", "5,1,3", "ring fault G1"),
         ("#pasted-ring", "24,3,x", "x is no identifier"),
         ("#pasted-ring", "24,3,17,25", "ring fault G3"),
-        ("#pasted-text", CV1, "table fault A1 at 0"),
+        ("#pasted-text", CV1, "table fault A1"),
     ):
         page.fill(place, value)
         shown = f"document.querySelector('#pasted-refused').textContent.startsWith('{said}')"
@@ -434,7 +435,7 @@ def pasted_table(page):
 
 
 def long_tables(page):
-    """Of a table that is longer than an answer of the server nbhd is not asked."""
+    """Of a table with more windows than the page keeps nbhd is not asked."""
     page.open(view="run", ids="8", example="cv1.txt")
     page.wait("a program", "document.querySelector('.check.good')")
     page.listen()
@@ -448,15 +449,8 @@ def long_tables(page):
         said = f"{count} windows are too many to show here; nbhd table prints them."
         page.wait(f"too many windows of {name}", f"document.querySelector('#table-refused').textContent === {json.dumps(said)}")
     STEPS.equal("nbhd is not asked about them", page.asked("table", "ids"), [])
-    wider = LDB.replace("channels 3", "channels 9")
-    for text, ids in ((LDB, 8), (wider, 16), ("rounds 0 channels 1 registers 1 start r0 = 0 finish 0", 120)):
-        words = nbhd(text, "check", "--ids", str(ids)).split()
-        shape = {"ids": ids, "rounds": int(words[words.index("rounds") + 1]), "windows": int(words[words.index("windows") + 1])}
-        lines = [line for line in nbhd(text, "table", "--ids", str(ids)).splitlines() if " : " in line]
-        found = page.call("table.js", f"m.leastBytes({json.dumps(shape)})")
-        STEPS.equal(f"the least bytes of {shape}", round(found), sum(len(line) + 1 for line in lines))
-    page.open(view="table", ids="86", text=wider)
-    page.wait("a table of nearly 8 MB", "document.querySelector('#table-say').textContent.startsWith('614,040 windows')")
+    page.open(view="table", ids="100", text=LDB.replace("channels 3", "channels 10"))
+    page.wait("nearly as many windows", "document.querySelector('#table-say').textContent.startsWith('970,200 windows')")
 
 
 def graph(page):
