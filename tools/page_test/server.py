@@ -13,15 +13,16 @@ from steps import ROOT
 
 
 class Server:
-    """A server on a free port, which runs the given program. It can be started again on the same port."""
+    """A server on a free port, which runs the given program, with more variables if it needs some. It can be started again on the same
+    port."""
 
-    def __init__(self, program):
-        self.program, self.port = program, 0
+    def __init__(self, program, **variables):
+        self.port, self.environment = 0, {**os.environ, **variables, "NBHD": str(program)}
         self.start()
 
     def start(self):
         words = [sys.executable, str(ROOT / "nbhd-page"), "--port", str(self.port)]
-        self.process = subprocess.Popen(words, text=True, stdout=subprocess.PIPE, env={**os.environ, "NBHD": str(self.program)})
+        self.process = subprocess.Popen(words, text=True, stdout=subprocess.PIPE, env=self.environment)
         self.greeting = self.process.stdout.readline()
         self.port = int(re.search(r":(\d+)/", self.greeting)[1])
         self.own = f"127.0.0.1:{self.port}"
