@@ -1,4 +1,4 @@
-// The fewest channels that are known, as docs/LEAST.md has them.
+// The fewest channels that are known, as docs/LEAST.md has them. The rows are written by tools/known.
 
 // Rounds, near, far, and the numbers of identifiers from one to another; then the greatest number of channels with a refutation
 // or a bound, and the least one with a table.
