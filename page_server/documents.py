@@ -6,7 +6,7 @@ import re
 import shutil
 import subprocess
 
-GUIDES = ["TUTORIAL", "EXERCISES", "ANSWERS", "RECIPES", "GALLERY", "PROBLEMS", "LEAST", "LANGUAGE", "FAULTS", "GLOSSARY"]
+GUIDES = ["TUTORIAL", "EXERCISES", "ANSWERS", "RECIPES", "GALLERY", "PROBLEMS", "LEAST", "LANGUAGE", "FAULTS", "GLOSSARY", "PROOFS", "CALLS"]
 NAMES = ["README", *(f"docs/{guide}" for guide in GUIDES), "CHANGELOG"]
 # Where the page is, as the documents' links have it.
 PAGE = "http://127.0.0.1:8765/"

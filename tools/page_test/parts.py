@@ -76,7 +76,7 @@ def server_parts():
         STEPS.equal(f"no words: {broken}", refused(orders.words_and_text, broken), 400)
     files = page_files(ROOT)
     STEPS.equal("the first page", files["/"], ("text/html; charset=utf-8", (ROOT / "page/index.html").read_bytes()))
-    STEPS.check("no file but these", not {"/package.json", "/index.html", "/docs/pictures", "/docs/PROOFS.html"} & set(files))
+    STEPS.check("no file but these", not {"/package.json", "/index.html", "/docs/pictures", "/docs/DECISIONS.html"} & set(files))
     present = runs.Runs(STUB)
     here = lambda: False
     STEPS.equal("a run", present.run(["check"], b"echo", here), (0, b"stub\n['check']\n", b""))
