@@ -1,12 +1,12 @@
 -- The tokens of arrays and objects, with the bracket at the end.
 use Rattle.std.proofs.Common.{◌≡◌, List, [], ◌∷◌, ◌++◌, sym, ap, ◌∙◌, append_assoc, append-nil, refl}
 use Rattle.std.proofs.lemmas.Grind.{flat_map-append}
-use Rattle.std.specs.Prelude.{Result, Ok, Err, OnOk}
+use Rattle.std.specs.Prelude.{Result, Ok, Err}
 use Rattle.json.specs.Json.{Json}
 use Rattle.json.specs.Token.{Token, begin_array, end_array, begin_object, end_object, key}
 use Rattle.json.specs.Tree.{json_tokens, items_tokens, members_tokens}
-use Rattle.json.specs.Written.{Written}
-use Rattle.json_reports.specs.Puts.{PutsFields}
+use Rattle.json.specs.Written.{Writes, Written}
+use Rattle.json_reports.specs.Puts.{Puts, PutsFields, PutsValues}
 use Rattle.json_reports.specs.Values.{Field, array_of, items_of, members_of, object_of, value_tokens, field_tokens}
 
 pub array_tokens : (vs : List Json) → items_tokens (items_of vs) ≡ value_tokens vs ++ end_array ∷ []
@@ -19,23 +19,33 @@ object_tokens (f ∷ fs) =
     ap (λ ts. key f.0 ∷ (json_tokens f.1 ++ ts)) (object_tokens fs)
     ∙ ap (λ ts. key f.0 ∷ ts) (sym (append_assoc (json_tokens f.1) (field_tokens fs) (end_object ∷ [])))
 
--- what opens the bracket of an array, appends values and closes the bracket writes the array
-pub closes_array : {E : Type 0} (result : Result (Unit {0}) E) (front opened before after : List Token) (vs : List Json)
-    → opened ≡ front ++ begin_array ∷ [] → before ≡ opened ++ value_tokens vs → OnOk result (after ≡ before ++ end_array ∷ [])
-    → OnOk result (after ≡ front ++ (json_tokens (array_of vs) ++ []))
-closes_array (Err e) front opened before after vs begun is closed = tt
-closes_array (Ok done) front opened before after vs begun is closed =
-    closed ∙ ap (λ ts. ts ++ end_array ∷ []) (is ∙ ap (λ ts. ts ++ value_tokens vs) begun ∙ append_assoc front (begin_array ∷ []) (value_tokens vs)) ∙ append_assoc front (begin_array ∷ value_tokens vs) (end_array ∷ [])
-    ∙ ap (λ ts. front ++ begin_array ∷ ts) (sym (array_tokens vs) ∙ sym (append-nil (items_tokens (items_of vs))))
+-- what appends a first token, then others and then a last one appends all of them
+closes : {E : Type 0} (result : Result (Unit {0}) E) (old opened filled new : Written) (first last : Token) (body rest : List Token)
+    → body ++ last ∷ [] ≡ rest → opened.tokens ≡ old.tokens ++ first ∷ [] → opened.before ≡ old.before
+    → filled.tokens ≡ opened.tokens ++ body → filled.before ≡ opened.before → Writes result filled new last → Puts result old new (first ∷ rest)
+closes (Err e) old opened filled new first last body rest whole begun same is kept closed =
+    record { ok = tt; before = closed.room.0 ∙ kept ∙ same }
+closes (Ok done) old opened filled new first last body rest whole begun same is kept closed = record {
+  ok = closed.ok ∙ ap (λ ts. ts ++ last ∷ []) (is ∙ ap (λ ts. ts ++ body) begun ∙ append_assoc old.tokens (first ∷ []) body)
+      ∙ append_assoc old.tokens (first ∷ body) (last ∷ []) ∙ ap (λ ts. old.tokens ++ first ∷ ts) whole;
+  before = closed.room.0 ∙ kept ∙ same;
+}
 
--- the same for the members of an object
-pub closes_object : {E : Type 0} (result : Result (Unit {0}) E) (front opened before after : List Token) (fs : List Field)
-    → opened ≡ front ++ begin_object ∷ [] → before ≡ opened ++ field_tokens fs → OnOk result (after ≡ before ++ end_object ∷ [])
-    → OnOk result (after ≡ front ++ (json_tokens (object_of fs) ++ []))
-closes_object (Err e) front opened before after fs begun is closed = tt
-closes_object (Ok done) front opened before after fs begun is closed =
-    closed ∙ ap (λ ts. ts ++ end_object ∷ []) (is ∙ ap (λ ts. ts ++ field_tokens fs) begun ∙ append_assoc front (begin_object ∷ []) (field_tokens fs)) ∙ append_assoc front (begin_object ∷ field_tokens fs) (end_object ∷ [])
-    ∙ ap (λ ts. front ++ begin_object ∷ ts) (sym (object_tokens fs) ∙ sym (append-nil (members_tokens (members_of fs))))
+-- brackets with values between them are an array
+pub puts_array : {E : Type 0} {d e : Unit {0}} (result : Result (Unit {0}) E) (old opened filled new : Written) (vs : List Json)
+    → Writes {E = E} (Ok d) old opened begin_array → PutsValues {E = E} (Ok e) opened filled vs → Writes result filled new end_array
+    → PutsValues result old new (array_of vs ∷ [])
+puts_array result old opened filled new vs opens fills closed =
+    closes result old opened filled new begin_array end_array (value_tokens vs) (items_tokens (items_of vs) ++ [])
+    (sym (array_tokens vs) ∙ sym (append-nil (items_tokens (items_of vs)))) opens.ok opens.room.0 fills.ok fills.before closed
+
+-- braces with members between them are an object
+pub puts_object : {E : Type 0} {d e : Unit {0}} (result : Result (Unit {0}) E) (old opened filled new : Written) (fs : List Field)
+    → Writes {E = E} (Ok d) old opened begin_object → PutsFields {E = E} (Ok e) opened filled fs → Writes result filled new end_object
+    → PutsValues result old new (object_of fs ∷ [])
+puts_object result old opened filled new fs opens fills closed =
+    closes result old opened filled new begin_object end_object (field_tokens fs) (members_tokens (members_of fs) ++ [])
+    (sym (object_tokens fs) ∙ sym (append-nil (members_tokens (members_of fs)))) opens.ok opens.room.0 fills.ok fills.before closed
 
 -- the members of an object whose bracket was opened, and those of a note
 pub noted_tokens : (new opened filled noted : List Token) (fs ns : List Field) → new ≡ [] → opened ≡ new ++ begin_object ∷ []
