@@ -2,6 +2,7 @@
 #![tactic(auto)]
 
 mod answers;
+mod entries;
 mod faults;
 mod fields;
 mod noes;

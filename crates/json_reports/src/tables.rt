@@ -2,30 +2,29 @@
 
 ghost use Rattle.devices.specs.Output.{SendsText};
 ghost use Rattle.devices.specs.Watched.{device_of, has_failed};
-ghost use Rattle.devices.specs.declared.chunk.TheConstants.{CHUNK_LEN};
 ghost use Rattle.json_reports.specs.Json.{size_fields, table_fields, table_head};
 ghost use Rattle.json_reports.specs.Puts.{PutsFields};
 ghost use Rattle.json_reports.specs.Reports.{IsRead};
-ghost use Rattle.json_reports.specs.TableTexts.{entry_text, head_text, rest_text, table_json};
+ghost use Rattle.json_reports.specs.TableTexts.{head_text, rest_text, table_json};
 ghost use Rattle.json_reports.specs.Values.{object_of};
 ghost use Rattle.reports.specs.Written.{WritesBytes};
-ghost use Rattle.std.specs.Prelude.{◌≡◌, ◌+◌, ◌≤◌, ◌++◌, ◌∷◌, [], IfOk, OnOk, drop, false, length};
+ghost use Rattle.std.specs.Prelude.{◌≡◌, ◌++◌, [], IfOk, OnOk, drop, false};
 
 use crate::answers::{put_separation, put_sizes};
+use crate::entries::{Entries, ROOM};
 use crate::fields::put_text;
 use channel_tables::{Separation, Table};
 use devices::chunk::Chunk;
 use devices::fault::EngineFault;
 use devices::output::send;
 use devices::watched::Watched;
-use itoa::write_digits;
 use json::Writer;
 use reports::finding::TableReport;
 use std::alloc::{AllocError, Global};
 use std::io::Write;
 
-// The maximum length of the text of a channel: a comma and five digits.
-const ENTRY_LEN: usize = 6;
+// The number of channels for which a chunk has space at once.
+const SECTION: usize = 8_000;
 
 // Writes the JSON text of a table and a separation, and a line feed.
 //
@@ -116,31 +115,16 @@ fn write_rest<W: Write>(
     requires empty { chunk.old ≡ [] }
     ensures { SendsText (rest_text entries.now) (W.contents (device_of writer.old)) (W.contents (device_of writer.new)) (has_failed writer.new) result }
 {
-    for entry in entries {
-        chunk.make_room(ENTRY_LEN, writer)?;
-        push_entry(chunk, *entry);
+    let mut first = 0;
+    while first < entries.len() {
+        let count = SECTION.min(entries.len() - first);
+        chunk.make_room(SECTION * ROOM, writer)?;
+        chunk.push_stored(&Entries {
+            entries: &entries[first..first + count],
+        });
+        first += count;
     }
     chunk.make_room(3, writer)?;
     chunk.push(b"]}\n");
     chunk.send(writer)
-}
-
-// Appends a comma and a channel.
-fn push_entry(chunk: &mut Chunk, entry: u16)
-    requires { length chunk.old + ENTRY_LEN ≤ CHUNK_LEN }
-    ensures { chunk.new ≡ chunk.old ++ entry_text entry }
-{
-    let mut bytes = [0; ENTRY_LEN];
-    let start = write_entry(entry, &mut bytes);
-    chunk.push(&bytes[start..]);
-}
-
-// Writes a comma and a channel at the end of the bytes, and returns where they start.
-fn write_entry(entry: u16, bytes: &mut [u8; ENTRY_LEN]) -> usize
-    ensures start { result ≤ ENTRY_LEN }
-    ensures text { drop result bytes.new ≡ entry_text entry }
-{
-    let start = write_digits(u64::from(entry), bytes, ENTRY_LEN);
-    bytes[start - 1] = b',';
-    start - 1
 }
