@@ -1,4 +1,4 @@
-"""The documents to learn from, as pages in the style of the page. cmark-gfm makes HTML of their Markdown."""
+"""The documents as pages in the style of the page. cmark-gfm makes HTML of their Markdown."""
 
 import html
 import posixpath
@@ -6,10 +6,13 @@ import re
 import shutil
 import subprocess
 
-GUIDES = ["TUTORIAL", "EXERCISES", "ANSWERS", "RECIPES", "GALLERY", "PROBLEMS", "LEAST", "LANGUAGE", "FAULTS", "GLOSSARY", "PROOFS", "CALLS"]
+GUIDES = ["TUTORIAL", "EXERCISES", "RECIPES", "GALLERY", "LEAST", "LANGUAGE", "FAULTS", "PROOFS", "ARCHITECTURE", "DECISIONS"]
 NAMES = ["README", *(f"docs/{guide}" for guide in GUIDES), "CHANGELOG"]
+# Lists that `tools/inventory` prints, by its word. A bundle has them.
+LISTS = {"docs/CALLS": "calls", "docs/DEFINITIONS": "definitions", "docs/EDITS": "edits"}
 # Where the page is, as the documents' links have it.
 PAGE = "http://127.0.0.1:8765/"
+HEAD = re.compile(r"<h([1-6])>(.*?)</h\1>", re.DOTALL)
 TEXT_ALONE = "To read this as a page with links: apt-get install cmark-gfm, then start ./nbhd-page again.\n\n"
 LAYOUT = """\
 <!doctype html>
@@ -39,38 +42,44 @@ def converter():
     return shutil.which("cmark-gfm")
 
 
+def names_in(root):
+    """The names of the documents that a folder has."""
+    return [name for name in [*NAMES, *LISTS] if any((root / f"{name}.{ending}").is_file() for ending in ("html", "md"))]
+
+
 def document_files(root, program):
     """The documents of a folder by their path with the ending `.html`: made by the program of `converter` from Markdown, or as they are.
     Without a program Markdown is left out."""
-    files = {}
-    for name in NAMES:
+    files, names = {}, names_in(root)
+    for name in names:
         made, source = root / f"{name}.html", root / f"{name}.md"
         if made.is_file():
             files[f"{name}.html"] = made.read_text(encoding="utf-8")
-        elif program and source.is_file():
-            files[f"{name}.html"] = document(name, source.read_bytes(), program)
+        elif program:
+            files[f"{name}.html"] = document(name, source.read_bytes(), program, names)
     return files
 
 
 def served_documents(root, program):
     """The type and the text of each document, by its path in the address."""
     found = document_files(root, program)
-    for name in NAMES:
+    for name in names_in(root):
         path, source = f"{name}.html", root / f"{name}.md"
         if path in found:
             # The files of the page have no folder there, and the page may have another port.
             text = re.sub(r'(href|src)="(?:\.\./)?page/', r'\1="/', found[path]).replace(f'href="{PAGE}', 'href="/')
             yield f"/{path}", ("text/html; charset=utf-8", text.encode())
-        elif source.is_file():
+        else:
             yield f"/{path}", ("text/plain; charset=utf-8", TEXT_ALONE.encode() + source.read_bytes())
 
 
-def document(name, markdown, program):
-    """A document as a page: its heads have anchors, and its links lead to other documents."""
-    ran = subprocess.run([program, "-e", "table", "-t", "html"], input=markdown, stdout=subprocess.PIPE, check=True)
-    body = with_anchors(with_links(name, ran.stdout.decode()))
+def document(name, markdown, program, names):
+    """A document as a page: its heads have anchors, and its links lead to the other documents, of these names."""
+    # (`--unsafe` leaves `<details>` as it is)
+    ran = subprocess.run([program, "--unsafe", "-e", "table", "-t", "html"], input=markdown, stdout=subprocess.PIPE, check=True)
+    body = with_anchors(with_links(name, ran.stdout.decode(), names))
     title = re.search(r"<h1[^>]*>(.*?)</h1>", body)[1]
-    return LAYOUT.format(title=without_tags(title), top=relative("", name), page=PAGE, links=links_of(name), body=body)
+    return LAYOUT.format(title=without_tags(title), top=relative("", name), page=PAGE, links=links_of(name, names), body=body)
 
 
 def relative(path, name):
@@ -78,16 +87,16 @@ def relative(path, name):
     return ("../" if "/" in name else "") + path
 
 
-def links_of(name):
+def links_of(name, names):
     """Links to all documents; that to the document itself is marked."""
     lines = []
-    for other in NAMES:
+    for other in names:
         current = ' aria-current="page"' if other == name else ""
         lines.append(f'<a href="{relative(other, name)}.html"{current}>{posixpath.basename(other).capitalize()}</a>')
     return "\n".join(lines)
 
 
-def with_links(name, body):
+def with_links(name, body, names):
     """The text with links to documents as pages. Of a link to a file that is no document the words are left."""
 
     def link(found):
@@ -96,22 +105,24 @@ def with_links(name, body):
         if not path or ":" in path:
             return found[0]
         other = posixpath.normpath(posixpath.join(posixpath.dirname(name), path)).removesuffix(".md")
-        return f'<a href="{relative(other, name)}.html{mark}{anchor}">{words}</a>' if other in NAMES else words
+        return f'<a href="{relative(other, name)}.html{mark}{anchor}">{words}</a>' if other in names else words
 
     return re.sub(r'<a href="([^"]*)">(.*?)</a>', link, body, flags=re.DOTALL)
 
 
-def with_anchors(body):
-    """The text with an anchor at each head: its words in lower case with `-` between them, as on GitHub."""
+def anchors_of(heads):
+    """The anchor of each head, as on GitHub: its words in lower case with `-` between them, and a number if an earlier one has the same."""
     taken = {}
-
-    def head(found):
-        words = re.sub(r"[^\w\- ]", "", without_tags(found[2]).lower()).replace(" ", "-")
+    for head in heads:
+        words = re.sub(r"[^\w\- ]", "", head.lower()).replace(" ", "-")
         taken[words] = taken.get(words, -1) + 1
-        anchor = f"{words}-{taken[words]}" if taken[words] else words
-        return f'<h{found[1]} id="{anchor}">{found[2]}</h{found[1]}>'
+        yield f"{words}-{taken[words]}" if taken[words] else words
 
-    return re.sub(r"<h([1-6])>(.*?)</h\1>", head, body, flags=re.DOTALL)
+
+def with_anchors(body):
+    """The text with an anchor at each head."""
+    anchors = anchors_of(without_tags(words) for _, words in HEAD.findall(body))
+    return HEAD.sub(lambda found: f'<h{found[1]} id="{next(anchors)}">{found[2]}</h{found[1]}>', body)
 
 
 def without_tags(text):
