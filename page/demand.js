@@ -37,7 +37,7 @@ export function demandOf({ problem, near, far, forbid }) {
   return { patterns: patterns.includes(null) ? null : patterns, options: { forbid: words } };
 }
 
-/** The words of a list of patterns, as docs/PROBLEMS.md has them. */
+/** The words of a list of patterns, as docs/LEAST.md has them. */
 export const patternsText = (patterns) => patterns.map(textOf).join(" ");
 
 /** What is asked, as a part of a sentence about channels that are below so many. */

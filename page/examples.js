@@ -63,7 +63,7 @@ export function showExample() {
 function showAnswer() {
   const example = exampleAsking(state.text);
   byId("to-try").hidden = !example;
-  byId("answer").href = `docs/ANSWERS.html#${example ? example.name.replace(/\.txt$/, "") : "what-to-try"}`;
+  byId("answer").href = `docs/EXERCISES.html#${example ? example.name.replace(/\.txt$/, "") : "what-to-try"}`;
 }
 
 /** Takes an example with its number of identifiers, its problem, a new ring if the current one is no ring for it, and the start of its

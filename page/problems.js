@@ -1,5 +1,5 @@
 // The problems that have a name: their patterns, what their channels mean, what a yes says, and what is wrong where a ring breaks them,
-// in the words of nbhd; and what is known of the fewest rounds, as docs/PROBLEMS.md has it.
+// in the words of nbhd; and what is known of the fewest rounds, as docs/LEAST.md has it.
 
 import { wordsOf } from "./patterns.js";
 

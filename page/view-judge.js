@@ -59,7 +59,7 @@ function fewer(accepted, { near, far, name, patterns }) {
   }
   const { ids, rounds } = accepted;
   const known = patterns ? fewerRounds(patternsText(patterns), ids, rounds) : fewerChannels(rounds, ids, near, far, most);
-  const source = link(patterns ? "docs/PROBLEMS.html#what-is-known" : "docs/LEAST.html#what-is-known", "What is known");
+  const source = link(patterns ? "docs/LEAST.html#what-is-known-of-rounds" : "docs/LEAST.html#what-is-known-of-channels", "What is known");
   const isOther = known?.example && known.example !== exampleOf(state.text)?.name;
   // The example may ask something else.
   const own = name ? `&problem=${name}` : `&problem=own&forbid=${patternsText(patterns ?? []).replaceAll(" ", "+")}`;

@@ -1,7 +1,7 @@
 """Problems of forbidden patterns: audits of random tables, verdicts on programs, formulas, and refutations, right ones and damaged ones. A
 row has the words, the input, the standard output and the exit status. The expected values are those of a second implementation, which is
 here, from docs/LANGUAGE.md. Whether a table solves a problem is asked of each place of each ring of each length; tuples are gone through
-only for the least bad one, and for wider tables, whose rings are too many. What is in examples/problems was found by other programs (docs/PROBLEMS.md), and has to be accepted."""
+only for the least bad one, and for wider tables, whose rings are too many. What is in examples/problems was found by other programs (docs/LEAST.md), and has to be accepted."""
 
 import lzma
 import re

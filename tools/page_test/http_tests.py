@@ -51,7 +51,7 @@ def files(server):
     STEPS.check("the page loads nothing from elsewhere", not re.search(rb"(src|href)=\"(https?:)?//", page))
     foreign = """/../nbhd-page /%2e%2e/nbhd-page /..%2fnbhd-page //etc/passwd /page/../nbhd-page /./style.css /style.css/../main.js
         /index.html /nbhd-page /examples/cv1.txt /style.css?x /\\..\\nbhd-page /tools/page-test /style.css%00 /nbhd * /etc/passwd
-        /.git/config style.css /package.json /docs /docs/ /docs/../README.md /docs/pictures/ /docs/DECISIONS.html
+        /.git/config style.css /package.json /docs /docs/ /docs/../README.md /docs/pictures/ /docs/CALLS.html
         /docs/LANGUAGE.md"""
     for path in [*foreign.split(), f"http://{server.own}/../nbhd-page"]:
         answer = server.ask(f"GET {path}")

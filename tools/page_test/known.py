@@ -1,5 +1,5 @@
 """What the page knows of the fewest channels and rounds, compared with the refutations and the tables of examples/least and
-examples/problems, with the table of docs/PROBLEMS.md, and with examples."""
+examples/problems, with the table of docs/LEAST.md, and with examples."""
 
 import re
 
@@ -59,8 +59,8 @@ def known_rounds():
 
 
 def documented_rounds():
-    """The patterns of the rows of docs/PROBLEMS.md, with the cell of each number of rounds."""
-    table = (ROOT / "docs/PROBLEMS.md").read_text(encoding="utf-8").split("\n| Problem | Patterns ", 1)[1].split("\n\n")[0].splitlines()
+    """The patterns of the rows of docs/LEAST.md, with the cell of each number of rounds."""
+    table = (ROOT / "docs/LEAST.md").read_text(encoding="utf-8").split("\n| Problem | Patterns ", 1)[1].split("\n\n")[0].splitlines()
     count = len(re.findall(r"\| (?:No|\d+) rounds?\b", table[0]))
     cells = [line.strip("| ").split(" | ") for line in table[2:]]
     return {" ".join(re.findall("`([^`]*)`", patterns)): found[:count] for _, patterns, *found in cells}

@@ -336,8 +336,8 @@ test("classes: those of the literature", () => {
   assert.match(classSentence([[1, 1]]), /^On every ring all nodes may have channel 0,/);
 });
 
-test("classes: those of docs/PROBLEMS.md", () => {
-  const page = readFileSync(new URL("../../docs/PROBLEMS.md", import.meta.url), "utf-8");
+test("classes: those of docs/LEAST.md", () => {
+  const page = readFileSync(new URL("../../docs/LEAST.md", import.meta.url), "utf-8");
   const [head, , ...rows] = page.slice(page.indexOf("| Problem | Patterns |")).split("\n\n")[0].split("\n").map((row) => row.split(" | "));
   const at = head.findIndex((cell) => cell.startsWith("Long rings"));
   assert.ok(at > 0 && rows.length > 5);

@@ -61,8 +61,7 @@ def documents():
             there = path in files and (path == "/" or not anchor or f' id="{anchor}"' in files[path][1].decode())
             STEPS.check(f"the link {link[:60]} of {name}", there)
     anchors = re.findall(r'<h2 id="([^"]*)"', files["/docs/LEAST.html"][1].decode())
-    STEPS.equal("anchors", anchors[:2], ["what-is-known", "the-proofs"])
-    STEPS.check("the anchor that the judge links to", b'<h2 id="what-is-known">' in files["/docs/PROBLEMS.html"][1])
+    STEPS.equal("anchors", anchors[:3], ["what-is-known-of-rounds", "what-is-known-of-channels", "the-proofs"])
 
 
 def server_parts():
@@ -76,7 +75,7 @@ def server_parts():
         STEPS.equal(f"no words: {broken}", refused(orders.words_and_text, broken), 400)
     files = page_files(ROOT)
     STEPS.equal("the first page", files["/"], ("text/html; charset=utf-8", (ROOT / "page/index.html").read_bytes()))
-    STEPS.check("no file but these", not {"/package.json", "/index.html", "/docs/pictures", "/docs/DECISIONS.html"} & set(files))
+    STEPS.check("no file but these", not {"/package.json", "/index.html", "/docs/pictures", "/CONTRIBUTING.html"} & set(files))
     present = runs.Runs(STUB)
     here = lambda: False
     STEPS.equal("a run", present.run(["check"], b"echo", here), (0, b"stub\n['check']\n", b""))

@@ -295,7 +295,7 @@ def problem_yes(page):
     STEPS.equal("what is known of it", page.texts("#verdict .fewer"), [known])
     linked = page.value("[...document.querySelectorAll('.fewer a')].map(e => e.getAttribute('href'))")
     asked = "#view=judge&ids=8&problem=own&forbid=1,1+2,2+0,0&example=three_23.txt"
-    STEPS.equal("its links", linked, [asked, "docs/PROBLEMS.html#what-is-known"])
+    STEPS.equal("its links", linked, [asked, "docs/LEAST.html#what-is-known-of-rounds"])
     page.open(view="judge", **START, example="cv1.txt", problem="own", forbid="99,99 0,0")
     page.wait("a yes to own patterns", DRAWN.format("yes"))
     words = options("own", ("99,99", "0,0"))

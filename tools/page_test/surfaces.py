@@ -44,7 +44,7 @@ def documents(page):
         return
     for width, height in ((1280, 900), (390, 844), (320, 568)):
         page.browser.size(width, height)
-        for name in ("README", "docs/TUTORIAL", "docs/LANGUAGE", "docs/LEAST", "docs/PROBLEMS"):
+        for name in ("README", "docs/TUTORIAL", "docs/LANGUAGE", "docs/LEAST", "docs/PROOFS"):
             page.browser.call("Page.navigate", url=f"{page.url}{name}.html")
             page.wait(f"{name} at {width}", "document.readyState === 'complete' && document.querySelector('main h1')")
             STEPS.check(f"{name} at {width}: nothing is too wide", page.value("document.documentElement.scrollWidth <= innerWidth"))
@@ -52,12 +52,12 @@ def documents(page):
             STEPS.check(f"{name}: pictures", page.value("[...document.images].every(image => image.complete && image.naturalWidth > 0)"))
     page.browser.size(1280, 900)
     page.browser.call("Page.navigate", url=f"{page.url}docs/EXERCISES.html")
-    page.wait("the exercises", "document.querySelectorAll('main li').length === 10")
+    page.wait("the exercises", "document.querySelectorAll('main details:not([open])').length > 50")
     light = page.value("getComputedStyle(document.body).backgroundColor")
     page.click("#theme")
     STEPS.check("a dark document", page.value("getComputedStyle(document.body).backgroundColor") != light)
     page.click("#theme")
-    page.click("main li:nth-child(6) a")
+    page.click("main a[href*='view=run&ids=8&text=rounds+1']")
     page.wait("an exercise opens on the page", "document.querySelector('.check.good')")
 
 

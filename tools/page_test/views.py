@@ -341,7 +341,7 @@ def judge_distances(page):
     fewer = "Fewer channels? There is a table with 4 channels, and with 3 channels there is none. sperner_20_4.txt What is known"
     STEPS.equal("what is known of fewer channels", page.texts(".verdict .fewer"), [fewer])
     links = page.value("[...document.querySelectorAll('.fewer a')].map(e => e.getAttribute('href'))")
-    STEPS.equal("its links", links, ["#view=judge&ids=8&example=sperner_20_4.txt", "docs/LEAST.html#what-is-known"])
+    STEPS.equal("its links", links, ["#view=judge&ids=8&example=sperner_20_4.txt", "docs/LEAST.html#what-is-known-of-channels"])
     for ids, far, said in (
         ("4", "0", "On every ring of 4 distinct identifiers below 4, neighbours’ channels differ."),
         ("4", "1", "No ring has 5 distinct identifiers below 4."),
@@ -577,7 +577,7 @@ def exercises(page):
     text = (ROOT / "docs/EXERCISES.md").read_text(encoding="utf-8")
     links = re.findall(r"^\[\d+\]: http://127\.0\.0\.1:8765/(#.*)$", text, re.MULTILINE)
     links += re.findall(r"\(http://127\.0\.0\.1:8765/(#[^)]*)\)", text)
-    STEPS.equal("exercises with a link", len(links), len(re.findall(r"^(?:\d+\.|\*\*\d+\.\*\*) ", text, re.MULTILINE)))
+    STEPS.equal("exercises with a link", len(links), len(re.findall(r"^\*\*\d+\.\*\* ", text, re.MULTILINE)))
     for number, fragment in enumerate(links, 1):
         page.browser.open(page.url + fragment)
         page.wait(f"exercise {number}", f"document.querySelector('.check.{'bad' if number in (3, 10) else 'good'}')")
@@ -593,8 +593,8 @@ def examples(page):
     facts = page.value("[...document.querySelectorAll('#examples .aside')].map(e => e.textContent)")
     options = [file.name for file in (ROOT / "examples").glob("*.txt") if re.search(r"#.* --\w", file.read_text())]
     STEPS.equal("examples that speak of the command line", options, [])
-    heads = re.findall(r"^### (\w+)$", (ROOT / "docs/ANSWERS.md").read_text(encoding="utf-8"), re.MULTILINE)
-    answers = {f"{name}.txt": f"docs/ANSWERS.html#{name}" for name in heads}
+    heads = re.findall(r"^### (\w+)$", (ROOT / "docs/EXERCISES.md").read_text(encoding="utf-8"), re.MULTILINE)
+    answers = {f"{name}.txt": f"docs/EXERCISES.html#{name}" for name in heads}
     STEPS.equal("the list of examples", [fact.split(" ")[0] for fact in facts], names)
     count = len(names)
     for number in range(count):
