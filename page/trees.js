@@ -53,5 +53,16 @@ export function sourceOf({ kind, round }, word) {
   return /^r[0-9]$/.test(word) ? { ...placeOf(kind === "finish" ? round : round - 1, word), further: 0 } : null;
 }
 
-/** The trees that belong to a step of a run. */
-export const treesIn = (trees, { kind, round }) => trees.filter((tree) => tree.kind === kind && tree.round === round);
+/** The trees that belong to a step of a run; where `finish` is a register alone, that of its last assignment too. */
+export function treesIn(trees, { kind, round }) {
+  const own = trees.filter((tree) => tree.kind === kind && tree.round === round);
+  const source = kind === "finish" && sourceOf(own[0], own[0].parts[0].word);
+  return source ? [...own, trees.find(({ head }) => head === source.head)] : own;
+}
+
+/** What the channel of an explanation comes from: the `head` of its last tree, and the words that this reads, each with its value. */
+export function lastRead(trees) {
+  const { head, parts } = treesIn(trees, trees.at(-1)).at(-1);
+  const read = parts.filter(({ word, taken }) => taken && /^(r[0-9]|L|R|id)$/.test(word));
+  return { head, read: [...new Map(read.map(({ word, value }) => [word, value]))] };
+}

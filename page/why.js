@@ -52,7 +52,7 @@ export async function showWhy(step, ring) {
   panel.hidden = false;
   if (report.kind !== "explanation") return box.replaceChildren(html("p", { class: "refused" }, ...coded(reasonOf(report))));
   const tokens = partTokens(text);
-  box.replaceChildren(...treesIn(treesOf(report, tokens), step).map((tree) => drawTree(tree, tokens, step, ring)));
+  box.replaceChildren(...treesIn(treesOf(report, tokens), step).map((tree) => drawTree(tree, tokens, ring)));
   panel.scrollTop = 0;
   scrollToRows();
   return bringIntoView();
@@ -66,11 +66,11 @@ function bringIntoView() {
   if (ring.top < 0 || ring.bottom > (isBelow ? own.top : innerHeight)) scrollBy(0, ring.top - 4);
 }
 
-function drawTree({ head, parts }, tokens, step, ring) {
+function drawTree({ head, kind, round, parts }, tokens, ring) {
   const values = numerals(parts.map(({ value }) => value), state.base, widthOf(ring));
   const branches = branchesOf(parts);
   const list = html("ul", { role: "tree", "aria-label": head }, ...parts.map(({ depth, word, number, end }, i) => {
-    const source = sourceOf(step, word);
+    const source = sourceOf({ kind, round }, word);
     const follow = source && (() => lead(source));
     return html("li", {
       role: "treeitem", class: branches[i], "aria-level": depth + 1, "data-part": number, "data-end": end, tabindex: i === 0 ? "0" : "-1",

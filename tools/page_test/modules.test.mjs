@@ -20,7 +20,7 @@ import { noReport, reportOf, sentencesOf } from "../../page/report.js";
 import { readRing, whyNoRing, withCommas } from "../../page/ring-text.js";
 import { countChannels, edgesOf, tableOf, windowsOf } from "../../page/table.js";
 import { equalPairs, equalSentence, nameOf, sentenceOf, stepsOf } from "../../page/trace.js";
-import { branchesOf, sourceOf, treesIn, treesOf } from "../../page/trees.js";
+import { branchesOf, lastRead, sourceOf, treesIn, treesOf } from "../../page/trees.js";
 
 const FAULTY = "rounds 1\nchannels 6\nregisters 1\nstart\nr0 = id\nround\n  send lift 0\n";
 const CV1_TEXT = readFileSync(new URL("../../programs/cv1.txt", import.meta.url), "utf-8");
@@ -456,12 +456,12 @@ test("trees: the trees of an explanation, and those of a step", () => {
   assert.deepEqual(trees[3].parts[1], { depth: 1, word: "L", value: 1, taken: true, number: 4, end: 5 });
   const heads = (kind, round) => treesIn(trees, { kind, round }).map(({ head }) => head);
   assert.deepEqual([heads("start", 0), heads("send", 1), heads("assign", 1), heads("finish", 1)], [
-    ["start r0"], ["round 1 left", "round 1 right"], ["round 1 r0"], ["finish"],
+    ["start r0"], ["round 1 left", "round 1 right"], ["round 1 r0"], ["finish", "round 1 r0"],
   ]);
   assert.deepEqual(heads("assign", 2), []);
   // Without a round the finish has the round of the start.
   const found = treesOf(reported("explanation"), []);
-  assert.deepEqual(["start", "finish"].map((kind) => treesIn(found, { kind, round: 0 }).map(({ head }) => head)), [["start r0"], ["finish"]]);
+  assert.deepEqual(["start", "finish"].map((kind) => treesIn(found, { kind, round: 0 }).map(({ head }) => head)), [["start r0"], ["finish", "start r0"]]);
 });
 
 test("trees: the branch of an if that is taken, and the other one, which is one part", () => {
@@ -477,6 +477,14 @@ test("trees: the branch of an if that is taken, and the other one, which is one 
     const { at, length } = words[number];
     assert.equal(text.slice(at, at + length), word);
   }
+});
+
+test("trees: what the last assignment reads", () => {
+  const last = (...lines) => lastRead(treesOf(explained([0, "r0", "id 5"], [1, "left", "0 0"], [1, "right", "r0 5"],
+    [1, "r0", "if 7", " lt 1", "  L 3", "  r0 5", " add 7", "  L 3", "  4 4", " R 9 (not taken)"], [1, "finish", ...lines]), []));
+  assert.deepEqual(last("r0 7"), { head: "round 1 r0", read: [["L", 3], ["r0", 5]] });
+  assert.deepEqual(last("min 6", " r0 7", " 6 6"), { head: "finish", read: [["r0", 7]] });
+  assert.deepEqual(last("0 0"), { head: "finish", read: [] });
 });
 
 test("trees: where a value comes from", () => {

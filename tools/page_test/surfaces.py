@@ -360,7 +360,7 @@ def why(page):
     lines = nbhd(CV1, "explain", "--ids", "8", "--ring", "5,1,3,7", "--place", "1").splitlines()
     heads = [number for number, line in enumerate(lines) if not line.startswith(" ")]
     trees = {lines[a].split(",")[0]: lines[a + 1 : b] for a, b in zip(heads, [*heads[1:], len(lines)])}
-    steps = {"": ["start r0"], "1": ["round 1 left", "round 1 right"], "2": ["round 1 r0"], "end": ["finish"]}
+    steps = {"": ["start r0"], "1": ["round 1 left", "round 1 right"], "2": ["round 1 r0"], "end": ["finish", "round 1 r0"]}
     for width, base, way in ((1280, "10", "mouse"), (1280, "2", "keys"), (390, "10", "finger"), (390, "2", "keys")):
         page.browser.size(width, 900)
         page.browser.fingers(way == "finger")
