@@ -262,9 +262,11 @@ export function startRun() {
   byId("random").addEventListener("click", randomRing);
   addEventListener("keydown", (event) => {
     if (state.view !== "run" || event.altKey || event.ctrlKey || event.metaKey) return;
-    if (!event.target.matches("body, #stage, #stage *, .player button")) return;
-    if (event.key === "ArrowRight") { pause(); go(at + 1, true); }
-    else if (event.key === "ArrowLeft") { pause(); go(at - 1); }
+    // The keys of a page are what a presenter's remote sends.
+    const isPage = event.key.startsWith("Page");
+    if (!event.target.matches(`body, #stage, #stage *, ${isPage ? "button" : ".player button"}`)) return;
+    if (["ArrowRight", "PageDown"].includes(event.key)) { pause(); go(at + 1, true); }
+    else if (["ArrowLeft", "PageUp"].includes(event.key)) { pause(); go(at - 1); }
     else if (event.key === " " && event.target === stage) play();
     else return;
     event.preventDefault();

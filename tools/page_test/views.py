@@ -201,6 +201,12 @@ def step_keys(page):
         ("#timeline li:first-child button", "ArrowRight", 2),
         ("#ring", "ArrowLeft", 2),
         ("#trace", "ArrowLeft", 2),
+        (None, "PageUp", 1),
+        ("#tab-run", "PageDown", 2),
+        (".node[data-place='1']", "PageDown", 3),
+        ("#ring", "PageUp", 3),
+        ("#text", "PageUp", 3),
+        ("#trace", "PageUp", 3),
     ):
         page.focus(place) if place else page.value("document.activeElement.blur()")
         page.browser.key(key)
