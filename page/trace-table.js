@@ -3,8 +3,8 @@
 import { html } from "./dom.js";
 import { badgeImage } from "./channels.js";
 
-/** Shows a trace; `show` gives the texts of a list of numbers. */
-export function showTrace(box, ring, steps, { show, go, highlight }) {
+/** Shows a trace; `show` gives the texts of a list of numbers, and `press` takes the step, the place and the row's name of a value. */
+export function showTrace(box, ring, steps, { show, go, highlight, press }) {
   const rows = [];
   const row = (step, name, values, kind = "") => {
     const head = html("th", { scope: "row" }, html("button", { type: "button", onclick: () => go(step) }, name));
@@ -28,6 +28,11 @@ export function showTrace(box, ring, steps, { show, go, highlight }) {
     highlight(place === undefined ? null : Number(place));
   });
   table.addEventListener("pointerleave", () => highlight(null));
+  table.addEventListener("click", ({ target }) => {
+    const cell = target.closest("td");
+    const line = cell?.parentElement;
+    if (cell) press(Number(line.dataset.step), Number(cell.dataset.place), line.firstElementChild.textContent);
+  });
   box.replaceChildren(table);
 }
 

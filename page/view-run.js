@@ -68,7 +68,7 @@ export async function updateRun(checked) {
   register = Math.min(register, steps[0].registers.length - 1);
   fillTimeline();
   fillRegisters();
-  showTrace(byId("trace"), report.ring, steps, { show: shown, go, highlight });
+  showTrace(byId("trace"), report.ring, steps, { show: shown, go, highlight, press: explainAt });
   return show();
 }
 
@@ -198,13 +198,17 @@ const backTo = (place) => () => drawing?.nodes[place]?.focus();
 
 /** Explains the node some places further in the step that a value comes from. */
 function lead({ kind, round, head, further }) {
-  const ring = readRing(state.ring);
   const step = steps?.findIndex((other) => other.kind === kind && other.round === round) ?? -1;
-  if (step < 0) return;
-  const place = (whyPlace() + further + ring.length) % ring.length;
-  change({ why: String(place) }, { shown: true });
+  const count = readRing(state.ring).length;
+  if (step >= 0) explainAt(step, (whyPlace() + further + count) % count, head);
+}
+
+/** Goes to a step and explains the node at a place there, from the tree of a head on. */
+function explainAt(step, place, head) {
+  pause();
+  change({ why: String(place) }, { keep: whyPlace() === null, shown: true });
   go(step);
-  openWhy(place, steps[step], ring, { focus: head, back: backTo(place) });
+  openWhy(place, steps[step], readRing(state.ring), { focus: head, back: backTo(place) });
 }
 
 function edit(ring, focusPlace) {

@@ -191,8 +191,8 @@ def step_keys(page):
     current = "[...document.querySelectorAll('#timeline button')].findIndex(e => e.ariaCurrent === 'step')"
     page.open(view="run", ids="8", ring="5,1,3,7", example="cv1.txt")
     page.wait_ring("the ring for the keys", "5,1,3,7")
-    hint = "Point at a node to see its window; press it to see why it has its value; "
-    hint += "drag it to move it, off the ring to take it out; arrow keys step."
+    hint = "Point at a node to see its window; press it, or a value of the trace, to see why it is so; "
+    hint += "drag it to move it, off the ring to take it out; arrow and page keys step."
     STEPS.equal("the line below the ring", [" ".join(text.split()) for text in page.texts(".hint")], [hint])
     for place, key, step in (
         (None, "ArrowLeft", 2),
