@@ -2,7 +2,7 @@
 
 import { reportOf } from "./report.js";
 
-const CACHED = 8;
+const CACHED = 16;
 const reports = new Map();
 const latest = new Map();
 

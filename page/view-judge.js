@@ -12,6 +12,7 @@ import { reasonOf } from "./faults.js";
 import { channelsNamed, spanOf } from "./patterns.js";
 import { fewerRounds } from "./problems.js";
 import { sentencesOf } from "./report.js";
+import { lastRead, treesOf } from "./trees.js";
 import { drawTuple, WINDOWS } from "./tuple.js";
 
 const verdict = byId("verdict");
@@ -23,7 +24,7 @@ export async function updateJudge(checked) {
   showChoice();
   markPatterns(demand.patterns === null && state.forbid !== "");
   drop("judge");
-  drop("witness");
+  for (const purpose of ["witness", "witness 0", "witness 1", "witness 2"]) drop(purpose);
   if (checked.refusal) return showNothing(checked.refusal);
   if (demand.why) return showNothing(demand.why);
   const { ids, text } = state;
@@ -34,8 +35,11 @@ export async function updateJudge(checked) {
   if (report.kind === "yes") return showYes(report, checked.accepted, demand);
   if (report.kind !== "no") return showNothing(reasonOf(report) + (report.kind === "stopped" ? ". Take fewer identifiers." : ""));
   const run = await ask("witness", "trace", { ids, ring: report.ring.join(",") }, text);
+  const seen = [...new Set(report.places)];
+  const whys = await Promise.all(seen.map((place, i) =>
+    ask(`witness ${i}`, "explain", { ids, ring: report.ring.join(","), place: String(place) }, text)));
   // Without a trace the ring is shown without its channels.
-  return run && showNo(report, checked.accepted, demand, run.finish);
+  return run && whys.every(Boolean) && showNo(report, checked.accepted, demand, run.finish, whys);
 }
 
 function showNothing(why, kind = "refused") {
@@ -114,7 +118,7 @@ function wrongOn({ ring, places, channels }, wrong, { patterns }) {
   return `On the ring ${ring.join(" ")} the nodes ${ring[places[0]]} and ${ring[places[1]]} ${apart} and ${have}.`;
 }
 
-function showNo(no, accepted, demand, all) {
+function showNo(no, accepted, demand, all, whys) {
   const said = sentencesOf(no.note).map((part) => part.replace(`on the ring ${no.ring.join(",")} `, ""));
   const [wrong = "channels match a forbidden pattern", ...others] = said;
   const sentence = wrongOn(no, wrong, demand);
@@ -128,26 +132,35 @@ function showNo(no, accepted, demand, all) {
 
   const drawing = drawNo(no, all, accepted.rounds, demand, sentence);
   witness.replaceChildren(drawing.image);
-  showWindows(no, drawing.seen, accepted.rounds);
+  showWindows(no, drawing.seen, accepted.rounds, whys);
 }
 
-/** The windows of the nodes at these places of a no. */
-function showWindows({ ring, places, channels }, seen, rounds) {
+/** The windows of the nodes at these places of a no, and by the explanation of each the values that its channel comes from. */
+function showWindows({ ring, places, channels }, seen, rounds, whys) {
   reading.replaceChildren(
     html("p", { class: "aside" }, rounds === 0 ? "Without a round a node sees itself alone."
       : `After ${inWords(rounds)} each of the ${seen.length === 3 ? "three" : "two"} has seen this and nothing else.`),
     html("table", { class: "seen" },
-      seen.map((place, i) => html("tr", {},
+      seen.flatMap((place, i) => [html("tr", {},
         html("th", { scope: "row" }, html("span", { class: `key ${WINDOWS[i]}` }), `node ${ring[place]}`),
         html("td", { class: "code" }, windowText(ring, place, rounds)),
-        html("td", {}, badgeImage(channels[places.indexOf(place)]))))),
+        html("td", {}, badgeImage(channels[places.indexOf(place)])),
+        html("td", {}, html("button", { type: "button", onclick: () => runRing(ring, place) }, "Why?"))),
+      html("tr", { class: "reads" }, html("td", { colspan: 4 }, whatIsRead(whys[i])))])),
     html("p", {}, html("button", { type: "button", id: "run-this-ring", onclick: () => runRing(ring) }, "Run this ring")),
   );
 }
 
+/** The values that a node's channel comes from: those that its last assignment reads. */
+function whatIsRead(why) {
+  if (why.kind !== "explanation") return "";
+  const { head, read } = lastRead(treesOf(why, []));
+  return coded(`\`${head}\` reads ${read.map(([word, value]) => `\`${word}\` = ${value}`).join(", ") || "nothing"}`);
+}
+
 const inWords = (rounds) => (rounds === 1 ? "one round" : `${rounds} rounds`);
 
-const runRing = (ring) => change({ ring: ring.join(","), step: "end", view: "run" }, { keep: true });
+const runRing = (ring, why = "") => change({ ring: ring.join(","), step: "end", why: String(why), view: "run" }, { keep: true });
 
 /** The identifiers within distance `t` of a place, its own in bold. */
 function windowText(ring, place, t) {
