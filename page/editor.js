@@ -81,8 +81,21 @@ export function showText(text) {
   doing = null;
   draw();
   area.setSelectionRange(0, 0);
-  const head = rowOf(headRows(text.split("\n")));
-  box.scrollTo(0, head ? head.offsetTop - ink.firstElementChild.offsetTop : 0);
+  showHead();
+}
+
+/** Scrolls the editor to the rows of what a step does, else to the first row that is no comment. */
+export function showHead() {
+  if (doing) return scrollToRows();
+  return scrollToHeight(rowOf(headRows(area.value.split("\n")))?.offsetTop ?? 0);
+}
+
+/** Scrolls the editor to a height of the copy. A whole line is at its top then. */
+function scrollToHeight(height) {
+  const { lineHeight, paddingTop } = getComputedStyle(ink);
+  const [line, room] = [lineHeight, paddingTop].map(parseFloat);
+  const above = Math.round((height - room) / line);
+  box.scrollTop = above > 0 ? above * line + room - 1 : 0;
 }
 
 /** Marks the token at a place of the text, or the end of the text, or nothing if the place is `null`. */
@@ -101,17 +114,29 @@ function scrollToFault() {
 
 function bringIntoSight(mark) {
   const below = mark.getBoundingClientRect().top - box.getBoundingClientRect().top;
-  if (below < 0 || below > box.clientHeight - 40) box.scrollTop += below - box.clientHeight / 2;
+  if (below < 0 || below > box.clientHeight - 40) scrollToHeight(box.scrollTop + below - box.clientHeight / 2);
 }
 
 export function goToFault() {
   if (!fault) return;
-  const rows = area.value.split("\n").slice(0, fault.row);
-  const index = rows.reduce((sum, row) => sum + row.length + 1, fault.column);
-  area.focus();
-  area.setSelectionRange(index, index);
+  goTo(fault);
   ink.querySelector(".fault")?.scrollIntoView({ block: "nearest", inline: "nearest" });
 }
+
+/** Puts the cursor to a place of the text. */
+function goTo({ row, column }) {
+  const index = area.value.split("\n").slice(0, row).reduce((sum, each) => sum + each.length + 1, column);
+  area.focus();
+  area.setSelectionRange(index, index);
+}
+
+// The copy is pressed where its comments are folded, which are shown then.
+ink.addEventListener("click", ({ target }) => {
+  const row = target.closest(".row");
+  if (!row) return;
+  goTo({ row: row.dataset.row - 1, column: 0 });
+  row.scrollIntoView({ block: "nearest" });
+});
 
 /** Updates the copy, and the text for the printer. Only blocks that changed are drawn. */
 function draw() {
@@ -157,7 +182,8 @@ function drawRow(text, number) {
   const faultAt = fault?.row === number ? fault.column : -1;
   const askedAt = asked?.row === number ? asked.column : -1;
   const isDone = doing !== null && doing[0] <= number && number <= doing[1];
-  const row = html("div", { "data-row": number + 1, class: `row${faultAt < 0 ? "" : " faulty"}${isDone ? " now" : ""}` },
+  const kind = text.trim() === "" ? " blank" : /^\s*#/.test(text) ? " remark" : "";
+  const row = html("div", { "data-row": number + 1, class: `row${kind}${faultAt < 0 ? "" : " faulty"}${isDone ? " now" : ""}` },
     pieces(text).flatMap((piece) => (piece.at === askedAt
       ? [html("span", { class: `${piece.kind} asked` }, piece.text)] : drawPiece(piece, faultAt))));
   if (faultAt >= text.length) row.append(html("mark", { class: "fault at-end" }));

@@ -3,7 +3,7 @@
 import { byId } from "./dom.js";
 import { QUESTIONS } from "./demand.js";
 import { change, exampleOf, followAddress, link, missingNames, onChange, state } from "./state.js";
-import { onEdit, showText } from "./editor.js";
+import { onEdit, showHead, showText } from "./editor.js";
 import { fillExamples, loadExamples, showExample, undoByKey } from "./examples.js";
 import { startHelp } from "./help.js";
 import { check } from "./view-check.js";
@@ -73,6 +73,7 @@ function showView() {
 function showSize() {
   document.body.classList.toggle("large", state.large !== "");
   byId("large").ariaPressed = String(state.large !== "");
+  showHead();
 }
 
 function startTabs() {
