@@ -14,6 +14,7 @@ LISTS = {"docs/CALLS": "calls", "docs/DEFINITIONS": "definitions", "docs/EDITS":
 PAGE = "http://127.0.0.1:8765/"
 HEAD = re.compile(r"<h([1-6])>(.*?)</h\1>", re.DOTALL)
 TEXT_ALONE = "To read this as a page with links: apt-get install cmark-gfm, then start ./nbhd-page again.\n\n"
+SECTION = re.compile(r'<h2 id="([^"]*)">(.*?)</h2>', re.DOTALL)
 LAYOUT = """\
 <!doctype html>
 <html lang="en">
@@ -77,7 +78,7 @@ def document(name, markdown, program, names):
     """A document as a page: its heads have anchors, and its links lead to the other documents, of these names."""
     # (`--unsafe` leaves `<details>` as it is)
     ran = subprocess.run([program, "--unsafe", "-e", "table", "-t", "html"], input=markdown, stdout=subprocess.PIPE, check=True)
-    body = with_anchors(with_links(name, ran.stdout.decode(), names))
+    body = with_contents(with_anchors(with_links(name, ran.stdout.decode(), names)))
     title = re.search(r"<h1[^>]*>(.*?)</h1>", body)[1]
     return LAYOUT.format(title=without_tags(title), top=relative("", name), page=PAGE, links=links_of(name, names), body=body)
 
@@ -123,6 +124,19 @@ def with_anchors(body):
     """The text with an anchor at each head."""
     anchors = anchors_of(without_tags(words) for _, words in HEAD.findall(body))
     return HEAD.sub(lambda found: f'<h{found[1]} id="{next(anchors)}">{found[2]}</h{found[1]}>', body)
+
+
+def with_contents(body):
+    """The text with a list of its heads of the second level below its title."""
+    lines = [f'<li><a href="#{anchor}">{without_links(words)}</a></li>' for anchor, words in SECTION.findall(body)]
+    if len(lines) < 2:
+        return body
+    contents = "\n".join(['<nav class="contents" aria-label="Contents">', "<ul>", *lines, "</ul>", "</nav>"])
+    return body.replace("</h1>\n", f"</h1>\n{contents}\n", 1)
+
+
+def without_links(text):
+    return re.sub(r"</?a\b[^>]*>", "", text)
 
 
 def without_tags(text):

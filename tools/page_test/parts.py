@@ -60,6 +60,12 @@ def documents():
             path = posixpath.normpath(posixpath.join(posixpath.dirname(name), path)) if path else name
             there = path in files and (path == "/" or not anchor or f' id="{anchor}"' in files[path][1].decode())
             STEPS.check(f"the link {link[:60]} of {name}", there)
+    for name in (f"/{name}.html" for name in NAMES):
+        page = files[name][1].decode()
+        heads = re.findall(r'<h2 id="([^"]*)">(.*?)</h2>', page)
+        listed = re.findall(r'<li><a href="#([^"]*)">(.*?)</a></li>', page.partition("</nav>\n<p>")[0].partition("</h1>")[2])
+        wanted = [(anchor, re.sub("</?a[^>]*>", "", words)) for anchor, words in heads] if len(heads) > 1 else []
+        STEPS.equal(f"the heads that {name} lists", listed, wanted)
     anchors = re.findall(r'<h2 id="([^"]*)"', files["/docs/LEAST.html"][1].decode())
     STEPS.equal("anchors", anchors[:3], ["what-is-known-of-rounds", "what-is-known-of-channels", "the-proofs"])
 

@@ -49,6 +49,8 @@ def documents(page):
             page.wait(f"{name} at {width}", "document.readyState === 'complete' && document.querySelector('main h1')")
             STEPS.check(f"{name} at {width}: nothing is too wide", page.value("document.documentElement.scrollWidth <= innerWidth"))
             STEPS.check(f"{name} at {width}: letters", page.value("parseFloat(getComputedStyle(document.querySelector('main p')).fontSize) >= 15"))
+            if width < 600:
+                STEPS.equal(f"{name} at {width}: code that scrolls", page.value("[...document.querySelectorAll('pre')].filter(e => e.scrollWidth > e.clientWidth).length"), 0)
             STEPS.check(f"{name}: pictures", page.value("[...document.images].every(image => image.complete && image.naturalWidth > 0)"))
     page.browser.size(1280, 900)
     page.browser.call("Page.navigate", url=f"{page.url}docs/EXERCISES.html")
