@@ -6,6 +6,21 @@ import { QUESTIONS } from "./demand.js";
 import { askedBy } from "./problems.js";
 import { change, exampleAsking, exampleOf, isLinked, state } from "./state.js";
 
+// The heads of docs/GALLERY.md, with the examples that are shown there, the first steps first.
+const GROUPS = {
+  "Cole and Vishkin": "cv1 ldb cv2 cv1_edges xor_left",
+  "No round": "identity twice_id parity two_colours_8",
+  "The removal of a class": "greedy_8_7 cv_then_5 cv_to_three tutorial_three",
+  "Sperner families": "sperner_20_6 sperner_20_4 five_162 three_18 three_10 three_23",
+  "Linial's polynomials": "linial_poly",
+  "Rules that see only the order": "local_min orient order_free max_flood",
+  "Other questions, by one round more": "mis_gap weak2_enc dist2_enc matching_enc dist2_id weak2 any_demand",
+  "Maximal independent sets": "mis_12 mis_7 mis_10 mis_minima",
+  "Pairs and pieces": "matching_12 matching_bits greedy3_12 greedy3_at_once",
+  "Weak colourings": "weak2_6 weak2_12 weak2_23",
+};
+const stem = ({ name }) => name.replace(/\.txt$/, "");
+
 /** The examples: name, title, text, and the number of identifiers that a comment recommends, else 8. */
 export async function loadExamples() {
   try {
@@ -20,14 +35,12 @@ let taken = null; // the text of the example that was chosen last
 
 export function fillExamples(examples) {
   const list = byId("examples");
-  for (const example of examples) {
-    const count = roundsOf(example.text);
-    const facts = [example.name, count === 1 ? "1 round" : `${count} rounds`, `${example.ids} identifiers`];
-    const { problem } = askedBy(example.text);
-    if (problem !== "differ") facts.push(QUESTIONS[problem]);
-    list.append(html("button", { type: "button", onclick: () => take(example, count) },
-      html("span", { class: "title" }, example.title), html("span", { class: "aside" }, facts.join(" · "))));
-  }
+  const groups = Object.entries(GROUPS).map(([head, stems]) =>
+    [head, stems.split(" ").flatMap((each) => examples.filter((example) => stem(example) === each))]);
+  const rest = examples.filter((example) => !groups.some(([, members]) => members.includes(example)));
+  for (const example of rest) list.append(itemOf(example));
+  for (const [head, members] of groups) if (members.length) list.append(html("h3", {}, head), ...members.map(itemOf));
+  const items = () => [...list.querySelectorAll("button")];
   const button = byId("examples-button");
   list.addEventListener("beforetoggle", (event) => {
     if (event.newState !== "open") return;
@@ -37,23 +50,33 @@ export function fillExamples(examples) {
     list.style.maxHeight = `${Math.max(innerHeight - box.bottom - 24, 200)}px`;
   });
   list.addEventListener("toggle", (event) => {
-    if (event.newState === "open") (list.querySelector("[aria-current=true]") ?? list.firstElementChild)?.focus();
+    if (event.newState === "open") (list.querySelector("[aria-current=true]") ?? items()[0])?.focus();
   });
   list.addEventListener("keydown", (event) => {
     const by = { ArrowDown: 1, ArrowUp: -1 }[event.key];
     if (!by) return;
     event.preventDefault();
-    const items = [...list.children];
-    items[(items.indexOf(document.activeElement) + by + items.length) % items.length].focus();
+    const all = items();
+    all[(all.indexOf(document.activeElement) + by + all.length) % all.length].focus();
   });
+}
+
+/** The button of an example in the list. */
+function itemOf(example) {
+  const count = roundsOf(example.text);
+  const facts = [example.name, count === 1 ? "1 round" : `${count} rounds`, `${example.ids} identifiers`];
+  const { problem } = askedBy(example.text);
+  if (problem !== "differ") facts.push(QUESTIONS[problem]);
+  return html("button", { type: "button", onclick: () => take(example, count) },
+    html("span", { class: "title" }, example.title), html("span", { class: "aside" }, facts.join(" · ")));
 }
 
 export function showExample() {
   const example = exampleOf(state.text);
   byId("examples-button").title = example ? `${example.name}: ${example.title}` : "";
   const other = isLinked() ? "Program of the link" : "Own program";
-  byId("example-name").textContent = example ? example.title.replace(/\.$/, "") : other;
-  for (const item of byId("examples").children) {
+  byId("example-name").textContent = example ? `${stem(example)}: ${example.title.replace(/\.$/, "")}` : other;
+  for (const item of byId("examples").querySelectorAll("button")) {
     item.setAttribute("aria-current", String(item.firstElementChild.textContent === example?.title));
   }
   showAnswer();
@@ -63,7 +86,7 @@ export function showExample() {
 function showAnswer() {
   const example = exampleAsking(state.text);
   byId("to-try").hidden = !example;
-  byId("answer").href = `docs/EXERCISES.html#${example ? example.name.replace(/\.txt$/, "") : "what-to-try"}`;
+  byId("answer").href = `docs/EXERCISES.html#${example ? stem(example) : "what-to-try"}`;
 }
 
 /** Takes an example with its number of identifiers, its problem, a new ring if the current one is no ring for it, and the start of its

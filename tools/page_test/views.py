@@ -516,8 +516,8 @@ def links(page):
     page.browser.open(page.value("location.href"))
     STEPS.equal("the address leads to the text", page.value("document.querySelector('#text').value"), text)
     first_steps = {
-        1: (".ring .label", "Cole and Vishkin"),
-        2: (".verdict.no", "LDB: "),
+        1: (".ring .label", "cv1: Cole and Vishkin"),
+        2: (".verdict.no", "ldb: LDB: "),
         3: (".check.bad", "Program of the link"),
         4: (".verdict.yes", "A maximal independent set"),
     }
@@ -594,14 +594,15 @@ def exercises(page):
 
 def examples(page):
     page.open(view="run", ids="8", ring="5,1,3,7", example="cv1.txt")
-    names = sorted(file.name for file in (ROOT / "examples").glob("*.txt"))
-    names = ["cv1.txt", "ldb.txt", *(name for name in names if name != "cv1.txt")]
+    files = {"ldb.txt", *(file.name for file in (ROOT / "examples").glob("*.txt"))}
     facts = page.value("[...document.querySelectorAll('#examples .aside')].map(e => e.textContent)")
     options = [file.name for file in (ROOT / "examples").glob("*.txt") if re.search(r"#.* --\w", file.read_text())]
     STEPS.equal("examples that speak of the command line", options, [])
     heads = re.findall(r"^### (\w+)$", (ROOT / "docs/EXERCISES.md").read_text(encoding="utf-8"), re.MULTILINE)
     answers = {f"{name}.txt": f"docs/EXERCISES.html#{name}" for name in heads}
-    STEPS.equal("the list of examples", [fact.split(" ")[0] for fact in facts], names)
+    names = [fact.split(" ")[0] for fact in facts]
+    STEPS.equal("the list of examples", (sorted(names), names[:2]), (sorted(files), ["cv1.txt", "ldb.txt"]))
+    gallery(page)
     count = len(names)
     for number in range(count):
         page.value(f"document.querySelectorAll('#examples button')[{number}].click()")
@@ -612,6 +613,21 @@ def examples(page):
         STEPS.check(f"example {number + 1}: the text area is as large as the coloured copy", page.value(size))
         answer = page.value("document.querySelector('#to-try').hidden ? null : document.querySelector('#answer').getAttribute('href')")
         STEPS.equal(f"example {number + 1}: its answer", answer, answers.get(names[number]))
+def gallery(page):
+    """The examples stand under heads of the gallery, where it shows them."""
+    _, *parts = re.split(r"^## (.*)\n", (ROOT / "docs/GALLERY.md").read_text(encoding="utf-8"), flags=re.MULTILINE)
+    sections = dict(zip(parts[::2], parts[1::2]))
+    head = ""
+    for kind, text in page.value("[...document.querySelectorAll('#examples > *')].map(e => [e.localName, (e.lastElementChild ?? e).textContent])"):
+        if kind == "h3":
+            head = text
+            STEPS.check(f"a head of the gallery: {head}", head in sections)
+            continue
+        name = text.split(".")[0]
+        shown = [other for other, words in sections.items() if f"`{name}`" in words]
+        STEPS.check(f"{name} stands under {head}", head in shown if shown else head, shown)
+
+
     page.fill("#text", page.value("document.querySelector('#text').value") + "# of my own\n")
     page.wait("the answer is there while one tries", "document.querySelector('#to-try').checkVisibility()")
     page.fill("#text", LDB)
