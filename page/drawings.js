@@ -11,7 +11,7 @@ import { WINDOWS } from "./tuple.js";
 export function sizesOf(ring, steps, register, show) {
   const most = (lists) => Math.max(0, ...lists.flatMap(show).map((text) => text.length));
   const sent = steps.flatMap(({ left, right }) => (left ? [left, right] : []));
-  const held = most(steps.map(({ registers }) => registers[register]));
+  const held = most(steps.map(({ registers }) => registers[register] ?? []));
   const named = steps[0].registers.length === 1 && hasRoomForNames(ring.length, held);
   return { named, digits: named ? held + "r0=".length : held, sentDigits: most(sent) };
 }
@@ -21,14 +21,14 @@ export function drawStep(ring, step, { named, digits, sentDigits }, { demand, re
   const channels = step?.channels;
   return drawRing({
     ring, channels, look: channels && lookOf(demand, channels), digits, sentDigits, show, label,
-    labels: step && show(step.registers[register])
+    labels: step?.registers[register] && show(step.registers[register])
       .map((value) => ({ text: named ? `r0=${value}` : value, title: `r${register} = ${value}` })),
   });
 }
 
 /** What stands in the middle of the ring in a step. */
-export const centreOf = ({ kind, round }) => (kind === "send" || kind === "assign"
-  ? [[`round ${round}`, "centre-big"], [kind, "centre-small"]] : [[kind, "centre-big"]]);
+export const centreOf = ({ kind, round, registers }) => (kind === "send" || kind === "assign"
+  ? [[`round ${round}`, "centre-big"], [kind, "centre-small"]] : [[registers.length ? kind : "table", "centre-big"]]);
 
 /** The ring of a no; with the channels of `all` nodes and the windows of so many rounds, if these are known. */
 export function drawNo({ ring, places, channels }, all, rounds, demand, label) {

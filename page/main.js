@@ -12,13 +12,14 @@ import { startJudge, updateJudge } from "./view-judge.js";
 import { startTable, updateTable } from "./view-table.js";
 import { startGraph, updateGraph } from "./view-graph.js";
 import { startTaking } from "./take.js";
+import { checkTable, startSource } from "./source.js";
 
 const VIEWS = { run: updateRun, judge: updateJudge, table: updateTable, graph: updateGraph };
 // The views that a value of the state belongs to. The text and the number of identifiers belong to all views.
 const USERS = {
-  ring: ["run", "table"], step: ["run"], why: ["run"], base: ["run"],
-  problem: ["run", "judge", "table", "graph"], near: ["judge", "graph"], far: ["judge", "graph"],
-  forbid: ["run", "judge", "table", "graph"], prefix: ["table"], arrange: ["graph"], large: ["run", "judge"],
+  ring: ["run"], step: ["run"], why: ["run"], base: ["run"],
+  problem: ["run", "judge", "graph"], near: ["judge", "graph"], far: ["judge", "graph"],
+  forbid: ["run", "judge", "graph"], prefix: ["table"], arrange: ["graph"], large: ["run", "judge"],
 };
 const PAUSE_MS = 250;
 
@@ -30,12 +31,10 @@ function update(changed) {
   showMissing();
   if (changed.has("view")) showView();
   if (changed.has("large")) showSize();
-  if (changed.has("text") || changed.has("ids")) {
-    checked = null;
+  if (["text", "ids", "table"].some((name) => changed.has(name))) {
     showText(state.text);
     if (byId("ids").value !== state.ids) byId("ids").value = state.ids;
-    clearTimeout(pause);
-    pause = setTimeout(checkAndUpdate, document.activeElement === byId("text") ? PAUSE_MS : 0);
+    checkSoon();
   } else if (checked && (changed.has("view") || [...changed].some((name) => USERS[name]?.includes(state.view)))) {
     VIEWS[state.view](checked);
   }
@@ -51,8 +50,16 @@ function showMissing() {
   byId("missing").hidden = said.length === 0;
 }
 
+function checkSoon() {
+  checked = null;
+  clearTimeout(pause);
+  pause = setTimeout(checkAndUpdate, document.activeElement?.matches("textarea") ? PAUSE_MS : 0);
+}
+
 async function checkAndUpdate() {
-  const result = await check(state);
+  document.body.classList.toggle("tabled", state.table !== "");
+  byId("table-choice").value = state.table;
+  const result = await (state.table ? checkTable() : check(state));
   if (result === undefined) return;
   checked = result;
   document.body.classList.toggle("accepted", !result.refusal);
@@ -116,7 +123,7 @@ startJudge();
 startTable();
 startGraph();
 startTaking();
-const examples = await loadExamples();
+const [examples] = await Promise.all([loadExamples(), startSource(checkSoon)]);
 fillExamples(examples);
 followAddress(examples);
 showView();

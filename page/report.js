@@ -3,6 +3,7 @@
 // The kinds of a command's reports, beside that of a fault.
 const KINDS = {
   check: ["accepted"], trace: ["trace"], explain: ["explanation"], judge: ["yes", "no"], table: ["table"], apply: ["places"],
+  audit: ["yes", "no"], migrate: ["table"],
 };
 
 /** The report of a command, as docs/LANGUAGE.md has it: its `kind` is one of that command, or `fault`. Else what `noReport` gives. */

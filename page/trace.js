@@ -2,9 +2,10 @@
 
 /**
  * The steps `{ kind, round, registers, left, right, channels }` of a trace: the start, a step that sends and one that assigns for
- * each round, and the finish. `registers[j][p]` is register `j` at place `p`.
+ * each round, and the finish. `registers[j][p]` is register `j` at place `p`. The channels by a table of so many rounds are a finish alone.
  */
-export function stepsOf({ start, rounds, finish }) {
+export function stepsOf({ kind, start, rounds, finish, channels }, seen) {
+  if (kind === "places") return [{ kind: "finish", round: seen, registers: [], channels }];
   const steps = [{ kind: "start", round: 0, registers: start }];
   rounds.forEach(({ left, right, registers }, i) => {
     const [round, before] = [i + 1, steps.at(-1).registers];
@@ -29,7 +30,7 @@ export function sentenceOf(step, ring) {
     return `Round ${step.round}: with what came from both sides each node assigns its registers. `
       + `What a node now holds depends only on its window: the ${seen} identifiers within distance ${step.round}.`;
   }
-  return "`finish` gives each node its channel.";
+  return `${step.registers.length ? "`finish`" : "The table"} gives each node its channel.`;
 }
 
 /** A sentence on neighbours with equal channels. */

@@ -1,6 +1,7 @@
 // Judge: yes, or a ring with the two or three nodes whose channels are wrong, and their windows.
 
 import { ask, drop } from "./ask.js";
+import { askRun, askVerdict } from "./source.js";
 import { markPatterns, showChoice, startChoice } from "./choice.js";
 import { asked, classSentence, demandOf, patternsText } from "./demand.js";
 import { byId, coded, html } from "./dom.js";
@@ -20,7 +21,7 @@ const witness = byId("witness");
 const reading = byId("reading");
 
 export async function updateJudge(checked) {
-  const demand = demandOf(state);
+  const demand = demandOf(state, checked.accepted);
   showChoice();
   markPatterns(demand.patterns === null && state.forbid !== "");
   drop("judge");
@@ -29,17 +30,18 @@ export async function updateJudge(checked) {
   if (demand.why) return showNothing(demand.why);
   const { ids, text } = state;
   const slow = setTimeout(() => showNothing("nbhd judges all tuples…", "waiting"), 400);
-  const report = await ask("judge", "judge", { ids, ...demand.options }, text);
+  const report = await askVerdict("judge", demand.options);
   clearTimeout(slow);
   if (report === undefined) return undefined;
   if (report.kind === "yes") return showYes(report, checked.accepted, demand);
   if (report.kind !== "no") return showNothing(reasonOf(report) + (report.kind === "stopped" ? ". Take fewer identifiers." : ""));
-  const run = await ask("witness", "trace", { ids, ring: report.ring.join(",") }, text);
-  const seen = [...new Set(report.places)];
-  const whys = await Promise.all(seen.map((place, i) =>
-    ask(`witness ${i}`, "explain", { ids, ring: report.ring.join(","), place: String(place) }, text)));
+  const ring = report.ring.join(",");
+  const run = await askRun("witness", ring);
+  const places = [...new Set(report.places)];
+  const whys = await Promise.all(places.map((place, i) =>
+    (state.table ? {} : ask(`witness ${i}`, "explain", { ids, ring, place: String(place) }, text))));
   // Without a trace the ring is shown without its channels.
-  return run && whys.every(Boolean) && showNo(report, checked.accepted, demand, run.finish, whys);
+  return run && whys.every(Boolean) && showNo(report, checked.accepted, demand, run.finish ?? run.channels, whys);
 }
 
 function showNothing(why, kind = "refused") {

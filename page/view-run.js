@@ -1,6 +1,6 @@
 // Run: the drawing of a ring, and the steps of its run.
 
-import { ask, drop } from "./ask.js";
+import { drop } from "./ask.js";
 import { demandOf, sentenceOn } from "./demand.js";
 import { byId, coded, html } from "./dom.js";
 import { centreOf, drawStep, sizesOf } from "./drawings.js";
@@ -18,12 +18,14 @@ import { numerals, widthOf } from "./numerals.js";
 import { markRows } from "./editor.js";
 import { rowsOfStep } from "./language.js";
 import { reasonOf } from "./faults.js";
+import { askRun } from "./source.js";
 
 const STEP_MS = 1500;
 const stage = byId("stage");
 const timeline = byId("timeline");
 const refused = byId("run-refused");
 
+let accepted = null; // what was checked
 let steps = null; // of the ring that is shown, or `null` while it has no run
 let at = 0;
 let register = 0;
@@ -37,12 +39,13 @@ export async function updateRun(checked) {
   if (withCommas(byId("ring").value) !== state.ring) byId("ring").value = state.ring;
   byId("base").value = state.base;
   const ring = readRing(state.ring) ?? [];
-  fillTray(ring, Number(state.ids), (identifier) => edit([...ring, identifier]),
+  accepted = checked.accepted;
+  fillTray(ring, accepted?.ids ?? Number(state.ids), (identifier) => edit([...ring, identifier]),
     (event, identifier) => drawing && dragIn(event, drawing, ring, identifier, edit));
   drop("run");
   byId("run").classList.remove("pending");
   if (checked.refusal) return showRefused(checked.refusal, false);
-  offerSizes(checked.accepted);
+  offerSizes(accepted);
   const why = whyNoRing(state.ring);
   if (why) return showRefused(why);
   // The ring of the state is drawn at once, and its run when it is known.
@@ -50,25 +53,26 @@ export async function updateRun(checked) {
   show();
   byId("run").classList.add("pending");
   const asked = state.ring;
-  const report = await ask("run", "trace", { ids: state.ids, ring: asked }, state.text);
+  const report = await askRun("run", asked);
   // An example may have brought another ring by now, whose run is asked for when its text is checked.
   if (report === undefined || state.ring !== asked) return undefined;
   byId("run").classList.remove("pending");
-  if (report.kind !== "trace") {
+  if (!["trace", "places"].includes(report.kind)) {
     showRefused(reasonOf(report));
     for (const place of report.places ?? [report.place]) drawing?.nodes[place]?.classList.add("faulty");
     return undefined;
   }
   refused.hidden = true;
   byId("ring").setAttribute("aria-invalid", "false");
-  steps = stepsOf(report);
+  steps = stepsOf(report, accepted.rounds);
   // The same step stays open after an edit of the ring.
   const last = steps.length - 1;
   at = state.step === "end" ? last : Math.min(Number(state.step.match(/^[0-9]+$/) ?? 0), last);
   register = Math.min(register, steps[0].registers.length - 1);
   fillTimeline();
   fillRegisters();
-  showTrace(byId("trace"), report.ring, steps, { show: shown, go, highlight, press: explainAt });
+  if (report.kind === "places") byId("trace").replaceChildren();
+  else showTrace(byId("trace"), report.ring, steps, { show: shown, go, highlight, press: explainAt });
   return show();
 }
 
@@ -98,7 +102,7 @@ function show({ moving = false } = {}) {
   stage.classList.toggle("idle", !step);
   markRows(step ? rowsOfStep(state.text, step) : null);
   for (const name of ["back", "play", "forward"]) byId(name).disabled = !step;
-  const demand = demandOf(state);
+  const demand = demandOf(state, accepted);
   const channels = step?.channels;
   byId("run-say").replaceChildren(...(step ? coded(sentenceOf(step, shown(ring))) : []),
     ...(channels ? coded(` ${sentenceOn(demand, channels, shown(ring), shown(channels))}`) : []));
@@ -187,7 +191,7 @@ function highlight(place) {
 /** Opens or closes the explanation of the node at a place; with `enter` the focus goes there. */
 function explain(place, enter = false) {
   const step = steps?.[at];
-  if (!step) return;
+  if (!step?.registers.length) return;
   for (const node of drawing.nodes) node.classList.remove("chosen");
   if (whyPlace() !== place) drawing.nodes[place].classList.add("chosen");
   if (whyPlace() === place) closeWhy();
@@ -295,7 +299,7 @@ function randomRing() {
   const why = whyNoNumber("nodes", field.value);
   field.setAttribute("aria-invalid", why !== null);
   if (why) return sayRefused(why);
-  const ids = clamp(Number(state.ids) || 0, 1, 1024);
+  const ids = clamp(Number(field.max) || Number(state.ids) || 0, 1, 1024);
   const size = clamp(Number(field.value), Math.min(Number(field.min), ids), ids);
   const left = Array.from({ length: ids }, (_, i) => i);
   const ring = Array.from({ length: size }, () => left.splice(Math.floor(Math.random() * left.length), 1)[0]);

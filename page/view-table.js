@@ -1,17 +1,16 @@
-// Table: the windows with their channels, how often each channel occurs, and the text to save; below them a ring by
-// another table.
+// Table: the windows with their channels, how often each channel occurs, and the text to save.
 
-import { ask, askLines, drop } from "./ask.js";
+import { askLines, drop } from "./ask.js";
 import { byId, coded, download, html } from "./dom.js";
 import { drawHistogram } from "./histogram.js";
 import { change, exampleOf, state } from "./state.js";
 import { badgeImage, colourOf, largeBadge } from "./channels.js";
-import { startPasted, updatePasted } from "./pasted.js";
 import { reasonOf } from "./faults.js";
 import { noReport } from "./report.js";
+import { askTable } from "./source.js";
 import { countChannels, tableOf } from "./table.js";
 
-const MOST = 1_000_000; // the windows of a table that are kept here
+const MOST = 1_000_000; // the windows of a table that are listed here
 const SHOWN = 240;
 const BARS = 40;
 const refused = byId("table-refused");
@@ -21,13 +20,10 @@ let table = null; // with the `ids` and the `text` that nbhd was asked about
 export async function updateTable(checked) {
   if (byId("prefix").value !== state.prefix) byId("prefix").value = state.prefix;
   drop("table");
-  updatePasted();
   if (checked.refusal) return showNothing(checked.refusal);
-  const { windows } = checked.accepted;
-  if (windows > MOST) return showNothing(`${windows.toLocaleString("en")} windows are too many to show here; \`nbhd table\` prints them.`);
   const { ids, text } = state;
   const slow = setTimeout(() => showNothing("nbhd fills the table…"), 400);
-  const report = await ask("table", "table", { ids }, text);
+  const report = await askTable("table");
   clearTimeout(slow);
   if (report === undefined) return undefined;
   const advice = report.kind === "stopped" ? ". Take fewer identifiers to see the table here." : "";
@@ -35,7 +31,7 @@ export async function updateTable(checked) {
   refused.hidden = true;
   byId("save").disabled = false;
   if (table?.channels !== report.entries) {
-    table = { ...tableOf(report), ids, text };
+    table = { ...(report.entries.length > MOST ? { channels: report.entries } : tableOf(report)), ids, text };
     showHistogram();
   }
   return showWindows();
@@ -60,7 +56,7 @@ function showHistogram() {
     const bar = html("span", { class: "bar-fill" });
     bar.style.width = `${(100 * count) / most}%`;
     bar.style.backgroundColor = colourOf(channel);
-    const share = ((100 * count) / table.windows.length).toFixed(1);
+    const share = ((100 * count) / table.channels.length).toFixed(1);
     return html("li", {}, badgeImage(channel), html("span", { class: "bar-room" }, bar),
       html("span", { class: "count" }, count.toLocaleString("en")), html("span", { class: "share" }, `${share} %`));
   });
@@ -72,6 +68,11 @@ function showHistogram() {
 
 function showWindows() {
   if (!table) return;
+  if (!table.windows) {
+    byId("table-say").replaceChildren(...coded(`${table.channels.length.toLocaleString("en")} windows are too many to list here; \`nbhd table\` prints them.`));
+    byId("windows").replaceChildren();
+    return;
+  }
   const wanted = state.prefix.trim().split(/[\s,]+/).filter(Boolean);
   const found = [];
   let count = 0;
@@ -98,7 +99,7 @@ function showWindows() {
 const begins = (window, wanted) => wanted.every((identifier, i) => String(window[i]) === identifier);
 
 /** The drawing of the channels' counts; nothing if there is no table. */
-export const histogram = () => table && drawHistogram(countChannels(table.channels).slice(0, BARS), table.windows.length);
+export const histogram = () => table && drawHistogram(countChannels(table.channels).slice(0, BARS), table.channels.length);
 
 /** Saves the text of the table, for which nbhd is asked in lines. */
 async function save() {
@@ -113,5 +114,4 @@ async function save() {
 export function startTable() {
   byId("prefix").addEventListener("input", (event) => change({ prefix: event.target.value }));
   byId("save").addEventListener("click", save);
-  startPasted();
 }

@@ -15,6 +15,8 @@ COMMANDS = {
     "judge": {"ids", "near", "far", "problem", "forbid"},
     "table": {"ids"},
     "apply": {"ring"},
+    "audit": {"problem", "forbid"},
+    "migrate": set(),
 }
 # The option of each of them.
 FORM = {"format"}

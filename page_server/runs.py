@@ -10,7 +10,8 @@ import time
 
 from .errors import ClientGone, Refusal
 
-OUTPUT_BYTES = 8_000_000
+# The most windows, each with the most digits and a comma.
+OUTPUT_BYTES = 24_000_000
 # What a run writes to its standard error after so many bytes is dropped.
 NOTE_BYTES = 64_000
 RUN_SECONDS = 10

@@ -12,7 +12,8 @@ from http.server import BaseHTTPRequestHandler, HTTPServer
 from .errors import ClientGone, Refusal
 from .orders import words_and_text
 
-BODY_BYTES = 200_000
+# A table text of 2 MB, with a letter more for each end of a line.
+BODY_BYTES = 2_500_000
 # How long a request waits for one of the runs to end.
 QUEUE_SECONDS = 5
 # How long a client may take to send its request, and to take the answer.

@@ -43,14 +43,14 @@ def address(server):
 
 def files(server):
     """The page's files are served, and no others."""
-    for path in ["/", "/examples.json", *(f"/{file.name}" for file in (ROOT / "page").iterdir() if file.name not in ("index.html", "package.json"))]:
+    for path in ["/", "/examples.json", "/tables.json", "/examples/problems/mis_rounds2_ids7_channels2.table", *(f"/{file.name}" for file in (ROOT / "page").iterdir() if file.name not in ("index.html", "package.json"))]:
         STEPS.equal(f"GET {path}", server.ask(f"GET {path}")[0], 200)
     for path in ("README.html", "CHANGELOG.html", "docs/LANGUAGE.html", "docs/pictures/ring.svg", "docs/pictures/page_run.png"):
         STEPS.equal(f"GET /{path}", server.ask(f"GET /{path}")[0], 200)
     _, page = server.ask("GET /")
     STEPS.check("the page loads nothing from elsewhere", not re.search(rb"(src|href)=\"(https?:)?//", page))
     foreign = """/../nbhd-page /%2e%2e/nbhd-page /..%2fnbhd-page //etc/passwd /page/../nbhd-page /./style.css /style.css/../main.js
-        /index.html /nbhd-page /examples/cv1.txt /style.css?x /\\..\\nbhd-page /tools/page-test /style.css%00 /nbhd * /etc/passwd
+        /index.html /nbhd-page /examples/cv1.txt /examples/least/ /style.css?x /\\..\\nbhd-page /tools/page-test /style.css%00 /nbhd * /etc/passwd
         /.git/config style.css /package.json /docs /docs/ /docs/../README.md /docs/pictures/ /docs/CALLS.html
         /docs/LANGUAGE.md"""
     for path in [*foreign.split(), f"http://{server.own}/../nbhd-page"]:
@@ -108,7 +108,7 @@ def bodies(server):
         ("with a length that is not a number", {**JSON, "Content-Length": "1e3"}, 411),
         ("with an endless length", {**JSON, "Content-Length": "9" * 30}, 411),
         ("in chunks", {**JSON, "Transfer-Encoding": "chunked"}, 411),
-        ("that is too long", {**JSON, "Content-Length": "200001"}, 413),
+        ("that is too long", {**JSON, "Content-Length": "2500001"}, 413),
         ("that is far too long", {**JSON, "Content-Length": "99999999999"}, 413),
     )
     for name, fields, status in headers:
@@ -138,8 +138,10 @@ def long_requests(server):
     STEPS.equal("a report in JSON", (answer[0], answer[1].get("out")), (200, nbhd(CV1, "judge", "--ids", "8", "--format", "json")))
     STEPS.equal("another format", server.run("check", {"ids": "8", "format": "xml"}, CV1)[1].get("status"), 2)
     linial = (ROOT / "examples/linial_poly.txt").read_text(encoding="ascii")
-    refused = {"refused": "the output is longer than 8 MB"}
-    STEPS.equal("a table over 8 MB", server.run("table", {"ids": "102"}, linial), (503, refused))
+    STEPS.equal("a table of 13 MB", len(server.run("table", {"ids": "102"}, linial)[1]["out"]), len(nbhd(linial, "table", "--ids", "102")))
+    refused = {"refused": "the output is longer than 24 MB"}
+    three = (ROOT / "examples/cv_to_three.txt").read_text(encoding="ascii")
+    STEPS.equal("a table over 24 MB", server.run("table", {"ids": "10"}, three), (503, refused))
     twice = server.raw(2 * f"GET / HTTP/1.1\r\nHost: {server.own}\r\nConnection: keep-alive\r\n\r\n".encode())
     STEPS.equal("two requests in one connection", twice.count(b"HTTP/1.0 200"), 1)
 
@@ -186,7 +188,7 @@ class Limits:
     def one_run(self):
         WRITTEN.unlink(missing_ok=True)
         STEPS.equal("the words are a list", self.run("echo")[1].get("out"), "stub\n['check', '--ids=8']\n")
-        STEPS.equal("a long output", self.run("flood"), (503, {"refused": "the output is longer than 8 MB"}))
+        STEPS.equal("a long output", self.run("flood"), (503, {"refused": "the output is longer than 24 MB"}))
         STEPS.equal("a long note is cut", len(self.run("grumble")[1].get("note", "")), 64000)
         STEPS.equal("3 GB of memory", self.run("memory")[1].get("out"), "stub\nrefused\n")
         STEPS.equal("a file", self.run("write")[1].get("out"), "stub\nrefused\n")

@@ -339,27 +339,6 @@ def problem_sets(page):
     STEPS.equal("two fills", sorted(found.values()), ["0", "1"])
 
 
-def problem_pasted(page):
-    """A ring by a pasted table looks as the problem does."""
-    table = (ROOT / "examples/problems/mis_rounds2_ids7_channels2.table").read_text(encoding="ascii")
-    ring = "3,0,6,2,1,5,4"
-    page.open(view="table", ids="8", ring=ring, example="cv1.txt", problem="mis")
-    page.wait("the page for a pasted table", "document.querySelector('.windows li')")
-    page.click("#pasted summary")
-    page.fill("#pasted-text", table)
-    page.wait("its ring", "document.querySelectorAll('#pasted-stage .badge').length === 7")
-    channels = [line.split()[2] for line in nbhd(table, "apply", "--ring", ring).splitlines()]
-    STEPS.equal("its channels", page.texts("#pasted-stage .badge-number"), channels)
-    hollow = [place for place, channel in enumerate(channels) if channel == "0"]
-    STEPS.equal("its hollow nodes", marked(page, "#pasted-stage", "outside"), hollow)
-    STEPS.equal("nothing is red", page.count("#pasted-stage :is(.equal, .broken)"), 0)
-    page.open(view="table", ids="8", ring=ring, example="cv1.txt", problem="own", forbid="0,*,0")
-    page.click("#pasted summary")
-    page.fill("#pasted-text", table)
-    page.wait("its ring by patterns", "document.querySelectorAll('#pasted-stage .badge').length === 7")
-    STEPS.equal("its red nodes", marked(page, "#pasted-stage", "broken"), red_nodes(["0,*,0"], channels))
-
-
 def problem_refused(page):
     """Refused patterns are told in the words of nbhd, which is not asked without any."""
     page.open(view="judge", **START, example="cv1.txt", problem="own")
@@ -426,4 +405,4 @@ def problem_graph(page):
 
 
 PROBLEM_VIEWS = [problem_choice, problem_links, problem_examples, problem_runs, problem_sentences, problem_no, problem_yes]
-PROBLEM_VIEWS += [problem_sets, problem_pasted, problem_refused, problem_graph]
+PROBLEM_VIEWS += [problem_sets, problem_refused, problem_graph]

@@ -31,7 +31,7 @@ def unreported(page):
     server = Server(UNSTEADY, REAL=str(PROGRAM))
     page.url = f"http://{server.own}/"
     try:
-        for parts in (in_each_view, of_a_graph, of_a_pasted_table, of_a_check, of_a_witness, of_a_saved_table):
+        for parts in (in_each_view, of_a_graph, of_a_table_text, of_a_check, of_a_witness, of_a_saved_table):
             STEPS.run(parts, page)
     finally:
         page.url = usual
@@ -59,13 +59,12 @@ def of_a_graph(page):
         said(page, f"a graph whose table {way}", "#graph-say", words)
 
 
-def of_a_pasted_table(page):
+def of_a_table_text(page):
     page.open(**START, view="table", text=CV1)
-    page.wait("a table to paste beside", "document.querySelectorAll('.windows li').length")
-    page.click("#pasted summary")
+    page.wait("a table to show another one", "document.querySelectorAll('.windows li').length")
     for way, words in WAYS.items():
-        page.fill("#pasted-text", f"# apply {way}")
-        said(page, f"a pasted table that {way}", "#pasted-refused", words)
+        page.fill("#table-text", f"# migrate {way}")
+        said(page, f"a table text that {way}", "#table-facts", words)
 
 
 def of_a_check(page):
