@@ -2,12 +2,14 @@
 // Neighbours' channels differ by at least `near` on every ring exactly if no edge joins windows with channels closer than that. A
 // problem is solved on every ring exactly if no path of two or three windows has channels that match a forbidden pattern.
 
-import { ask, drop } from "./ask.js";
+import { drop } from "./ask.js";
 import { byId, coded, html, point, svg } from "./dom.js";
 import { change, state } from "./state.js";
 import { badge, badgeImage } from "./channels.js";
 import { demandOf, NO_PATTERNS, patternsText } from "./demand.js";
 import { reasonOf } from "./faults.js";
+import { drawMatrix } from "./matrix.js";
+import { askTable } from "./source.js";
 import { edgesOf, tableOf } from "./table.js";
 import { wrongPaths } from "./paths.js";
 
@@ -20,7 +22,7 @@ const cycles = byId("arrange").querySelector("[value=cycle]");
 
 export async function updateGraph(checked) {
   for (const choice of byId("arrange").querySelectorAll("input")) choice.checked = choice.value === state.arrange;
-  const demand = demandOf(state);
+  const demand = demandOf(state, checked.accepted);
   const near = state.problem === "distance" ? state.near : "1";
   byId("graph-distance").hidden = demand.patterns !== undefined;
   if (byId("graph-near").value !== near) byId("graph-near").value = near;
@@ -32,15 +34,16 @@ export async function updateGraph(checked) {
   const { ids, windows, rounds } = checked.accepted;
   // With 2t+2 identifiers each window has one successor, so the graph consists of disjoint cycles.
   cycles.disabled = ids !== 2 * rounds + 2;
-  if (windows > MOST) {
-    const tooMany = `${windows.toLocaleString("en")} windows are too many to draw: at most ${MOST} can be. `;
-    return showNothing(tooMany, ...advice(rounds));
-  }
-  const report = await ask("table", "table", { ids: state.ids }, state.text);
+  const report = await askTable("table");
   if (report === undefined) return undefined;
   if (report.kind !== "table") return showNothing(...coded(reasonOf(report)));
-  const table = tableOf(report);
-  return show({ ...table, windows: table.windows.map((window) => window.join(" ")) }, edgesOf(table), demand);
+  if (windows > MOST) {
+    showNothing(`${windows.toLocaleString("en")} windows are too many to draw: at most ${MOST} can be. `, ...(state.table ? [] : advice(rounds)));
+  } else {
+    const table = tableOf(report);
+    show({ ...table, windows: table.windows.map((window) => window.join(" ")) }, edgesOf(table), demand);
+  }
+  return byId("matrix").replaceChildren(...drawMatrix(report, demand));
 }
 
 /** Buttons for few identifiers, or where the rounds allow none of them, which programs have few enough windows. */
@@ -63,8 +66,7 @@ function offer(ids) {
 function showNothing(...why) {
   sentence.replaceChildren(...why);
   sentence.className = "say refused";
-  drawing.replaceChildren();
-  byId("edges").replaceChildren();
+  for (const box of [drawing, byId("matrix"), byId("edges")]) box.replaceChildren();
 }
 
 /** Shows the graph of a table, whose windows are texts here. */

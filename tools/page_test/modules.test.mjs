@@ -18,7 +18,7 @@ import { brokenPlaces, channelsNamed, readPattern, spanOf, textOf, wordsOf } fro
 import { askedBy, fewerRounds, knownRounds, PROBLEMS } from "../../page/problems.js";
 import { noReport, reportOf, sentencesOf } from "../../page/report.js";
 import { readRing, whyNoRing, withCommas } from "../../page/ring-text.js";
-import { countChannels, edgesOf, tableOf, windowsOf } from "../../page/table.js";
+import { countChannels, edgeCounts, edgesOf, tableOf, windowsOf } from "../../page/table.js";
 import { equalPairs, equalSentence, nameOf, sentenceOf, stepsOf } from "../../page/trace.js";
 import { branchesOf, lastRead, sourceOf, treesIn, treesOf } from "../../page/trees.js";
 
@@ -33,7 +33,7 @@ const reported = (kind) => JSON.parse(SAID[kind]);
 const fault = (members) => ({ kind: "fault", of: "text", code: "N3", ...members });
 
 test("report: the object of each command", () => {
-  const kinds = { check: ["accepted"], trace: ["trace"], explain: ["explanation"], judge: ["yes", "no"], table: ["table"], apply: ["places"] };
+  const kinds = { check: ["accepted"], trace: ["trace"], explain: ["explanation"], judge: ["yes", "no"], table: ["table"], apply: ["places"], audit: ["yes", "no"], migrate: ["table"] };
   for (const [command, own] of Object.entries(kinds)) {
     for (const kind of [...own, "fault"]) assert.deepEqual(reportOf(command, { status: 0, out: SAID[kind], note: "" }), reported(kind));
     const other = own.includes("yes") ? "trace" : "yes";
@@ -213,6 +213,18 @@ test("table: windows are all lists of distinct identifiers, in lexicographic ord
   }
 });
 
+test("table: how many edges lead from channel to channel", () => {
+  // Short blocks of windows and long ones, and channels that are left out.
+  for (const [ids, rounds, channels, most] of [[3, 0, 3, 9], [9, 0, 2, 9], [5, 1, 7, 9], [7, 1, 3, 9], [6, 2, 4, 9], [8, 1, 9, 4], [3, 1, 2, 9]]) {
+    const entries = windowsOf(ids, 2 * rounds + 1).map((window, i) => (7 * i + window[0]) % channels + 1);
+    const { names, counts } = edgeCounts({ ids, rounds, entries }, most);
+    assert.deepEqual(names, countChannels(entries).map(([channel]) => channel).slice(0, most));
+    const edges = ids > 2 * rounds + 1 ? edgesOf(tableOf({ ids, rounds, entries })) : [];
+    const wanted = names.map((a) => names.map((b) => edges.filter(([from, to]) => entries[from] === a && entries[to] === b).length));
+    assert.deepEqual(counts, wanted, `${ids} ${rounds}`);
+  }
+});
+
 test("trace: the steps of a run", () => {
   const steps = stepsOf(reported("trace"));
   assert.deepEqual(steps.map(nameOf), ["start", "1 send", "1 assign", "finish"]);
@@ -224,6 +236,9 @@ test("trace: the steps of a run", () => {
     { kind: "start", round: 0, registers: [[1, 2]] }, { kind: "finish", round: 0, registers: [[1, 2]], channels: [1, 2] },
   ]);
   const round = { left: [0, 0], right: [1, 1], registers: [[2, 2], [3, 3]] };
+  const [only] = stepsOf(reported("places"), 1);
+  assert.deepEqual([nameOf(only), only.round, only.channels, sentenceOf(only, [5, 1, 3, 7])],
+    ["finish", 1, [2, 4, 3, 5], "The table gives each node its channel."]);
   const two = stepsOf({ start: [[1, 2], [0, 0]], rounds: [round, round], finish: [1, 2] });
   assert.deepEqual(two.map(nameOf), ["start", "1 send", "1 assign", "2 send", "2 assign", "finish"]);
   assert.deepEqual([two[3].registers, two[4].before], [round.registers, round.registers]);
@@ -367,6 +382,10 @@ test("demand: what the state asks", () => {
   assert.match(demandOf({ ...state, problem: "distance", far: "" }).why, /^A number is wanted/);
   assert.deepEqual(demandOf({ ...state, problem: "mis" }), { name: "mis", patterns: [[0, 0, 0], [1, 1]], options: { problem: "mis" } });
   assert.deepEqual(demandOf({ ...state, problem: "own" }), { patterns: [[1, 1], [0, null, 0]], options: { forbid: ["1,1", "0,*,0"] } });
+  // A table has its own distances.
+  const table = { near: 2, far: 1 };
+  assert.deepEqual(demandOf(state, table), { near: 2, far: 1, options: {} });
+  assert.deepEqual(demandOf({ ...state, problem: "mis" }, table).options, { problem: "mis" });
   const refused = demandOf({ ...state, problem: "own", forbid: "1,,1" });
   assert.deepEqual(refused, { patterns: null, options: { forbid: ["1,,1"] } });
   assert.match(demandOf({ ...state, problem: "own", forbid: " " }).why, /^Write patterns/);

@@ -405,58 +405,17 @@ def table(page):
     page.fill("#prefix", "1 6 15")
     one = "document.querySelector('#table-say').textContent === '1 of 3,360 windows begins with 1 6 15.'"
     page.wait("a search for one window", one)
-    page.open(view="table", ids="86", text=LDB.replace("channels 3", "channels 86").replace("ldb(r0, L)", "r0"))
-    page.wait("a table whose text is too long", "document.querySelector('#table-say').textContent.startsWith('614,040 windows')")
-    page.click("#save")
-    said = "The table is not saved: the output is longer than 8 MB."
-    page.wait("it is not saved", f"document.querySelector('#table-refused').textContent === {json.dumps(said)}")
-
-
-def pasted_table(page):
-    """A ring has the channels of a table text that is pasted, and each refusal is shown."""
-    page.open(view="table", ids="8", ring="5,1,3,7", example="ldb.txt")
-    page.wait("a table", "document.querySelectorAll('.windows li').length")
-    page.click("#pasted summary")
-    STEPS.equal("without a text there is no ring", page.count("#pasted-stage .node"), 0)
-    found = (ROOT / "examples/least/rounds1_ids25_channels4_near1_far0.table").read_text()
-    for text, ring in ((nbhd(CV1, "table", *IDS), "5,1,3,7"), (found, "5,1,3,7"), (found, "24,3,17,8,11")):
-        lines = [line.split() for line in nbhd(text, "apply", "--ring", ring).splitlines()]
-        page.fill("#pasted-text", text)
-        page.fill("#pasted-ring", ring)
-        said = f"The channels from place 0 on: {' '.join(line[2] for line in lines)}."
-        shown = f"document.querySelector('#pasted-say').textContent === {json.dumps(said)}"
-        page.wait(f"the channels of {ring}", shown)
-        STEPS.equal(f"the nodes of {ring}", page.texts("#pasted-stage .identifier"), [line[1] for line in lines])
-        STEPS.equal(f"their channels on {ring}", page.texts("#pasted-stage .badge-number"), [line[2] for line in lines])
-    for place, value, said in (
-        ("#pasted-ring", "5,1,3", "ring fault G1"),
-        ("#pasted-ring", "24,3,x", "x is no identifier"),
-        ("#pasted-ring", "24,3,17,25", "ring fault G3"),
-        ("#pasted-text", CV1, "table fault A1"),
-    ):
-        page.fill(place, value)
-        shown = f"document.querySelector('#pasted-refused').textContent.startsWith('{said}')"
-        page.wait(f"{said} of a pasted table", shown)
-        STEPS.equal(f"{said}: no ring is shown", page.count("#pasted-stage .node"), 0)
-
-
-def long_tables(page):
-    """Of a table with more windows than the page keeps nbhd is not asked."""
-    page.open(view="run", ids="8", example="cv1.txt")
-    page.wait("a program", "document.querySelector('.check.good')")
-    page.listen()
-    page.click("#tab-table")
-    page.wait("a table", "document.querySelectorAll('.windows li').length")
-    STEPS.equal("nbhd is asked about it", page.asked("table", "ids"), ["8"])
-    page.listen()
-    for name, count in (("cv_to_three.txt", "3,628,800"), ("linial_poly.txt", "1,030,200")):
-        number = page.value("[...document.querySelectorAll('#examples .aside')].map(e => e.textContent.split(' ')[0])").index(name)
-        page.value(f"document.querySelectorAll('#examples button')[{number}].click()")
-        said = f"{count} windows are too many to show here; nbhd table prints them."
-        page.wait(f"too many windows of {name}", f"document.querySelector('#table-refused').textContent === {json.dumps(said)}")
-    STEPS.equal("nbhd is not asked about them", page.asked("table", "ids"), [])
     page.open(view="table", ids="100", text=LDB.replace("channels 3", "channels 10"))
-    page.wait("nearly as many windows", "document.querySelector('#table-say').textContent.startsWith('970,200 windows')")
+    page.wait("nearly as many windows as are listed", "document.querySelector('#table-say').textContent.startsWith('970,200 windows')")
+    page.open(view="table", ids="10", example="cv_to_three.txt")
+    said = "3,628,800 windows are too many to list here; nbhd table prints them."
+    page.wait("a table of four rounds", f"document.querySelector('#table-say').textContent === {json.dumps(said)}")
+    entries = json.loads(nbhd((ROOT / "examples/cv_to_three.txt").read_text(), "table", "--ids", "10", "--format", "json"))["entries"]
+    counts = [f"{count:,}" for _, count in sorted(Counter(entries).items())]
+    STEPS.equal("its histogram", page.texts(".histogram .count"), counts)
+    page.click("#save")
+    said = "The table is not saved: the output is longer than 24 MB."
+    page.wait("it is not saved", f"document.querySelector('#table-refused').textContent === {json.dumps(said)}")
 
 
 def graph(page):
@@ -488,6 +447,7 @@ def graph(page):
         STEPS.equal(f"where the arrows {way} lead", sorted(names[nearest(head, points)] for head in heads), windows)
     page.open(view="graph", ids="8", example="cv1.txt")
     page.wait("too many windows", "/too many/.test(document.querySelector('#graph-say').textContent)")
+    page.wait("their channels in a matrix", "document.querySelector('.matrix')")
     STEPS.equal("numbers of identifiers that are offered", page.texts("#graph-say button"), ["4", "5", "6"])
     cycle = "document.querySelector('#arrange [value=cycle]')"
     STEPS.equal("no cycles for 8 identifiers", page.value(f"{cycle}.disabled"), True)
@@ -505,6 +465,36 @@ def graph(page):
         STEPS.equal(f"numbers that are offered for {name}", page.texts("#graph-say button"), offered)
 
 
+MATRIX = """[...document.querySelectorAll('.matrix tbody tr')].flatMap(row => [...row.querySelectorAll('td')].map((cell, i) =>
+    [[row.querySelector('th').textContent, document.querySelectorAll('.matrix thead th')[i].textContent].join(' '), cell.textContent, cell.className]))"""
+
+
+def matrix(page):
+    """Which channel touches which, with counts, for graphs of all sizes; what the problem forbids is red."""
+    three = (ROOT / "examples/cv_to_three.txt").read_text(encoding="ascii")
+    cases = (("LDB", LDB, 5, {}), ("CV1", CV1, 8, {}), ("CV1, near 2", CV1, 6, {"near": "2"}), ("LDB, a set", LDB, 8, {"problem": "mis"}))
+    for name, text, ids, asked in cases:
+        page.open(view="graph", ids=str(ids), text=text, **asked)
+        page.wait(f"the matrix of {name}", "document.querySelector('.matrix')")
+        lines = nbhd(text, "table", "--ids", str(ids)).splitlines()
+        channels = dict(line.split(" : ") for line in lines if " : " in line)
+        edges = [(w, " ".join((*w.split()[1:], str(x)))) for w in channels for x in range(ids) if str(x) not in w.split()]
+        counts = Counter((int(channels[a]), int(channels[b])) for a, b in edges)
+        all_channels = sorted({int(channel) for channel in channels.values()})
+        is_wrong = {"problem": lambda a, b: a == b == 1, "near": lambda a, b: abs(a - b) < 2}.get("".join(asked), lambda a, b: a == b)
+        wanted = [
+            [f"{a} {b}", f"{counts[a, b]:,}", "none" if not counts[a, b] else "wrong" if is_wrong(a, b) else ""]
+            for a in all_channels
+            for b in all_channels
+        ]
+        STEPS.equal(f"the counts of {name}", page.value(MATRIX), wanted)
+    for name, text, ids, edges in (("four rounds", three, 10, 3_628_800), ("five_162", "", 162, 663_526_080), ("identity", "", 100, 24 * 23)):
+        page.open(view="graph", ids=str(ids), **({"text": text} if text else {"example": f"{name}.txt"}))
+        page.wait(f"the matrix of {name}", "document.querySelector('.matrix')")
+        STEPS.equal(f"the edges of {name}", sum(int(count.replace(",", "")) for _, count, _ in page.value(MATRIX)), edges)
+    STEPS.check("more channels are named", "for the first 24 of 100 channels." in page.text("#matrix .aside"), page.text("#matrix .aside"))
+
+
 def links(page):
     """The state is in the address's fragment."""
     page.open(view="judge", ids="8", ring="0,1,2,3", text=LDB)
@@ -519,7 +509,7 @@ def links(page):
         1: (".ring .label", "cv1: Cole and Vishkin"),
         2: (".verdict.no", "ldb: LDB: "),
         3: (".check.bad", "Program of the link"),
-        4: (".verdict.yes", "A maximal independent set"),
+        4: (".verdict.yes", "mis_12: A maximal independent set"),
     }
     for example, (shown, name) in first_steps.items():
         page.open(view="run", example="cv1.txt", ids="8", ring="5,1,3,7")
@@ -613,6 +603,16 @@ def examples(page):
         STEPS.check(f"example {number + 1}: the text area is as large as the coloured copy", page.value(size))
         answer = page.value("document.querySelector('#to-try').hidden ? null : document.querySelector('#answer').getAttribute('href')")
         STEPS.equal(f"example {number + 1}: its answer", answer, answers.get(names[number]))
+    page.fill("#text", page.value("document.querySelector('#text').value") + "# of my own\n")
+    page.wait("the answer is there while one tries", "document.querySelector('#to-try').checkVisibility()")
+    page.fill("#text", LDB)
+    page.wait("no answer without a question", "!document.querySelector('#to-try').checkVisibility()")
+    fields = "[...document.querySelectorAll('input,select,textarea')]"
+    STEPS.equal("fields without a label", page.value(f"{fields}.filter(e => !e.labels?.length && !e.ariaLabel).map(e => e.id)"), [])
+    unnamed = "[...document.querySelectorAll('button')].filter(e => !(e.textContent.trim() || e.ariaLabel)).length"
+    STEPS.equal("buttons without a name", page.value(unnamed), 0)
+
+
 def gallery(page):
     """The examples stand under heads of the gallery, where it shows them."""
     _, *parts = re.split(r"^## (.*)\n", (ROOT / "docs/GALLERY.md").read_text(encoding="utf-8"), flags=re.MULTILINE)
@@ -626,16 +626,6 @@ def gallery(page):
         name = text.split(".")[0]
         shown = [other for other, words in sections.items() if f"`{name}`" in words]
         STEPS.check(f"{name} stands under {head}", head in shown if shown else head, shown)
-
-
-    page.fill("#text", page.value("document.querySelector('#text').value") + "# of my own\n")
-    page.wait("the answer is there while one tries", "document.querySelector('#to-try').checkVisibility()")
-    page.fill("#text", LDB)
-    page.wait("no answer without a question", "!document.querySelector('#to-try').checkVisibility()")
-    fields = "[...document.querySelectorAll('input,select,textarea')]"
-    STEPS.equal("fields without a label", page.value(f"{fields}.filter(e => !e.labels?.length && !e.ariaLabel).map(e => e.id)"), [])
-    unnamed = "[...document.querySelectorAll('button')].filter(e => !(e.textContent.trim() || e.ariaLabel)).length"
-    STEPS.equal("buttons without a name", page.value(unnamed), 0)
 
 
 def typing(page):
@@ -686,5 +676,5 @@ def restart(page, server):
 
 
 VIEWS = [check, faults, typing, long_programs, run, large_rings, strip_of_steps, step_keys, windows_known, equal_channels, drag, edit_ring]
-VIEWS += [typed_rings, judge, judge_distances, table, pasted_table, long_tables, graph, links, step_of_link, exercises]
+VIEWS += [typed_rings, judge, judge_distances, table, graph, matrix, links, step_of_link, exercises]
 VIEWS += [examples]
