@@ -1,5 +1,6 @@
-// Requests to nbhd through the server. nbhd is deterministic, so its last reports are cached.
+// Requests to nbhd through the server, or to what a lesson has recorded. nbhd is deterministic, so its last reports are cached.
 
+import { recorded, unrecorded } from "./recorded.js";
 import { reportOf } from "./report.js";
 
 const CACHED = 16;
@@ -33,6 +34,7 @@ async function send(purpose, body) {
   drop(purpose);
   const control = new AbortController();
   latest.set(purpose, control);
+  if (recorded) return recorded.answers[body] ?? { unrecorded: unrecorded() };
   for (;;) {
     try {
       const response = await fetch("nbhd", {

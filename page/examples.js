@@ -4,6 +4,7 @@ import { byId, html } from "./dom.js";
 import { roundsOf } from "./language.js";
 import { QUESTIONS } from "./demand.js";
 import { askedBy } from "./problems.js";
+import { recorded } from "./recorded.js";
 import { change, exampleAsking, exampleOf, isLinked, state } from "./state.js";
 
 // The heads of docs/GALLERY.md, with the examples that are shown there, the first steps first.
@@ -23,6 +24,7 @@ const stem = ({ name }) => name.replace(/\.txt$/, "");
 
 /** The examples: name, title, text, and the number of identifiers that a comment recommends, else 8. */
 export async function loadExamples() {
+  if (recorded) return recorded.examples;
   try {
     const examples = await (await fetch("examples.json")).json();
     return examples.map((example) => ({ ...example, ids: example.text.match(/^# Identifiers: (\d+)/m)?.[1] ?? "8" }));
@@ -97,7 +99,8 @@ function take(example, rounds) {
   const ring = state.ring.split(",").map(Number);
   const least = 2 * rounds + 2;
   const fits = ring.length >= least && ring.every((identifier) => identifier < ids);
-  const next = fits ? state.ring : spread(Math.max(least, Math.min(8, ids)), ids);
+  const own = recorded?.rings.find((each) => each.split(",").length >= least);
+  const next = fits ? state.ring : own ?? spread(Math.max(least, Math.min(8, ids)), ids);
   const step = state.step === "end" || roundsOf(state.text) === rounds ? state.step : "";
   const [before, asked] = [askedBy(state.text), askedBy(example.text)];
   const isChosen = state.problem !== before.problem || (state.problem === "own" && state.forbid !== before.forbid);

@@ -11,6 +11,7 @@ import { startRun, stopRun, updateRun } from "./view-run.js";
 import { startJudge, updateJudge } from "./view-judge.js";
 import { startTable, updateTable } from "./view-table.js";
 import { startGraph, updateGraph } from "./view-graph.js";
+import { recorded } from "./recorded.js";
 import { startTaking } from "./take.js";
 import { checkTable, startSource } from "./source.js";
 
@@ -111,6 +112,7 @@ function startTools() {
   });
 }
 
+document.body.classList.toggle("lesson", recorded !== null);
 onChange(update);
 onEdit((text) => change({ text }));
 byId("ids").addEventListener("input", (event) => change({ ids: event.target.value }));

@@ -14,9 +14,10 @@ export function reportOf(command, answer) {
 
 /**
  * Why an answer has no report, as a `kind` and words in `note`: the run was `stopped`, or not begun, by the server; nbhd `refused` its
- * words; or it was `silent`.
+ * words; it was `silent`; or a lesson has no answer recorded.
  */
 export function noReport(answer) {
+  if (answer.unrecorded) return { kind: "unrecorded", note: answer.unrecorded };
   if (answer.refused) return { kind: "stopped", note: answer.refused };
   const said = sentencesOf(answer.note).join(" – ");
   if (answer.status === 2) return { kind: "refused", note: said };

@@ -4,6 +4,7 @@ import { ask, drop } from "./ask.js";
 import { byId, coded, html } from "./dom.js";
 import { reasonOf } from "./faults.js";
 import { PROBLEMS } from "./problems.js";
+import { recorded } from "./recorded.js";
 import { change, state } from "./state.js";
 
 const MOST_CHARACTERS = 2_000_000;
@@ -88,6 +89,7 @@ export async function startSource(refresh) {
     change({ table: value, ...(value.includes("/") ? askedByName(value) : {}) }, { keep: true }));
   area.addEventListener("input", () => showOwn(area.value, refresh));
   byId("table-file").addEventListener("change", async ({ target }) => target.files[0] && showOwn(await target.files[0].text(), refresh));
+  if (recorded) return;
   let names = [];
   try {
     names = await (await fetch("tables.json")).json();

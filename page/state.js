@@ -2,6 +2,7 @@
 
 import { QUESTIONS } from "./demand.js";
 import { askedBy } from "./problems.js";
+import { recorded } from "./recorded.js";
 import { withCommas } from "./ring-text.js";
 
 // The step of a run is its number, `end` for the last one, and empty for the start; `why` is the place of the node that is explained.
@@ -10,10 +11,10 @@ import { withCommas } from "./ring-text.js";
 // is the name of a kept one that is shown in place of the program, or `own`, which no link has.
 const DEFAULTS = {
   view: "run", ids: "8", ring: "5,1,3,7", step: "", why: "", base: "10", problem: "", near: "1", far: "0", forbid: "", prefix: "",
-  arrange: "channel", large: "", table: "",
+  arrange: "channel", large: "", table: "", ...recorded?.start,
 };
 const BASES = ["2", "10"];
-const FIRST = "cv1.txt";
+const FIRST = recorded?.examples[0].name ?? "cv1.txt";
 const VIEWS = ["run", "judge", "table", "graph"];
 
 export const state = { ...DEFAULTS, text: "" };
@@ -121,7 +122,11 @@ function write(asNewEntry = false) {
   const address = fragment();
   if (address === location.hash) return;
   written = address;
-  history[asNewEntry ? "pushState" : "replaceState"](null, "", address);
+  try {
+    history[asNewEntry ? "pushState" : "replaceState"](null, "", address);
+  } catch {
+    // A file that a mail program shows may have no address of its own.
+  }
 }
 
 function fragment() {

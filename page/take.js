@@ -2,6 +2,7 @@
 
 import { byId, download } from "./dom.js";
 import { readRules, svgText } from "./picture.js";
+import { recorded } from "./recorded.js";
 import { exampleOf, state } from "./state.js";
 import { tikzText } from "./tikz.js";
 import { histogram } from "./view-table.js";
@@ -19,7 +20,7 @@ let sheet = null;
 export async function taken(write) {
   const image = DRAWINGS[state.view]();
   if (!image) return undefined;
-  sheet ??= await (await fetch("style.css")).text();
+  sheet ??= recorded ? document.querySelector("style").textContent : await (await fetch("style.css")).text();
   return write(image, readRules(sheet));
 }
 

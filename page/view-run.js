@@ -18,6 +18,7 @@ import { numerals, widthOf } from "./numerals.js";
 import { markRows } from "./editor.js";
 import { rowsOfStep } from "./language.js";
 import { reasonOf } from "./faults.js";
+import { recorded } from "./recorded.js";
 import { askRun } from "./source.js";
 
 const STEP_MS = 1500;
@@ -38,6 +39,7 @@ export async function updateRun(checked) {
   pause();
   if (withCommas(byId("ring").value) !== state.ring) byId("ring").value = state.ring;
   byId("base").value = state.base;
+  byId("rings").querySelector("select").value = recorded?.rings.includes(state.ring) ? state.ring : "";
   const ring = readRing(state.ring) ?? [];
   accepted = checked.accepted;
   fillTray(ring, accepted?.ids ?? Number(state.ids), (identifier) => edit([...ring, identifier]),
@@ -259,7 +261,16 @@ function fillRegisters() {
     html("option", { value: j, selected: j === register }, `r${j}`)));
 }
 
+/** Offers the rings of a lesson. */
+function offerRecorded() {
+  const choice = byId("rings").querySelector("select");
+  byId("rings").hidden = false;
+  choice.append(...recorded.rings.map((ring) => html("option", {}, ring)));
+  choice.addEventListener("change", () => choice.value && change({ ring: choice.value }));
+}
+
 export function startRun() {
+  if (recorded) offerRecorded();
   startWhy(lead);
   byId("base").addEventListener("change", (event) => change({ base: event.target.value }));
   byId("back").addEventListener("click", () => { pause(); go(at - 1); });

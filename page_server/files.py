@@ -32,7 +32,12 @@ def examples(root):
     first = [root / "examples/cv1.txt", root / "programs/ldb.txt"]
     files = first + [file for file in sorted((root / "examples").glob("*.txt")) if file not in first]
     texts = {file.name: file.read_text(encoding="ascii") for file in files}
-    titles = {name: text.split("\n", 1)[0].lstrip("# ") for name, text in texts.items()}
-    # LDB has no comment.
-    titles["ldb.txt"] = "LDB: Cole and Vishkin without the bit, a rule that fails."
-    return [{"name": name, "title": titles[name], "text": text} for name, text in texts.items()]
+    return [{"name": name, "title": title_of(name, text), "text": text} for name, text in texts.items()]
+
+
+def title_of(name, text):
+    """The first comment line of a program; of LDB, which has none, what it is."""
+    first = text.split("\n", 1)[0]
+    if first.startswith("#"):
+        return first.lstrip("# ")
+    return "LDB: Cole and Vishkin without the bit, a rule that fails." if name == "ldb.txt" else name
