@@ -756,24 +756,40 @@ MANY_PATTERNS = "nbhd: too many patterns\nnbhd: `--forbid` is given at most 256 
 FORMULA, REFUTE = "formula --ids 4 --rounds 0 --channels 2", "refute --ids 4 --rounds 0 --channels 2"
 
 
-def bad_pattern(text, cause):
-    """The standard error on a text that is no pattern."""
-    return f"nbhd: bad pattern\nnbhd: `{text}` is no pattern: {cause}{PATTERN_END}"
+def bad_pattern(text, cause, mended=None):
+    """The standard error on a text that is no pattern, with the words to write."""
+    written = f"nbhd: write `nbhd {mended}`\n" if mended else ""
+    return f"nbhd: bad pattern\nnbhd: `{text}` is no pattern: {cause}{PATTERN_END}{written}"
+
+
+# The texts of these that were probably meant to be patterns, as they are written.
+MEANT = {
+    **{text: "1,1" for text in ["1,,1", "1, 1", "1 1", "1;1"]},
+    **{text: "1" for text in ["1,", ",1", " 1", "1 ", "+1"]},
+    **{"1,2,3,": "1,2,3", "0,0,": "0,0", "* ": "'*'", "1, *": "'1,*'"},
+}
+
+
+def mended_judge(text):
+    """What is to be written in place of a judgement by a text that is no pattern, if it is known."""
+    return f"judge --ids 8 --forbid {MEANT[text]}" if text in MEANT else None
+
 
 
 BAD_DEMANDS = [
-    *((["judge", "--ids", "8", f"--forbid={text}"], bad_pattern(text, cause)) for text, cause in BAD_PATTERNS),
+    *((["judge", "--ids", "8", f"--forbid={text}"], bad_pattern(text, cause, mended_judge(text))) for text, cause in BAD_PATTERNS),
     # the first value that is no pattern counts
     (["judge", "--ids", "8", "--forbid", "1,1", "--forbid", "1,,1", "--forbid", "a"], bad_pattern("1,,1", NO_ENTRY)),
     (["judge", "--ids", "8", "--forbid", "a", "--forbid=1,,1"], bad_pattern("a", NO_CHANNEL)),
-    *((f"{line} --forbid 1,,1", bad_pattern("1,,1", NO_ENTRY)) for line in ["audit", FORMULA, REFUTE]),
+    *((f"{line} --forbid 1,,1", bad_pattern("1,,1", NO_ENTRY, f"{line} --forbid 1,1")) for line in ["audit", FORMULA, REFUTE]),
     (["judge", "--ids", "8", "--forbid", "1,\x1b[31m1"], bad_pattern("1,\\x1b[31m1", NO_CHANNEL)),
     *(
         (f"{line} --problem {name}", UNKNOWN_PROBLEM)
         for line in ["judge --ids 8", "audit", FORMULA, REFUTE]
-        for name in ["none", "MIS", "mi", "mis,matching", "weak", "1,1"]
+        for name in ["none", "mi", "mis,matching", "weak", "1,1"]
     ),
-    (["judge", "--ids", "8", "--problem", ""], UNKNOWN_PROBLEM),
+    ("audit --problem MIS", UNKNOWN_PROBLEM + "nbhd: write `nbhd audit --problem mis`\n"),
+    (["judge", "--ids", "8", "--problem", ""], UNKNOWN_PROBLEM + "nbhd: a word is empty, as of a variable without a value: leave it out\n"),
     *(
         (f"judge --ids 8 {line}", TWO_DEMANDS)
         for line in [
@@ -797,225 +813,322 @@ BAD_DEMANDS = [
     (f"judge --ids 8{' --forbid 1,1' * 255} --forbid 1,,1", bad_pattern("1,,1", NO_ENTRY)),
 ]
 
-# Words and the tip on them.
-RING_FOR_IDS = "nbhd: `--ids` takes the number of identifiers; a ring is given by `--ring`\n"
-RING_IN_WORDS = "nbhd: a ring is one word with commas, as in `--ring 5,1,3,7`\n"
-PATTERN_IN_WORDS = "nbhd: a pattern is one word with commas, and each has its own `--forbid`, as in `--forbid 1,1 --forbid 0,0,0`\n"
-NEGATIVE = "nbhd: numbers are written in digits, without a sign\n"
-FILE_NAME = "nbhd: a text is read from standard input, as in `nbhd judge --ids 8 < FILE`\n"
-TABLE_NAME = "nbhd: a table is read from standard input, as in `nbhd audit < FILE`\n"
-ONE_MINUS = "nbhd: the name of an option has two minus signs before it, as in `--ids 8`\n"
-DASH = "nbhd: the name of an option has two minus signs before it, and no dash, as in `--ids 8`\n"
-CAPITAL = "nbhd: the names of options have small letters, as in `--ids 8`\n"
-OTHER_IDS = "nbhd: the number of identifiers is given by `--ids`\n"
-NEAR_AND_FAR = "nbhd: `--near` takes one number, and `--far` another: L(2,1) is `--near 2 --far 1`\n"
-REFUTATION_NAME = "nbhd: a refutation is read from standard input, as in `nbhd refute --ids 3 --rounds 0 --channels 2 < FILE`\n"
-NO_FILE = "nbhd: `nbhd formula` reads no file\n"
-VALUE_APART = "nbhd: a value stands right behind `=`, or behind a blank alone, as in `--ids=8` or `--ids 8`\n"
+# What there is to know of refused words, or `-`, and below it such words, with those that are to be written if they are known. Each row
+# was read by a person.
+ADVICE = r"""\
+-
+  run --ids 8 --ring 5 1 3 7 => run --ids 8 --ring 5,1,3,7
+  run --ids 8 --ring 5, 1, 3, 7 => run --ids 8 --ring 5,1,3,7
+  apply --ring 5 1 3 7 => apply --ring 5,1,3,7
+  judge -ids 8 => judge --ids 8
+  run -ring 5,1,3,7 --ids 8 => run --ring 5,1,3,7 --ids 8
+  judge —ids 8 => judge --ids 8
+  judge –ids 8 => judge --ids 8
+  judge --IDS 8 => judge --ids 8
+  judge --Ids 8 => judge --ids 8
+  run --ids 8 --ring=5 1 3 7 => run --ids 8 --ring 5,1,3,7
+  judge --ids --near =>
+  judge --ids=8, => judge --ids 8
+  judge --ids= =>
+  judge --ids 8 --near 2,1 => judge --ids 8 --near 2 --far 1
+  judge --near=2,1 --ids 8 => judge --near 2 --far 1 --ids 8
+  judge --ids= 8 => judge --ids 8
+  judge --ids =8 => judge --ids 8
+  judge --ids = 8 => judge --ids 8
+  judge --ids 8 --far= 1 => judge --ids 8 --far 1
+  judge --ids 8 --near =2,1 => judge --ids 8 --near 2 --far 1
+  run --ids 8 --ring= 5,1,3,7 => run --ids 8 --ring 5,1,3,7
+  judge --ids 8 --forbid 1 1 => judge --ids 8 --forbid 1,1
+  judge --ids 8 --forbid 1,1 0,0,0 => judge --ids 8 --forbid 1,1 --forbid 0,0,0
+  audit --forbid=1,1 0,0,0 => audit --forbid 1,1 --forbid 0,0,0
+  audit --forbid= 1,1 => audit --forbid 1,1
+  audit --forbid = 1,1 => audit --forbid 1,1
+  judge --ids 8 -forbid 1,1 => judge --ids 8 --forbid 1,1
+  judge --ids 8 -problem mis => judge --ids 8 --problem mis
+  judge --ids 8 --FORBID 1,1 => judge --ids 8 --forbid 1,1
+  judge --ids 8 --Problem mis => judge --ids 8 --problem mis
+  judge -near 2 --ids 8 => judge --near 2 --ids 8
+  judge --Near=2 --ids 8 => judge --near 2 --ids 8
+  print --FORMAT json => print --format json
+  print --Format=json => print --format json
+  print -format json => print --format json
+  print --format = json => print --format json
+  print --format =json => print --format json
+  print --format:json => print --format json
+  print format json => print --format json
+  RUN --ids 8 --ring 5,1,3,7 => run --ids 8 --ring 5,1,3,7
+  check 8 => check --ids 8
+  judge ids 8 => judge --ids 8
+  judge ids=8 => judge --ids 8
+  judge --ids 8 near 2 => judge --ids 8 --near 2
+  judge -- ids 8 => judge --ids 8
+  judge --ids 8 # mine.txt =>
+  judge --ids 8 ... mine.txt =>
+  judge --ids 8 \ =>
+  table --ids 8 [--workers 4] => table --ids 8 --workers 4
+  --judge --ids 8 => judge --ids 8
+  -check --ids 8 => check --ids 8
+  --check=8 --ids 8 => check --ids 8
+  audit --strict =>
+  audit --hepl =>
+  judge --ids:8 => judge --ids 8
+  chek --ids 8 =>
+  table --ids 8 --worker 1 => table --ids 8 --workers 1
+  check --idz 8 =>
+`--ids` takes the number of identifiers; a ring is given by `--ring`
+  run --ids 5,1,3,7 =>
+numbers are written in digits, without a sign
+  check --ids -8 => check --ids 8
+  run --ids 8 --ring -1,2,3,4 =>
+  judge --ids 8 --forbid -1,1 =>
+a text is read from standard input
+  judge --ids 8 programs/cv1.txt => judge --ids 8 < programs/cv1.txt
+  judge cv1.txt --ids 8 => judge --ids 8 < cv1.txt
+  judge --file=cv1.txt =>
+  judge --file cv1 --ids 8 => judge --ids 8 < cv1
+  audit --file=old.table => audit < old.table
+  audit cv1.table.txt => audit < cv1.table.txt
+  migrate old.table => migrate < old.table
+  apply --ring 5,1,3,7 old.table => apply --ring 5,1,3,7 < old.table
+  apply old.table --ring 5,1,3,7 => apply --ring 5,1,3,7 < old.table
+  refute --ids 3 --rounds 0 --channels 2 no.lrat => refute --ids 3 --rounds 0 --channels 2 < no.lrat
+  judge --ids 8 mine => judge --ids 8 < mine
+  judge --ids 8 - => judge --ids 8 < FILE
+  check mine --ids 8 => check --ids 8 < mine
+  audit mine => audit < mine
+  apply --ring 5,1,3,7 mine => apply --ring 5,1,3,7 < mine
+  refute --ids 3 --rounds 0 --channels 2 proof => refute --ids 3 --rounds 0 --channels 2 < proof
+  audit --table old.table => audit < old.table
+`--ids` takes a number in digits
+  judge --ids 1.5 =>
+  judge --ids eight =>
+  judge --ids=eight =>
+  judge --ids 8k =>
+  judge --ids 2.5 =>
+  judge --ids 8..10 =>
+  judge --ids 1e2 =>
+  judge --ids 2^5 =>
+  judge --ids 1k =>
+  judge --ids M =>
+  judge --ids=8k =>
+  judge --ids=2^5 =>
+`--workers` takes a number in digits, from 1 to 64
+  table --ids=8 --workers=all =>
+  table --ids 8 --workers all =>
+`--near` takes a number in digits, from 1 to 4096
+  judge --ids 8 --near none =>
+`--place` takes a number in digits
+  explain --ids 8 --ring 5,1,3,7 --place first =>
+`--base` takes a number in digits, from 2 to 10
+  trace --ids 8 --ring 5,1,3,7 --base two =>
+`--rounds` takes a number in digits, from 0 to 4
+  formula --ids 8 --rounds one --channels 3 =>
+`--channels` takes a number in digits, from 1 to 4096
+  refute --ids 8 --rounds 1 --channels three =>
+the number of identifiers is given by `--ids`
+  judge --n 8 => judge --ids 8
+  judge --identifiers 8 => judge --ids 8
+  judge --nodes=8 => judge --ids 8
+  judge -n 8 => judge --ids 8
+  judge -m 8 => judge --ids 8
+  judge --size 8 => judge --ids 8
+  judge --max 8 => judge --ids 8
+  judge --N 8 => judge --ids 8
+`--far` takes a number in digits, from 0 to 4096
+  judge --ids 8 --far 1.5 =>
+`--segments` takes a number in digits, from 1 to 64
+  run --ids 8 --ring 5,1,3,7 --segments two =>
+`nbhd formula` reads no file
+  formula --ids 3 --rounds 0 --channels 2 out.cnf => formula --ids 3 --rounds 0 --channels 2
+  formula --ids 3 --rounds 0 --channels 2 out => formula --ids 3 --rounds 0 --channels 2
+the number of threads is given by `--workers`, of `table`, `judge` and `plan`
+  judge --ids 8 -w 4 => judge --ids 8 --workers 4
+  judge --ids 8 -j 4 => judge --ids 8 --workers 4
+  judge --ids 8 --threads 4 => judge --ids 8 --workers 4
+  judge --ids 8 --jobs 4 => judge --ids 8 --workers 4
+  judge --ids 8 --parallel 4 => judge --ids 8 --workers 4
+  judge --ids 8 --cores 4 => judge --ids 8 --workers 4
+  judge --ids 8 --jobs=4 => judge --ids 8 --workers 4
+  check --ids 8 -j 4 => check --ids 8
+  audit -j 4 => audit
+a run has a thread for each segment
+  run --ids 8 --ring 5,1,3,7 -j 4 => run --ids 8 --ring 5,1,3,7 --segments 4
+  run --ids 8 --ring 5,1,3,7 --workers 4 => run --ids 8 --ring 5,1,3,7 --segments 4
+L(2,1) is `--near 2 --far 1`
+  judge --ids 8 --L21 2 => judge --ids 8 --near 2 --far 1
+  judge --ids 8 --l 2 => judge --ids 8 --near 2
+  judge --ids 8 --L 2 => judge --ids 8 --near 2
+  judge --ids 8 -L 2 => judge --ids 8 --near 2
+  judge --ids 8 --lambda 2 => judge --ids 8 --near 2
+numbers are printed in another base by `--base`
+  trace --ids 8 --ring 5,1,3,7 --bits => trace --ids 8 --ring 5,1,3,7 --base 2
+  trace --ids 8 --ring 5,1,3,7 --binary => trace --ids 8 --ring 5,1,3,7 --base 2
+  trace --ids 8 --ring 5,1,3,7 --bin => trace --ids 8 --ring 5,1,3,7 --base 2
+  trace --ids 8 --ring 5,1,3,7 --radix =>
+numbers are printed in a base from 2 to 10
+  trace --ids 8 --ring 5,1,3,7 --hex => trace --ids 8 --ring 5,1,3,7
+the node that is explained is given by its place in the ring
+  explain --ids 8 --ring 5,1,3,7 --node 0 => explain --ids 8 --ring 5,1,3,7 --place 0
+  explain --ids 8 --ring 5,1,3,7 --pos 0 => explain --ids 8 --ring 5,1,3,7 --place 0
+  explain --ids 8 --ring 5,1,3,7 --position 0 => explain --ids 8 --ring 5,1,3,7 --place 0
+  explain --ids 8 --ring 5,1,3,7 --index 0 => explain --ids 8 --ring 5,1,3,7 --place 0
+the first line of `nbhd --help` has the version
+  -V =>
+  --version =>
+  judge -V =>
+  version =>
+  -v =>
+  -version =>
+a report is on the standard output, a note on the standard error; there is no option for more or less
+  judge --ids 8 -v => judge --ids 8
+  judge --ids 8 -q => judge --ids 8
+  judge --ids 8 --quiet => judge --ids 8
+  judge --ids 8 --verbose => judge --ids 8
+  -v judge --ids 8 => judge --ids 8
+the answer is on the standard output
+  table --ids 8 -o out => table --ids 8 > out
+  table --ids 8 --output out => table --ids 8 > out
+  table --ids 8 --out out => table --ids 8 > out
+  judge --ids 8 -o json => judge --ids 8 --format json > FILE
+  formula --ids 4 --rounds 0 --channels 2 -o json => formula --ids 4 --rounds 0 --channels 2 > FILE
+a report is in JSON by `--format json`
+  judge --ids 8 --json => judge --ids 8 --format json
+  judge --ids 8 --fmt =>
+  judge --ids 8 --output-format=json => judge --ids 8 --format json
+  judge --ids 8 json => judge --ids 8 --format json
+a report is in lines or in JSON, by `--format lines` or `--format json`
+  judge --ids 8 --yaml => judge --ids 8
+  judge --ids 8 --csv => judge --ids 8
+  judge --ids 8 --xml => judge --ids 8
+`nbhd formula` prints DIMACS, which solvers read, and has no other form
+  formula --ids 4 --rounds 0 --channels 2 --format json => formula --ids 4 --rounds 0 --channels 2
+  formula --ids 4 --rounds 0 --channels 2 --format=lines => formula --ids 4 --rounds 0 --channels 2
+  formula --ids 4 --rounds 0 --channels 2 --json => formula --ids 4 --rounds 0 --channels 2
+  formula --ids 4 --rounds 0 --channels 2 --fmt json => formula --ids 4 --rounds 0 --channels 2
+  formula --ids 4 --rounds 0 --channels 2 --yaml => formula --ids 4 --rounds 0 --channels 2
+nothing is random; `shuf` makes a random ring
+  run --ids 8 --ring 5,1,3,7 --seed 3 => run --ids 8 --ring 5,1,3,7
+`--workers` is an option of `table`, `judge` and `plan`
+  check --ids 8 --workers 2 => check --ids 8
+  audit --workers 4 => audit
+`--near` is an option of `table`, `judge`, `formula` and `refute`
+  run --ids 8 --ring 5,1,3,7 --near 2 => run --ids 8 --ring 5,1,3,7
+  print --near:8 => print
+`--ring` is an option of `run`, `trace`, `explain`, `plan` and `apply`
+  judge --ids 8 --ring 5,1,3,7 => judge --ids 8
+  audit --ring 5,1,3,7 => audit
+a program says its rounds and channels; those of a formula are given by `--rounds` and `--channels`
+  judge --ids 8 --rounds 1 => judge --ids 8
+the numbers of a table are in its text
+  audit --ids 8 => audit
+  apply --ids 8 --ring 5,1,3,7 => apply --ring 5,1,3,7
+  apply --ring 5,1,3,7 --near 2 => apply --ring 5,1,3,7
+`--forbid` is an option of `judge`, `audit`, `formula` and `refute`
+  check --ids 8 --forbid 1,1 => check --ids 8
+  migrate --forbid 1,1 => migrate
+`--problem` is an option of `judge`, `audit`, `formula` and `refute`
+  run --ids 8 --ring 5,1,3,7 --problem mis => run --ids 8 --ring 5,1,3,7
+  print --problem mis => print
+a table does not say what its channels have to be but for near and far; `nbhd audit --problem mis` judges it
+  table --ids 8 --forbid 1,1 => table --ids 8
+  table --ids 8 --problem mis => table --ids 8
+a problem is given by its name, as in `--problem mis`, or by its patterns, as in `--forbid 1,1`
+  judge --ids 8 --mis => judge --ids 8 --problem mis
+  judge --ids 8 mis => judge --ids 8 --problem mis
+  judge --ids 8 --matching => judge --ids 8 --problem matching
+  judge --ids 8 weak2 => judge --ids 8 --problem weak2
+  judge --ids 8 --lcl =>
+  audit --mis => audit --problem mis
+  audit mis => audit --problem mis
+  audit --matching => audit --problem matching
+  audit weak2 => audit --problem weak2
+  audit --lcl =>
+  formula --ids 4 --rounds 0 --channels 2 --mis => formula --ids 4 --rounds 0 --channels 2 --problem mis
+  formula --ids 4 --rounds 0 --channels 2 mis => formula --ids 4 --rounds 0 --channels 2 --problem mis
+  formula --ids 4 --rounds 0 --channels 2 --matching => formula --ids 4 --rounds 0 --channels 2 --problem matching
+  formula --ids 4 --rounds 0 --channels 2 weak2 => formula --ids 4 --rounds 0 --channels 2 --problem weak2
+  formula --ids 4 --rounds 0 --channels 2 --lcl =>
+a pattern of channels is forbidden by `--forbid`
+  audit --pattern 1,1 => audit --forbid 1,1
+  audit --forbidden 1,1 => audit --forbid 1,1
+  audit --avoid 1,1 => audit --forbid 1,1
+`nbhd check` tells whether a program is accepted for M identifiers
+  print --ids 8 => print
+`nbhd run` runs a program on a ring, and `nbhd trace` prints each round
+  simulate --ids 8 =>
+  exec --ids 8 =>
+`nbhd judge` judges a program on every ring, and `nbhd audit` a table
+  verify --ids 8 => judge --ids 8
+  validate --ids 8 => judge --ids 8
+  test --ids 8 => judge --ids 8
+  prove --ids 8 => judge --ids 8
+`nbhd --help` tells of the program, and `nbhd run --help` of a command
+  man =>
+  info =>
+`nbhd table` prints the table of a program
+  compile --ids 8 => table --ids 8
+`nbhd formula` prints a formula for a solver
+  solve --ids 8 =>
+the name of the program stands twice
+  nbhd run --ids 8 --ring 5,1,3,7 => run --ids 8 --ring 5,1,3,7
+the name of a command comes first, as in `nbhd check --ids 8`
+  --ids 8 =>
+  8 =>
+a ring is given by `--ring`
+  run --ids 8 5,1,3,7 => run --ids 8 --ring 5,1,3,7
+  apply 5,1,3,7 => apply --ring 5,1,3,7
+  apply 0 1 => apply --ring 0,1
+  run --ids 8 -r 5,1,3,7 => run --ids 8 --ring 5,1,3,7
+each number is the value of an option, as in `--ids 8`
+  migrate 2 => migrate
+  print 8 => print
+  audit 8 => audit
+a pattern of channels is given by `--forbid`
+  judge --ids 8 1,1 => judge --ids 8 --forbid 1,1
+  audit 1,1 => audit --forbid 1,1
+  refute --ids 4 --rounds 0 --channels 2 1,1 => refute --ids 4 --rounds 0 --channels 2 --forbid 1,1
+a word is empty, as of a variable without a value: leave it out
+  check --ids 8  => check --ids 8
+one command is given at a time
+  audit migrate => audit
+`<` and `>` are read by the shell, outside of quotes
+  judge --ids 8 < mine => judge --ids 8 < mine
+  judge --ids 8 > out.txt => judge --ids 8 > out.txt
+  judge --ids 8 >> out.txt => judge --ids 8 > out.txt
+  judge --ids 8 < out.txt => judge --ids 8 < out.txt
+`nbhd migrate` prints a table in the newest version
+  migrate --version 2 => migrate
+`|`, `;` and `&` are read by the shell, outside of quotes
+  judge --ids 8 | less => judge --ids 8
+  judge --ids 8 || less => judge --ids 8
+  judge --ids 8 ; less => judge --ids 8
+  judge --ids 8 & less => judge --ids 8
+  judge --ids 8 && less => judge --ids 8
+  judge --ids 8 2> out.txt => judge --ids 8
+  judge --ids 8 2>&1 out.txt => judge --ids 8
+  judge --ids 8 &> out.txt => judge --ids 8
+  judge --ids | =>
+`nbhd migrate` writes the newest version only
+  migrate --to 1 => migrate
+the number of threads is given by `--workers`
+  table --ids 8 --segments 2 => table --ids 8 --workers 2
+  judge --ids 8 --segments 2 => judge --ids 8 --workers 2
+`--segments` is an option of `run`
+  check --ids 8 --segments 2 => check --ids 8
+"""
 
 
-def no_number(option, range_of):
-    """The tip on a value of an option that is not a number."""
-    return f"nbhd: `--{option}` takes a number in digits, {range_of}\n"
+def advice():
+    """The words of each row of `ADVICE`, and the last line of the standard error."""
+    fact = ""
+    for row in ADVICE.splitlines():
+        if not row.startswith("  "):
+            fact = row.removeprefix("-")
+            continue
+        line, _, mended = row[2:].partition(" =>")
+        parts = [fact] * bool(fact) + [f"write `nbhd{mended}`"] * bool(mended)
+        yield line.split(" "), f"nbhd: {'; '.join(parts)}\n" if parts else "For more information, try '--help'.\n"
 
-
-NO_IDS = no_number("ids", "from 2 to 1024")
-NO_ROUNDS = no_number("rounds", "from 0 to 4")
-NO_CHANNELS = no_number("channels", "from 1 to 4096")
-NO_NEAR = no_number("near", "from 1 to 4096")
-NO_FAR = no_number("far", "from 0 to 4096")
-NO_WORKERS = no_number("workers", "from 1 to 64")
-NO_SEGMENTS = no_number("segments", "from 1 to 64")
-NO_PLACE = no_number("place", "from 0 on")
-NO_BASE = no_number("base", "from 2 to 10")
-NO_TIP = "For more information, try '--help'.\n"
-TIPS = [
-    ("run --ids 8 --ring 5 1 3 7", RING_IN_WORDS),
-    ("run --ids 8 --ring 5, 1, 3, 7", RING_IN_WORDS),
-    ("run --ids 5,1,3,7", RING_FOR_IDS),
-    ("check --ids -8", NEGATIVE),
-    ("run --ids 8 --ring -1,2,3,4", NEGATIVE),
-    ("judge --ids 8 programs/cv1.txt", FILE_NAME),
-    ("judge cv1.txt --ids 8", FILE_NAME),
-    ("judge --ids 1.5", NO_IDS),
-    ("judge --file=cv1.txt", FILE_NAME),
-    ("judge --file cv1 --ids 8", FILE_NAME),
-    ("judge --ids eight", NO_IDS),
-    ("judge --ids=eight", NO_IDS),
-    ("table --ids=8 --workers=all", NO_WORKERS),
-    ("audit --file=old.table", TABLE_NAME),
-    ("judge --ids 8 --near none", NO_NEAR),
-    ("table --ids 8 --workers all", NO_WORKERS),
-    ("explain --ids 8 --ring 5,1,3,7 --place first", NO_PLACE),
-    ("trace --ids 8 --ring 5,1,3,7 --base two", NO_BASE),
-    ("formula --ids 8 --rounds one --channels 3", NO_ROUNDS),
-    ("refute --ids 8 --rounds 1 --channels three", NO_CHANNELS),
-    ("audit cv1.table.txt", TABLE_NAME),
-    ("migrate old.table", TABLE_NAME),
-    ("apply --ring 5,1,3,7 old.table", TABLE_NAME),
-    ("apply old.table --ring 5,1,3,7", TABLE_NAME),
-    ("apply --ring 5 1 3 7", RING_IN_WORDS),
-    ("judge -ids 8", ONE_MINUS),
-    ("run -ring 5,1,3,7 --ids 8", ONE_MINUS),
-    ("judge \u2014ids 8", DASH),
-    ("judge \u2013ids 8", DASH),
-    ("judge --IDS 8", CAPITAL),
-    ("judge --Ids 8", CAPITAL),
-    ("judge --n 8", OTHER_IDS),
-    ("judge --identifiers 8", OTHER_IDS),
-    ("judge --nodes=8", OTHER_IDS),
-    ("run --ids 8 --ring=5 1 3 7", RING_IN_WORDS),
-    *((f"judge --ids {value}", NO_IDS) for value in ["8k", "2.5", "8..10", "1e2", "2^5", "1k", "M", "--near"]),
-    *((f"judge --ids={value}", NO_IDS) for value in ["8k", "8,", "2^5", ""]),
-    ("judge --ids 8 --far 1.5", NO_FAR),
-    ("run --ids 8 --ring 5,1,3,7 --segments two", NO_SEGMENTS),
-    ("judge --ids 8 --near 2,1", NEAR_AND_FAR),
-    ("judge --near=2,1 --ids 8", NEAR_AND_FAR),
-    ("refute --ids 3 --rounds 0 --channels 2 no.lrat", REFUTATION_NAME),
-    ("formula --ids 3 --rounds 0 --channels 2 out.cnf", NO_FILE),
-    *((f"judge {words}", VALUE_APART) for words in ["--ids= 8", "--ids =8", "--ids = 8", "--ids 8 --far= 1", "--ids 8 --near =2,1"]),
-    ("run --ids 8 --ring= 5,1,3,7", VALUE_APART),
-    ("judge --ids 8 --forbid 1 1", PATTERN_IN_WORDS),
-    ("judge --ids 8 --forbid 1,1 0,0,0", PATTERN_IN_WORDS),
-    ("audit --forbid=1,1 0,0,0", PATTERN_IN_WORDS),
-    ("judge --ids 8 --forbid -1,1", NEGATIVE),
-    *((f"audit {words}", VALUE_APART) for words in ["--forbid= 1,1", "--forbid = 1,1"]),
-    *((f"judge --ids 8 {words}", ONE_MINUS) for words in ["-forbid 1,1", "-problem mis"]),
-    *((f"judge --ids 8 {words}", CAPITAL) for words in ["--FORBID 1,1", "--Problem mis"]),
-    ("judge -near 2 --ids 8", ONE_MINUS),
-    ("judge --Near=2 --ids 8", CAPITAL),
-    ("print --FORMAT json", CAPITAL),
-    ("print --Format=json", CAPITAL),
-    ("print -format json", ONE_MINUS),
-    *((f"print --format {word}", VALUE_APART) for word in ["= json", "=json"]),
-]
-
-# What names of other programs are for, and what stands for them.
-RUN, TRACE, EXPLAIN = "run --ids 8 --ring 5,1,3,7", "trace --ids 8 --ring 5,1,3,7", "explain --ids 8 --ring 5,1,3,7"
-THREADS = "nbhd: the number of threads is given by `--workers`, as in `--workers 4`\n"
-LABELLING = "nbhd: L(2,1) is `--near 2 --far 1`, of `table`, `judge`, `formula` and `refute`\n"
-VERSION = "nbhd: the first line of `nbhd --help` has the version\n"
-IDENTIFIERS = "nbhd: the number of identifiers is given by `--ids`, as in `--ids 8`\n"
-OUTPUT = "as in `nbhd table --ids 8 < FILE > OUTPUT`\n"
-MESSAGES = "nbhd: `nbhd run` runs a program on a ring, and `nbhd trace` prints each round\n"
-JUDGES = "nbhd: `nbhd judge` judges a program on every ring, and `nbhd audit` a table\n"
-HELP = "nbhd: `nbhd --help` tells of the program, and `nbhd run --help` of a command\n"
-FIRST = "nbhd: the name of a command comes first, as in `nbhd check --ids 8`\n"
-RING_OF = "nbhd: `--ring` is an option of `run`, `trace`, `explain`, `plan` and `apply`\n"
-IN_TABLE = "nbhd: the numbers of a table are in its text\n"
-SHELL = "nbhd: `|`, `;` and `&` are read by the shell, outside of quotes\n"
-REDIRECTED = "nbhd: `<` and `>` are read by the shell, outside of quotes\n"
-FORBID_OF = "nbhd: `--forbid` is an option of `judge`, `audit`, `formula` and `refute`\n"
-PROBLEM_OF = "nbhd: `--problem` is an option of `judge`, `audit`, `formula` and `refute`\n"
-BY_NAME = "nbhd: a problem is given by its name, as in `--problem mis`, or by its patterns, as in `--forbid 1,1`\n"
-BY_PATTERN = "nbhd: a pattern of channels is forbidden by `--forbid`, as in `--forbid 1,1`\n"
-AUDIT_THREADS = (
-    "nbhd: `nbhd audit` has no such option, and at most as many threads as there are processors"
-    "; `--workers` is an option of `table`, `judge` and `plan`\n"
-)
-
-IN_JSON = "nbhd: a report is in JSON by `--format json`\n"
-TWO_FORMS = "nbhd: a report is in lines or in JSON, by `--format lines` or `--format json`\n"
-DIMACS = "nbhd: `nbhd formula` prints DIMACS, which solvers read, and has no other form\n"
-
-# Words and the end of the standard error, which names what was probably meant.
-ADVICE = [
-    # A file without a suffix, and `-`.
-    ("judge --ids 8 mine", FILE_NAME),
-    ("judge --ids 8 -", FILE_NAME),
-    ("check mine --ids 8", FILE_NAME),
-    ("audit mine", TABLE_NAME),
-    ("apply --ring 5,1,3,7 mine", TABLE_NAME),
-    ("refute --ids 3 --rounds 0 --channels 2 proof", REFUTATION_NAME),
-    ("formula --ids 3 --rounds 0 --channels 2 out", NO_FILE),
-    # Names of other programs for options.
-    *((f"judge --ids 8 {name} 4", THREADS) for name in "-w -j --threads --jobs --parallel --cores".split()),
-    ("judge --ids 8 --jobs=4", THREADS),
-    (f"{RUN} -j 4", "nbhd: a run has a thread for each segment, as in `--segments 4`\n"),
-    ("check --ids 8 -j 4", "nbhd: this command has one thread\n"),
-    *((f"judge --ids 8 {name} 2", LABELLING) for name in "--L21 --l --L -L --lambda".split()),
-    *((f"{TRACE} {name}", "as in `--base 2`\n") for name in "--bits --binary --hex --bin --radix".split()),
-    *((f"{EXPLAIN} {name} 0", "by its place in the ring, as in `--place 0`\n") for name in "--node --pos --position --index".split()),
-    *((line, VERSION) for line in ["-V", "--version", "judge -V", "version"]),
-    *((f"judge --ids 8 {name}", "there is no option for more or less\n") for name in "-v -q --quiet --verbose".split()),
-    *((f"table --ids 8 {name} out", OUTPUT) for name in "-o --output --out".split()),
-    *((f"judge --ids 8 {name}", IN_JSON) for name in "--json --fmt --output-format=json json".split()),
-    *((f"judge --ids 8 {name}", TWO_FORMS) for name in "--yaml --csv --xml".split()),
-    *((f"{FORMULA} {words}", DIMACS) for words in ["--format json", "--format=lines", "--json", "--fmt json", "--yaml"]),
-    ("judge --ids 8 -o json", "with `--format json` in JSON, " + OUTPUT),
-    (f"{FORMULA} -o json", "nbhd: the answer is on the standard output, " + OUTPUT),
-    ("print --format:json", "nbhd: a blank or `=` separates an option from its value, as in `--ids 8`, and no colon\n"),
-    ("print format json", ONE_MINUS),
-    *((f"judge {name} 8", IDENTIFIERS) for name in "-n -m --size --max --N".split()),
-    (f"{RUN} --seed 3", "nbhd: nothing is random; `shuf` makes a random ring\n"),
-    # Options of another command.
-    ("check --ids 8 --workers 2", "nbhd: `--workers` is an option of `table`, `judge` and `plan`\n"),
-    (f"{RUN} --near 2", "nbhd: `--near` is an option of `table`, `judge`, `formula` and `refute`\n"),
-    ("judge --ids 8 --ring 5,1,3,7", RING_OF),
-    ("audit --ring 5,1,3,7", RING_OF),
-    ("judge --ids 8 --rounds 1", "nbhd: `--rounds` is an option of `formula` and `refute`; a program says its own\n"),
-    ("audit --ids 8", IN_TABLE),
-    ("apply --ids 8 --ring 5,1,3,7", IN_TABLE),
-    ("apply --ring 5,1,3,7 --near 2", IN_TABLE),
-    ("check --ids 8 --forbid 1,1", FORBID_OF),
-    ("migrate --forbid 1,1", FORBID_OF),
-    (f"{RUN} --problem mis", PROBLEM_OF),
-    *((f"table --ids 8 {option}", "; `nbhd audit --problem mis` judges it\n") for option in ["--forbid 1,1", "--problem mis"]),
-    *((f"{line} {word}", BY_NAME) for line in ["judge --ids 8", "audit", FORMULA] for word in ["--mis", "mis", "--matching", "weak2", "--lcl"]),
-    *((f"audit {word} 1,1", BY_PATTERN) for word in ["--pattern", "--forbidden", "--avoid"]),
-    ("print --problem mis", "`nbhd check` tells whether a program is accepted for M identifiers\n"),
-    ("print --ids 8", "`nbhd check` tells whether a program is accepted for M identifiers\n"),
-    # Words in place of a command.
-    *((f"{name} --ids 8", MESSAGES) for name in ["simulate", "exec"]),
-    *((f"{name} --ids 8", JUDGES) for name in ["verify", "validate", "test", "prove"]),
-    *((name, HELP) for name in ["man", "info"]),
-    ("compile --ids 8", "nbhd: `nbhd table` prints the table of a program\n"),
-    ("solve --ids 8", "nbhd: `nbhd formula` prints a formula for a solver\n"),
-    ("RUN --ids 8 --ring 5,1,3,7", "nbhd: the names of commands have small letters\n"),
-    ("nbhd run --ids 8 --ring 5,1,3,7", "nbhd: the name of the program stands twice\n"),
-    ("--ids 8", FIRST),
-    ("8", FIRST),
-    # Stray words.
-    ("run --ids 8 5,1,3,7", "nbhd: a ring is given by `--ring`, as in `--ring 5,1,3,7`\n"),
-    ("apply 5,1,3,7", "nbhd: a ring is given by `--ring`, as in `--ring 5,1,3,7`\n"),
-    ("check 8", "nbhd: each number is the value of an option, as in `--ids 8`\n"),
-    *((line, "nbhd: this command takes no number, and its text is read from standard input\n") for line in ["migrate 2", "print 8"]),
-    ("audit 8", IN_TABLE),
-    *((f"{line} 1,1", "nbhd: a pattern of channels is given by `--forbid`, as in `--forbid 1,1`\n") for line in ["judge --ids 8", "audit", REFUTE]),
-    (["check", "--ids", "8", ""], "nbhd: a word is empty, as of a variable without a value: leave it out\n"),
-    ("apply 0 1", "nbhd: each number is part of the value of `--ring`, as in `--ring 5,1,3,7`\n"),
-    ("audit migrate", "nbhd: one command is given at a time\n"),
-    *((f"judge {word}", ONE_MINUS) for word in ["ids 8", "ids=8", "--ids 8 near 2", "-- ids 8"]),
-    (["judge", "--ids", "8", "<", "mine"], REDIRECTED),
-    ("run --ids 8 -r 5,1,3,7", "nbhd: a ring is given by `--ring`, of `run`, `trace`, `explain`, `plan` and `apply`\n"),
-    ("audit --table old.table", TABLE_NAME),
-    ("migrate --version 2", "nbhd: `nbhd migrate` prints a table in the newest version\n"),
-    # What the shell reads, and what stands for a part of the usage.
-    *((["judge", "--ids", "8", word, "less"], SHELL) for word in ["|", "||", ";", "&", "&&"]),
-    *((["judge", "--ids", "8", word, "out.txt"], REDIRECTED) for word in [">", ">>", "<", "2>", "2>&1", "&>"]),
-    *((["judge", "--ids", "8", word, "mine.txt"], NO_TIP) for word in ["#", "..."]),
-    (["judge", "--ids", "8", "\\"], NO_TIP),
-    (["judge", "--ids", "|"], NO_IDS),
-    ("table --ids 8 [--workers 4]", "an option may be left out; they are not written\n"),
-    # The version, and names of commands behind minus signs.
-    *((line, VERSION) for line in ["-v", "-version"]),
-    ("-v judge --ids 8", FIRST),
-    *((f"{word} --ids 8", "nbhd: the name of a command has no minus signs, as in `nbhd judge --ids 8`\n") for word in ["--judge", "-check", "--check=8"]),
-    # Commands with few options, and values behind a colon.
-    ("migrate --to 1", "nbhd: `nbhd migrate` has no other option than `--format`; it writes the newest version only\n"),
-    ("audit --strict", "nbhd: `nbhd audit` has no other options than `--forbid`, `--problem` and `--format`\n"),
-    *((f"audit {word} 4", AUDIT_THREADS) for word in ["--workers", "-j"]),
-    ("audit --hepl", NO_TIP),
-    *((f"{line}:8", "nbhd: a blank or `=` separates an option from its value, as in `--ids 8`, and no colon\n") for line in ["judge --ids", "print --near"]),
-    # The options for threads at a command that has another one.
-    (f"{RUN} --workers 4", "; a run has a thread for each segment, as in `--segments 4`\n"),
-    *((f"{line} --segments 2", "; the number of threads is given by `--workers`, as in `--workers 4`\n") for line in ["table --ids 8", "judge --ids 8"]),
-    ("check --ids 8 --segments 2", "nbhd: `--segments` is an option of `run`\n"),
-    # A word that is like a name, and of which nothing else is known, has what `clap` says of it alone.
-    ("chek --ids 8", NO_TIP),
-    ("table --ids 8 --worker 1", NO_TIP),
-    ("check --idz 8", NO_TIP),
-]
 
 # Words with bytes that are not printable, and the standard error.
 CARRIAGE = "nbhd: a word ends with a carriage return: save the script with line feeds alone\n"
@@ -1023,12 +1136,12 @@ ESCAPED = [
     (
         ["check", "--ids", "8\r"],
         "error: invalid value '8\\x0d' for '--ids <M>': invalid digit found in string\n\n"
-        f"For more information, try '--help'.\n{NO_IDS}{CARRIAGE}",
+        f"For more information, try '--help'.\nnbhd: write `nbhd check --ids 8`\n{CARRIAGE}",
     ),
     (
         ["run", "--ids", "8", "--ring", "5,1,3,7\r"],
         "nbhd: bad ring\nnbhd: part 4 of the ring text, `7\\x0d`, is not a number from 0 to 4294967295"
-        f"; a ring is numbers with single commas, as 5,1,3,7\n{CARRIAGE}",
+        f"; a ring is numbers with single commas, as 5,1,3,7\nnbhd: write `nbhd run --ids 8 --ring 5,1,3,7`\n{CARRIAGE}",
     ),
     (
         ["run", "--ids", "8", "--ring", "5,\x1b[31m1"],

@@ -10,3 +10,4 @@ mod GivenOptions
 mod Refusals
 mod Calls
 mod Rows
+mod Requests

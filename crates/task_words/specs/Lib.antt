@@ -1,6 +1,6 @@
 -- The definitions that the contracts cite: numbers, ring texts and pattern texts, numbers of workers and segments, tasks, the
 -- command line, the values of its options, the form of the report and what is demanded, the tasks of words, faults of words,
--- the commands and the rows of the tables, tips on words, and what the process gets.
+-- the commands and the rows of the tables, words that were probably meant, and what the process gets.
 pub mod Decimal
 pub mod RingText
 pub mod PatternText
@@ -17,5 +17,5 @@ pub mod Rows
 pub mod OptionWords
 pub mod RingTips
 pub mod PatternTips
-pub mod Tips
+pub mod Mended
 pub mod ParsedWords

@@ -7,7 +7,6 @@ use Rattle.task_words.specs.PatternTips.{demand_line, pattern_tip}
 use Rattle.task_words.specs.RingText.{IsRingText}
 use Rattle.task_words.specs.RingTips.{IsRingTip, ring_word}
 use Rattle.task_words.specs.Task.{IsFormula, IsInRange}
-use Rattle.task_words.specs.Tips.{tip_line, usage_tip}
 use Rattle.task_words.specs.Words.{IsCommand, AsksForHelp, IsFormatOf, IsRefused, HasBadDemand, HasBadRing, IsTaskOf}
 use Rattle.task_words.specs.WordsFault.{MemoryAside, IsUsage, IsHelp, IsNotUtf8}
 use Rattle.task_words.specs.declared.demand_fault.DemandFault.{DemandFault}
@@ -49,14 +48,11 @@ IsUnread fault = IsNotUtf8 fault ⊎ (fault ≡ OutOfMemory)
 abbrev pub IsParsed : Result Request WordsFault → Type 0
 IsParsed result = ((words : List Text) × IsRequestFrom words result) ⊎ ((fault : WordsFault) × (result ≡ Err fault) × IsUnread fault)
 
--- The tip on words with this fault: on a bad ring text that of the text; on a bad pattern text the line on the first one; on
--- other options that are no demand the line on the cause; on words that `clap` refuses the line of the tip that `usage_tip`
--- has, if it has one; on others none.
-abbrev pub IsTipFor : List Text → WordsFault → Option (String Global) → Type 0
-IsTipFor words BadRing tip =
-    MatchOption (ring_word words) (tip ≡ None) (λ text. IfSome tip (λ line. IsRingTip text (string_bytes line)) × IfNone tip (IsRingText text))
-IsTipFor words (Usage text) tip = option_map string_bytes tip ≡ option_map tip_line (usage_tip words)
-IsTipFor words (BadDemand (BadPattern cause)) tip = option_map string_bytes tip ≡ pattern_tip words
-IsTipFor words (BadDemand cause) tip = option_map string_bytes tip ≡ Some (demand_line cause)
-IsTipFor words (Help text) tip = tip ≡ None
-IsTipFor words OutOfMemory tip = tip ≡ None
+-- The line on the cause of the fault of words that are a command: on a bad ring text that on the text; on a bad pattern text
+-- that on the first one; on other options that are no demand that on the cause; on other faults none.
+abbrev pub IsCauseLine : List Text → WordsFault → Option (String Global) → Type 0
+IsCauseLine words BadRing line =
+    MatchOption (ring_word words) (line ≡ None) (λ text. IfSome line (λ line. IsRingTip text (string_bytes line)) × IfNone line (IsRingText text))
+IsCauseLine words (BadDemand (BadPattern cause)) line = option_map string_bytes line ≡ pattern_tip words
+IsCauseLine words (BadDemand cause) line = option_map string_bytes line ≡ Some (demand_line cause)
+IsCauseLine words _ line = line ≡ None

@@ -1,15 +1,15 @@
 //! The words of the process.
 ghost use Rattle.std.specs.Prelude.{◌≡◌, map, drop, IfOk, IfErr, string_bytes};
-ghost use Rattle.task_words.specs.ParsedWords.{IsParsed, IsRequestFrom, IsTipFor, IsUnread};
+ghost use Rattle.task_words.specs.ParsedWords.{IsCauseLine, IsParsed, IsRequestFrom, IsUnread};
 ghost use Rattle.task_words.specs.Task.{IsRunnable};
 ghost use Rattle.task_words.specs.WordsFault.{words_fault_code};
 
 use crate::demand_fault::DemandFault;
+use crate::mended::advice_line;
 use crate::pattern_tips::pattern_tip;
-use crate::refused::{carriage_line, usage_advice, usage_text};
+use crate::refused::{CARRIAGE, has_carriage, usage_text};
 use crate::request::Request;
 use crate::ring_tips::{ring_tip, ring_word};
-use crate::tips::usage_tip;
 use crate::words::{WordsFault, request_of, words_fault};
 use std::alloc::{AllocError, Global};
 use std::env;
@@ -53,27 +53,44 @@ fn after_name(words: &[String]) -> &[String]
     }
 }
 
-/// Prints the fault of the words to standard error, and a tip or advice if there is one. Control
-/// characters of the words are escaped. Returns the exit status.
+/// Prints the fault of the words to standard error, and what there is to know of it: its cause, and the
+/// words that were probably meant if they are known. Control characters of the words are escaped.
+/// Returns the exit status.
 pub fn print_words_fault<T: AllocGlobal + Env + Eprint>(rt: &T, fault: &WordsFault) -> u8
     ensures { result ≡ words_fault_code fault.now }
 {
-    let tip = tip_on(rt, fault);
-    let advice = match tip {
-        Some(_) => None,
-        None => advice_on(rt, fault),
+    match words(rt) {
+        Ok(words) => print_with_advice(rt, fault, after_name(&words)),
+        Err(_) => print_fault(rt, fault, false),
+    }
+    fault.code()
+}
+
+// Prints the fault of these words, and what there is to know of it.
+fn print_with_advice<T: AllocGlobal + Eprint>(rt: &T, fault: &WordsFault, words: &[String]) {
+    let alloc = rt.alloc();
+    let advice = match has_advice(fault) {
+        true => advice_line(alloc, words).unwrap_or(None),
+        false => None,
     };
     print_fault(rt, fault, advice.is_some());
-    if let Some(tip) = tip {
-        let _ = eprintln!(rt; "{tip}");
+    if let Ok(Some(cause)) = cause_line(alloc, words, fault) {
+        let _ = eprintln!(rt; "{cause}");
     }
     if let Some(advice) = advice {
         let _ = eprintln!(rt; "{advice}");
     }
-    if let Some(line) = line_on_words(rt, fault) {
-        let _ = eprintln!(rt; "{line}");
+    if has_advice(fault) && has_carriage(words) {
+        let _ = eprintln!(rt; "{CARRIAGE}");
     }
-    fault.code()
+}
+
+// Returns whether words with this fault could be others.
+fn has_advice(fault: &WordsFault) -> bool {
+    match fault {
+        WordsFault::Usage(_) | WordsFault::BadRing | WordsFault::BadDemand(_) => true,
+        WordsFault::Help(_) | WordsFault::OutOfMemory => false,
+    }
 }
 
 // Prints the fault of the words; with advice on them, without what `clap` says is alike.
@@ -90,51 +107,22 @@ fn print_fault<T: AllocGlobal + Eprint>(rt: &T, fault: &WordsFault, has_advice: 
     };
 }
 
-// Returns advice on words that `clap` refuses, or `None` if there is none, or if memory was refused.
-fn advice_on<T: AllocGlobal + Env>(rt: &T, fault: &WordsFault) -> Option<&'static str> {
-    let WordsFault::Usage(text) = fault else {
-        return None;
-    };
-    let words = words(rt).ok()?;
-    usage_advice(rt.alloc(), text, after_name(&words)).ok()?
-}
-
-// Returns a line on a carriage return in refused words, or `None` if there is none, or if memory was
-// refused.
-fn line_on_words<T: AllocGlobal + Env>(rt: &T, fault: &WordsFault) -> Option<&'static str> {
-    match fault {
-        WordsFault::Usage(_) | WordsFault::BadRing | WordsFault::BadDemand(_) => {
-            carriage_line(after_name(&words(rt).ok()?))
-        }
-        WordsFault::Help(_) | WordsFault::OutOfMemory => None,
-    }
-}
-
-// Returns a tip on refused words, or `None` if there is none, or if memory was refused.
-fn tip_on<T: AllocGlobal + Env>(rt: &T, fault: &WordsFault) -> Option<String> {
-    let words = words(rt).ok()?;
-    tip_for(rt.alloc(), after_name(&words), fault).ok()?
-}
-
-// Returns the tip on words with this fault, if there is one. Fails if memory was refused.
-fn tip_for(
+// Returns the line on the cause of the fault of words that are a command, if it has one. Fails if
+// memory was refused.
+fn cause_line(
     alloc: Global,
     words: &[String],
     fault: &WordsFault,
 ) -> Result<Option<String>, AllocError>
-    ensures { IfOk result (IsTipFor (map string_bytes words.now) fault.now) }
+    ensures { IfOk result (IsCauseLine (map string_bytes words.now) fault.now) }
 {
     match fault {
         WordsFault::BadRing => match ring_word(words) {
             Some(text) => ring_tip(alloc, text),
             None => Ok(None),
         },
-        WordsFault::Usage(_) => match usage_tip(words) {
-            Some(tip) => Ok(Some(String::from_str(alloc, tip.line())?)),
-            None => Ok(None),
-        },
         WordsFault::BadDemand(DemandFault::BadPattern(_)) => pattern_tip(alloc, words),
         WordsFault::BadDemand(cause) => Ok(Some(String::from_str(alloc, cause.line())?)),
-        WordsFault::Help(_) | WordsFault::OutOfMemory => Ok(None),
+        WordsFault::Usage(_) | WordsFault::Help(_) | WordsFault::OutOfMemory => Ok(None),
     }
 }

@@ -1,49 +1,15 @@
 //! Texts on refused words as they are printed.
 
-use crate::foreign_names::{QUESTIONS, advice_in};
-use crate::word_advice::advice_on;
-use source_places::is_one_of;
 use std::alloc::{AllocError, Global};
 use std::fmt::Write;
 
-// Returns the first word, which is the name of a command, or an empty one.
-fn command_of(words: &[String]) -> &str {
-    match words {
-        [command, ..] => command.as_str(),
-        [] => "",
-    }
-}
+/// The line on a carriage return at the end of a word.
+pub(crate) const CARRIAGE: &str =
+    "nbhd: a word ends with a carriage return: save the script with line feeds alone";
 
-// Returns whether the one word asks for the version.
-fn is_version_alone(words: &[String]) -> bool {
-    match words {
-        [word] => is_one_of("-v -version", word.as_bytes()),
-        _ => false,
-    }
-}
-
-/// Returns advice on words that `clap` refuses with this text, or `None` if there is none. Fails if
-/// memory was refused.
-pub(crate) fn usage_advice(
-    alloc: Global,
-    text: &str,
-    words: &[String],
-) -> Result<Option<&'static str>, AllocError> {
-    if is_version_alone(words) {
-        return Ok(advice_in(QUESTIONS, b"", b"-V"));
-    }
-    let lower = text.to_ascii_lowercase(alloc)?;
-    Ok(advice_on(text, lower.as_str(), command_of(words)))
-}
-
-/// Returns a line on a carriage return at the end of a word, or `None` if no word ends with one.
-pub(crate) fn carriage_line(words: &[String]) -> Option<&'static str> {
-    if words.iter().any(|word| word.as_bytes().ends_with(b"\r")) {
-        return Some(
-            "nbhd: a word ends with a carriage return: save the script with line feeds alone",
-        );
-    }
-    None
+/// Returns whether a word ends with a carriage return.
+pub(crate) fn has_carriage(words: &[String]) -> bool {
+    words.iter().any(|word| word.as_bytes().ends_with(b"\r"))
 }
 
 // Returns the parts of a text of `clap` before and after what it says is alike.

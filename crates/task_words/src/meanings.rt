@@ -1,0 +1,213 @@
+//! What names in place of commands and options mean.
+
+use crate::commands::{COMMANDS, CommandRow};
+use crate::option_rows::{OptionRow, Values};
+use crate::other_names::{self, Meaning, OtherCommand, OtherName};
+use std::alloc::AllocError;
+use std::fmt::Write;
+
+/// What there is to know of refused words.
+#[derive(Clone, Copy)]
+pub(crate) enum Fact {
+    Text(&'static str),
+    /// Of which commands this is an option.
+    OptionOf(&'static str),
+    /// That the option takes a number.
+    TakesNumber(OptionRow),
+}
+
+/// What a name in place of an option means. A text tells what there is to know, if it is not empty.
+#[derive(Clone, Copy)]
+pub(crate) enum Meant {
+    /// An option, and its value if the name has one.
+    Option(OptionRow, &'static str, &'static str),
+    Input(&'static str),
+    Output(&'static str),
+    /// It is left out. Without a fact it is not known.
+    Left(Option<Fact>),
+}
+
+/// Returns the command with this name.
+pub(crate) fn own_command(name: &str) -> Option<CommandRow> {
+    for row in &COMMANDS {
+        if row.name.eq_ignore_ascii_case(name) {
+            return Some(*row);
+        }
+    }
+    None
+}
+
+/// Returns the row of a name that other programs have for a command.
+pub(crate) fn other_command(name: &str) -> Option<OtherCommand> {
+    for row in &other_names::COMMANDS {
+        if is_named(row.names, name) {
+            return Some(*row);
+        }
+    }
+    None
+}
+
+/// Returns whether a command has an option with this name.
+pub(crate) fn is_own_option(name: &str) -> bool {
+    own_option(name).is_some()
+}
+
+// Returns the name of the option that a command has by this name.
+fn own_option(name: &str) -> Option<&'static str> {
+    for row in &COMMANDS {
+        if let Some(option) = option_of(row, name) {
+            return Some(option.name);
+        }
+    }
+    None
+}
+
+// Returns the option of a command with this name.
+fn option_of(command: &CommandRow, name: &str) -> Option<OptionRow> {
+    for option in command.options {
+        if option.name.eq_ignore_ascii_case(name) {
+            return Some(*option);
+        }
+    }
+    None
+}
+
+// Returns the option of a command that begins with this name, or with which the name begins.
+fn option_like(command: &CommandRow, name: &str) -> Option<OptionRow> {
+    for option in command.options {
+        if name.len() > 1 && (option.name.starts_with(name) || name.starts_with(option.name)) {
+            return Some(*option);
+        }
+    }
+    None
+}
+
+// Returns whether a name is one of these but for capitals.
+fn is_named(names: &[&str], name: &str) -> bool {
+    names.iter().any(|other| other.eq_ignore_ascii_case(name))
+}
+
+// Returns whether a row counts at a command.
+fn counts_at(row: &OtherName, command: &CommandRow) -> bool {
+    row.commands.is_empty() || row.commands.contains(&command.name)
+}
+
+// Returns the first row of a name that counts at a command: one with just this name, else one with the
+// name but for capitals.
+fn other_option(command: &CommandRow, name: &str) -> Option<OtherName> {
+    let mut alike = None;
+    for row in &other_names::OPTIONS {
+        if counts_at(row, command) {
+            if row.names.contains(&name) {
+                return Some(*row);
+            }
+            if alike.is_none() && is_named(row.names, name) {
+                alike = Some(*row);
+            }
+        }
+    }
+    alike
+}
+
+/// Returns what a name in place of an option of a command means.
+pub(crate) fn meaning_of(command: &CommandRow, name: &str) -> Meant {
+    if let Some(option) = option_of(command, name) {
+        return Meant::Option(option, "", "");
+    }
+    if let Some(row) = other_option(command, name) {
+        return meaning_in(command, &row);
+    }
+    if let Some(own) = own_option(name) {
+        return Meant::Left(Some(Fact::OptionOf(own)));
+    }
+    match option_like(command, name) {
+        Some(option) => Meant::Option(option, "", ""),
+        None => Meant::Left(None),
+    }
+}
+
+// Returns what a row means at a command.
+fn meaning_in(command: &CommandRow, row: &OtherName) -> Meant {
+    match row.meaning {
+        Meaning::OneOf(names) => match first_option(command, names) {
+            Some(option) => Meant::Option(option, "", row.fact),
+            None => Meant::Left(Some(Fact::Text(row.fact))),
+        },
+        Meaning::Value(name, value) => match option_of(command, name) {
+            Some(option) => Meant::Option(option, value, row.fact),
+            None => Meant::Left(Some(Fact::Text(row.fact))),
+        },
+        Meaning::Input => Meant::Input(row.fact),
+        Meaning::Output => Meant::Output(row.fact),
+        Meaning::Nothing => Meant::Left(Some(Fact::Text(row.fact))),
+    }
+}
+
+// Returns the first of these options that a command has.
+fn first_option(command: &CommandRow, names: &[&str]) -> Option<OptionRow> {
+    for name in names {
+        if let Some(option) = option_of(command, name) {
+            return Some(option);
+        }
+    }
+    None
+}
+
+/// Writes what there is to know.
+pub(crate) fn write_fact(out: &mut String, fact: &Fact) -> Result<(), AllocError> {
+    match fact {
+        Fact::Text(text) => out.push_str(text),
+        Fact::OptionOf(name) => write_option_of(out, name),
+        Fact::TakesNumber(option) => write_number(out, option),
+    }
+}
+
+// Returns the number of commands that have an option.
+fn count_with(name: &str) -> usize {
+    COMMANDS
+        .iter()
+        .filter(|row| option_of(row, name).is_some())
+        .count()
+}
+
+// Writes of which commands this is an option.
+fn write_option_of(out: &mut String, name: &str) -> Result<(), AllocError> {
+    write!(out, "`--{name}` is an option of")?;
+    let count = count_with(name);
+    let mut done = 0usize;
+    for row in &COMMANDS {
+        if option_of(row, name).is_some() {
+            out.push_str(between(done, count))?;
+            write_name(out, row.name)?;
+            done = done.saturating_add(1);
+        }
+    }
+    Ok(())
+}
+
+// Returns what stands before the next of so many names.
+fn between(done: usize, count: usize) -> &'static str {
+    if done == 0 {
+        return "";
+    }
+    if done.saturating_add(1) == count {
+        " and"
+    } else {
+        ","
+    }
+}
+
+// Writes a blank and a name.
+fn write_name(out: &mut String, name: &str) -> Result<(), AllocError> {
+    write!(out, " `{name}`")
+}
+
+// Writes that an option takes a number.
+fn write_number(out: &mut String, option: &OptionRow) -> Result<(), AllocError> {
+    let name = option.name;
+    write!(out, "`--{name}` takes a number in digits")?;
+    match option.values {
+        Values::Numbers(low, high) if high < u32::MAX => write!(out, ", from {low} to {high}"),
+        _ => Ok(()),
+    }
+}
