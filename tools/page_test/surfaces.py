@@ -54,7 +54,7 @@ def documents(page):
             STEPS.check(f"{name}: pictures", page.value("[...document.images].every(image => image.complete && image.naturalWidth > 0)"))
     page.browser.size(1280, 900)
     page.browser.call("Page.navigate", url=f"{page.url}docs/EXERCISES.html")
-    page.wait("the exercises", "document.querySelectorAll('main details:not([open])').length > 50")
+    page.wait("the exercises", "document.querySelectorAll('main details:not([open])').length === 14")
     light = page.value("getComputedStyle(document.body).backgroundColor")
     page.click("#theme")
     STEPS.check("a dark document", page.value("getComputedStyle(document.body).backgroundColor") != light)
