@@ -1,4 +1,5 @@
-// Requests to nbhd through the server, or to what a lesson has recorded. nbhd is deterministic, so its last reports are cached.
+// Requests to nbhd through the server, or to what a lesson has recorded. nbhd is deterministic, so its last reports are
+// cached.
 
 import { recorded, unrecorded } from "./recorded.js";
 import { reportOf } from "./report.js";

@@ -17,11 +17,13 @@ const MOST_CHARACTERS = 7_000; // of the patterns of a request
 
 /**
  * What the state asks, as `{ near, far }` or as `{ patterns }` with the `name` of the problem, if it has one; and the `options` by which
- * nbhd is asked. Where it asks nothing, `why` says so. Patterns that are refused are `null`: nbhd says why. A `table` is asked for its own
- * distances.
+ * nbhd is asked. Where it asks nothing, `why` says so. Patterns that are refused are `null`: nbhd says why. A `table`
+ * is asked for its own distances.
  */
 export function demandOf({ problem, near, far, forbid }, table) {
-  if (table?.near !== undefined && ["differ", "distance"].includes(problem)) return { near: table.near, far: table.far, options: {} };
+  if (table?.near !== undefined && ["differ", "distance"].includes(problem)) {
+    return { near: table.near, far: table.far, options: {} };
+  }
   if (problem === "differ") return { near: 1, far: 0, options: { near: "1", far: "0" } };
   if (problem === "distance") {
     const why = whyNoNumber("near", near) ?? whyNoNumber("far", far);

@@ -183,7 +183,8 @@ function drawRow(text, number) {
   const askedAt = asked?.row === number ? asked.column : -1;
   const isDone = doing !== null && doing[0] <= number && number <= doing[1];
   const kind = text.trim() === "" ? " blank" : /^\s*#/.test(text) ? " remark" : "";
-  const row = html("div", { "data-row": number + 1, class: `row${kind}${faultAt < 0 ? "" : " faulty"}${isDone ? " now" : ""}` },
+  const names = `row${kind}${faultAt < 0 ? "" : " faulty"}${isDone ? " now" : ""}`;
+  const row = html("div", { "data-row": number + 1, class: names },
     pieces(text).flatMap((piece) => (piece.at === askedAt
       ? [html("span", { class: `${piece.kind} asked` }, piece.text)] : drawPiece(piece, faultAt))));
   if (faultAt >= text.length) row.append(html("mark", { class: "fault at-end" }));

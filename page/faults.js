@@ -4,7 +4,8 @@ import { sentencesOf } from "./report.js";
 
 /**
  * What a report that is no result says, as `{ code, line, note, at }`: the code of the fault, its kind, the sentences of its note, and the
- * place in the text as `{ row, column, index }`. Where nbhd printed no report, `line` says why, or `note` if none is recorded.
+ * place in the text as `{ row, column, index }`. Where nbhd printed no report, `line` says why, or `note` if none is
+ * recorded.
  */
 export function refusalOf(report, text) {
   if (report.kind === "unrecorded") return { line: "", note: report.note, at: null };

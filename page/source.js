@@ -1,4 +1,4 @@
-// What the views show: the program of the editor, or a table in its place, which is pasted, of a file, or one that is kept.
+// What the views show: the program of the editor, or a table in its place, which is pasted, of a file, or a kept one.
 
 import { ask, drop } from "./ask.js";
 import { byId, coded, html } from "./dom.js";
@@ -41,7 +41,8 @@ export async function checkTable() {
   const bound = entries.reduce((most, channel) => Math.max(most, channel), 0);
   const apart = near === 1 && far === 0 ? "" : `, near ${near}, far ${far}`;
   facts.className = "aside";
-  facts.textContent = `Rounds ${rounds}, identifiers ${ids}, channels ${channels}, windows ${entries.length.toLocaleString("en")}${apart}.`;
+  const windows = entries.length.toLocaleString("en");
+  facts.textContent = `Rounds ${rounds}, identifiers ${ids}, channels ${channels}, windows ${windows}${apart}.`;
   return { accepted: { ids, rounds, channels, near, far, bound, windows: entries.length } };
 }
 
@@ -88,7 +89,10 @@ export async function startSource(refresh) {
   choice.addEventListener("change", ({ target: { value } }) =>
     change({ table: value, ...(value.includes("/") ? askedByName(value) : {}) }, { keep: true }));
   area.addEventListener("input", () => showOwn(area.value, refresh));
-  byId("table-file").addEventListener("change", async ({ target }) => target.files[0] && showOwn(await target.files[0].text(), refresh));
+  byId("table-file").addEventListener("change", async ({ target }) => {
+    const [file] = target.files;
+    if (file) showOwn(await file.text(), refresh);
+  });
   if (recorded) return;
   let names = [];
   try {
@@ -98,6 +102,7 @@ export async function startSource(refresh) {
   }
   for (const folder of new Set(names.map((name) => name.split("/")[0]))) {
     const own = names.filter((name) => name.startsWith(`${folder}/`));
-    choice.append(html("optgroup", { label: `examples/${folder}` }, own.map((value) => html("option", { value }, value.split("/")[1]))));
+    const options = own.map((value) => html("option", { value }, value.split("/")[1]));
+    choice.append(html("optgroup", { label: `examples/${folder}` }, options));
   }
 }

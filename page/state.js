@@ -7,8 +7,8 @@ import { withCommas } from "./ring-text.js";
 
 // The step of a run is its number, `end` for the last one, and empty for the start; `why` is the place of the node that is explained.
 // The base is that of a run's numbers; `large` is `1` for a class. The problem is `differ`, `distance` for near and far, one of those that
-// have a name, or `own` for the patterns of `forbid`. Without one it is what its numbers or patterns ask, or what the text does. The table
-// is the name of a kept one that is shown in place of the program, or `own`, which no link has.
+// have a name, or `own` for the patterns of `forbid`. Without one it is what its numbers or patterns ask, or what the text does.
+// The table is the name of a kept one that is shown in place of the program, or `own`, which no link has.
 const DEFAULTS = {
   view: "run", ids: "8", ring: "5,1,3,7", step: "", why: "", base: "10", problem: "", near: "1", far: "0", forbid: "", prefix: "",
   arrange: "channel", large: "", table: "", ...recorded?.start,
@@ -134,7 +134,8 @@ function fragment() {
   const defaults = { ...DEFAULTS, ...askedBy(state.text) };
   // Numbers and patterns are said where they are asked, as a link with them and without a problem asks them.
   const uses = { near: "distance", far: "distance", forbid: "own" };
-  const isSaid = (name) => (uses[name] ?? state.problem) === state.problem && !(name === "table" && state.table === "own");
+  const isOwn = (name) => name === "table" && state.table === "own";
+  const isSaid = (name) => (uses[name] ?? state.problem) === state.problem && !isOwn(name);
   const parts = Object.entries(defaults)
     .filter(([name, value]) => ["view", "ids", "ring"].includes(name) || (state[name] !== value && isSaid(name)))
     .map(([name]) => `${name}=${escape(state[name])}`);

@@ -21,15 +21,15 @@ export function countChannels(channels) {
 }
 
 /**
- * How many edges of the neighbourhood graph lead from windows with one channel to windows with another: `counts[i][j]` for the channels
- * `names[i]` and `names[j]`, the least ones that occur, at most so many.
+ * How many edges of the neighbourhood graph lead from windows with one channel to windows with another:
+ * `counts[i][j]` for the channels `names[i]` and `names[j]`, the least ones that occur, at most so many.
  */
 export function edgeCounts({ ids, rounds, entries }, most) {
   const names = countChannels(entries).slice(0, most).map(([channel]) => channel);
   const numbers = new Map(names.map((channel, i) => [channel, i]));
   const classes = Int16Array.from(entries, (channel) => numbers.get(channel) ?? -1);
-  // Windows whose last 2t identifiers are the same are followed by the windows that begin with these, a block in the table, but for
-  // one of them. Of long blocks the channels are counted once.
+  // Windows whose last 2t identifiers are the same are followed by the windows that begin with these, a block of the
+  // table, but for one of them. Of long blocks the channels are counted once.
   const block = ids - 2 * rounds;
   const sums = block > names.length ? blockSums(classes, block, names.length) : null;
   const counts = names.map(() => names.map(() => 0));

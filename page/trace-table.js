@@ -3,7 +3,10 @@
 import { html } from "./dom.js";
 import { badgeImage } from "./channels.js";
 
-/** Shows a trace; `show` gives the texts of a list of numbers, and `press` takes the step, the place and the row's name of a value. */
+/**
+ * Shows a trace; `show` gives the texts of a list of numbers, and `press` takes the step, the place and the row's
+ * name of a value.
+ */
 export function showTrace(box, ring, steps, { show, go, highlight, press }) {
   const rows = [];
   const row = (step, name, values, kind = "") => {

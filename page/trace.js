@@ -2,7 +2,8 @@
 
 /**
  * The steps `{ kind, round, registers, left, right, channels }` of a trace: the start, a step that sends and one that assigns for
- * each round, and the finish. `registers[j][p]` is register `j` at place `p`. The channels by a table of so many rounds are a finish alone.
+ * each round, and the finish. `registers[j][p]` is register `j` at place `p`. The channels by a table are a finish
+ * alone, in which so many rounds were `seen`.
  */
 export function stepsOf({ kind, start, rounds, finish, channels }, seen) {
   if (kind === "places") return [{ kind: "finish", round: seen, registers: [], channels }];

@@ -38,7 +38,8 @@ export async function updateGraph(checked) {
   if (report === undefined) return undefined;
   if (report.kind !== "table") return showNothing(...coded(reasonOf(report)));
   if (windows > MOST) {
-    showNothing(`${windows.toLocaleString("en")} windows are too many to draw: at most ${MOST} can be. `, ...(state.table ? [] : advice(rounds)));
+    const tooMany = `${windows.toLocaleString("en")} windows are too many to draw: at most ${MOST} can be. `;
+    showNothing(tooMany, ...(state.table ? [] : advice(rounds)));
   } else {
     const table = tableOf(report);
     show({ ...table, windows: table.windows.map((window) => window.join(" ")) }, edgesOf(table), demand);

@@ -137,7 +137,7 @@ function showNo(no, accepted, demand, all, whys) {
   showWindows(no, drawing.seen, accepted.rounds, whys);
 }
 
-/** The windows of the nodes at these places of a no, and by the explanation of each the values that its channel comes from. */
+/** The windows of the nodes at these places of a no, and by the explanation of each what its channel comes from. */
 function showWindows({ ring, places, channels }, seen, rounds, whys) {
   reading.replaceChildren(
     html("p", { class: "aside" }, rounds === 0 ? "Without a round a node sees itself alone."
@@ -162,7 +162,8 @@ function whatIsRead(why) {
 
 const inWords = (rounds) => (rounds === 1 ? "one round" : `${rounds} rounds`);
 
-const runRing = (ring, why = "") => change({ ring: ring.join(","), step: "end", why: String(why), view: "run" }, { keep: true });
+const runRing = (ring, why = "") =>
+  change({ ring: ring.join(","), step: "end", why: String(why), view: "run" }, { keep: true });
 
 /** The identifiers within distance `t` of a place, its own in bold. */
 function windowText(ring, place, t) {

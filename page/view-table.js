@@ -69,7 +69,8 @@ function showHistogram() {
 function showWindows() {
   if (!table) return;
   if (!table.windows) {
-    byId("table-say").replaceChildren(...coded(`${table.channels.length.toLocaleString("en")} windows are too many to list here; \`nbhd table\` prints them.`));
+    const tooMany = `${table.channels.length.toLocaleString("en")} windows are too many to list here; `;
+    byId("table-say").replaceChildren(tooMany, ...coded("`nbhd table` prints them."));
     byId("windows").replaceChildren();
     return;
   }
@@ -99,7 +100,8 @@ function showWindows() {
 const begins = (window, wanted) => wanted.every((identifier, i) => String(window[i]) === identifier);
 
 /** The drawing of the channels' counts; nothing if there is no table. */
-export const histogram = () => table && drawHistogram(countChannels(table.channels).slice(0, BARS), table.channels.length);
+export const histogram = () =>
+  table && drawHistogram(countChannels(table.channels).slice(0, BARS), table.channels.length);
 
 /** Saves the text of the table, for which nbhd is asked in lines. */
 async function save() {

@@ -8,8 +8,9 @@ TYPES = {".html": "text/html", ".css": "text/css", ".js": "text/javascript", ".s
 
 
 def page_files(root, program=None):
-    """The type and the bytes of each file of the page, of the documents and of their pictures, and of the kept tables, by its path in the
-    address. No other path is looked up. The program makes pages of the documents: that of `converter` if none is given."""
+    """The type and the bytes of each file of the page, of the documents and of their pictures, and of the kept tables,
+    by its path in the address. No other path is looked up. The program makes pages of the documents: that of
+    `converter` if none is given."""
     files = {}
     for file in sorted((root / "page").iterdir()):
         if file.suffix in TYPES and file.is_file():
@@ -19,10 +20,12 @@ def page_files(root, program=None):
         for file in sorted((root / "docs/pictures").glob(f"*{ending}")):
             files[f"/docs/pictures/{file.name}"] = (kind, file.read_bytes())
     files["/"] = files.pop("/index.html")
-    tables = [file for folder in ("least", "problems") for file in sorted((root / "examples" / folder).glob("*.table"))]
-    names = [f"{file.parent.name}/{file.name}" for file in tables]
-    files.update((f"/examples/{name}", ("text/plain; charset=utf-8", file.read_bytes())) for name, file in zip(names, tables))
-    files["/tables.json"] = ("application/json", json.dumps(names).encode())
+    tables = {}
+    for folder in ("least", "problems"):
+        for file in sorted((root / "examples" / folder).glob("*.table")):
+            tables[f"{folder}/{file.name}"] = ("text/plain; charset=utf-8", file.read_bytes())
+    files.update((f"/examples/{name}", table) for name, table in tables.items())
+    files["/tables.json"] = ("application/json", json.dumps(list(tables)).encode())
     files["/examples.json"] = ("application/json", json.dumps(examples(root)).encode())
     return files
 

@@ -12,14 +12,16 @@ from .files import title_of
 from .orders import words_and_text
 
 # What the judge is asked of each program, beside the patterns that it lists.
-QUESTIONS = [{"near": "1", "far": "0"}, {"near": "1", "far": "1"}, *({"problem": name} for name in ("mis", "matching", "weak2"))]
+QUESTIONS = [{"near": "1", "far": "0"}, {"near": "1", "far": "1"}]
+QUESTIONS += [{"problem": name} for name in ("mis", "matching", "weak2")]
 # More than a program may have.
 TEXT_BYTES = 100_000
 # A lesson loads nothing from elsewhere.
-POLICY = "default-src 'none'; script-src 'unsafe-inline' data:; style-src 'unsafe-inline'; img-src data:; base-uri 'none'; form-action 'none'"
+POLICY = "default-src 'none'; script-src 'unsafe-inline' data:; style-src 'unsafe-inline'; img-src data:; "
+POLICY += "base-uri 'none'; form-action 'none'"
 SAYS = """\
-<p class="lesson-note">A lesson in one file: {what}. Its answers are recorded; others need <code>nbhd</code>, as on the page of
-<code>./nbhd-page</code>.</p>
+<p class="lesson-note">A lesson in one file: {what}. Its answers are recorded; others need <code>nbhd</code>, as on the
+page of <code>./nbhd-page</code>.</p>
 """
 
 
@@ -85,8 +87,12 @@ def lesson(root, runs, paths, ids, rings):
     for ring in all_rings:
         for text in accepted:
             recorder.run(text, ring)
-    examples = [{"name": name, "title": title_of(name, text), "text": text, "ids": ids} for name, text in programs.items()]
-    recorded = {"start": {"ids": ids, "ring": rings[0]}, "rings": all_rings, "examples": examples, "answers": recorder.answers}
+    recorded = {
+        "start": {"ids": ids, "ring": rings[0]},
+        "rings": all_rings,
+        "examples": [{"name": it, "title": title_of(it, text), "text": text, "ids": ids} for it, text in programs.items()],
+        "answers": recorder.answers,
+    }
     what = f"{', '.join(programs)} with {ids} identifiers, on {len(all_rings)} rings"
     return in_one_file(root / "page", SAYS.format(what=html.escape(what)), recorded)
 
@@ -119,19 +125,20 @@ def in_one_file(folder, says, recorded):
     """The page with its style, its scripts and its picture in it, and with what is recorded."""
     modules = {file.name: file.read_text(encoding="utf-8") for file in sorted(folder.glob("*.js"))}
     theme = modules.pop("theme.js")
-    imports = {name: data_of("text/javascript", re.sub(r'from "\./([\w-]+\.js)"', r'from "\1"', text)) for name, text in modules.items()}
+    # A module in an address of itself has no folder: the names lead by the map alone.
+    bare = {name: re.sub(r'from "\./([\w-]+\.js)"', r'from "\1"', text) for name, text in modules.items()}
+    imports = json.dumps({"imports": {name: data_of("text/javascript", text) for name, text in bare.items()}})
     answers = base64.b64encode(gzip.compress(json.dumps(recorded).encode(), mtime=0)).decode()
-    page = (folder / "index.html").read_text(encoding="utf-8")
+    names = ("style.css", "icon.svg", "index.html")
+    style, icon, page = ((folder / name).read_text(encoding="utf-8") for name in names)
     page = re.sub(r'<link rel="modulepreload" [^>]*>\n', "", page)
+    charset, module = '<meta charset="utf-8">', '<script type="module" '
     for old, new in (
-        ('<meta charset="utf-8">', f'<meta charset="utf-8">\n<meta http-equiv="Content-Security-Policy" content="{POLICY}">'),
-        ('href="icon.svg"', f'href="{data_of("image/svg+xml", (folder / "icon.svg").read_text(encoding="utf-8"))}"'),
-        ('<link rel="stylesheet" href="style.css">', f"<style>\n{(folder / 'style.css').read_text(encoding='utf-8')}</style>"),
+        (charset, f'{charset}\n<meta http-equiv="Content-Security-Policy" content="{POLICY}">'),
+        ('href="icon.svg"', f'href="{data_of("image/svg+xml", icon)}"'),
+        ('<link rel="stylesheet" href="style.css">', f"<style>\n{style}</style>"),
         ('<script src="theme.js"></script>', f"<script>\n{theme}</script>"),
-        (
-            '<script type="module" src="main.js"></script>',
-            f'<script type="importmap">{json.dumps({"imports": imports})}</script>\n<script type="module">import "main.js";</script>',
-        ),
+        (f'{module}src="main.js">', f'<script type="importmap">{imports}</script>\n{module[:-1]}>import "main.js";'),
         ("</header>\n", f'</header>\n{says}<script type="text/plain" id="recorded">{answers}</script>\n'),
     ):
         before, found, after = page.partition(old)

@@ -43,7 +43,9 @@ def address(server):
 
 def files(server):
     """The page's files are served, and no others."""
-    for path in ["/", "/examples.json", "/tables.json", "/examples/problems/mis_rounds2_ids7_channels2.table", *(f"/{file.name}" for file in (ROOT / "page").iterdir() if file.name not in ("index.html", "package.json"))]:
+    names = {file.name for file in (ROOT / "page").iterdir()} - {"index.html", "package.json"}
+    tables = ["/tables.json", "/examples/problems/mis_rounds2_ids7_channels2.table"]
+    for path in ["/", "/examples.json", *tables, *(f"/{name}" for name in sorted(names))]:
         STEPS.equal(f"GET {path}", server.ask(f"GET {path}")[0], 200)
     for path in ("README.html", "CHANGELOG.html", "docs/LANGUAGE.html", "docs/pictures/ring.svg", "docs/pictures/page_run.png"):
         STEPS.equal(f"GET /{path}", server.ask(f"GET /{path}")[0], 200)
@@ -138,7 +140,8 @@ def long_requests(server):
     STEPS.equal("a report in JSON", (answer[0], answer[1].get("out")), (200, nbhd(CV1, "judge", "--ids", "8", "--format", "json")))
     STEPS.equal("another format", server.run("check", {"ids": "8", "format": "xml"}, CV1)[1].get("status"), 2)
     linial = (ROOT / "examples/linial_poly.txt").read_text(encoding="ascii")
-    STEPS.equal("a table of 13 MB", len(server.run("table", {"ids": "102"}, linial)[1]["out"]), len(nbhd(linial, "table", "--ids", "102")))
+    found = server.run("table", {"ids": "102"}, linial)[1]["out"]
+    STEPS.equal("a table of 13 MB", len(found), len(nbhd(linial, "table", "--ids", "102")))
     refused = {"refused": "the output is longer than 24 MB"}
     three = (ROOT / "examples/cv_to_three.txt").read_text(encoding="ascii")
     STEPS.equal("a table over 24 MB", server.run("table", {"ids": "10"}, three), (503, refused))

@@ -1,4 +1,4 @@
-"""A lesson as one file, opened from a `file:` address: it has the recorded answers of nbhd, and says what it has not."""
+"""A lesson as one file, opened from a `file:` address: it has what nbhd answered, and says what it has not."""
 
 import os
 import re
@@ -14,15 +14,19 @@ IDS, RING = "8", "5,1,3,7,0,2"
 # Two are right, two are wrong, and one is refused.
 PROGRAMS = ["examples/cv1.txt", "programs/ldb.txt", "examples/three_18.txt", "examples/local_min.txt"]
 ITEMS = "document.querySelectorAll('[role=treeitem]').length"
-UNRECORDED = "This lesson is a file without nbhd. It has the answers for its programs with 8 identifiers, on its rings; others need nbhd"
+UNRECORDED = "This lesson is a file without nbhd. It has the answers for its programs with 8 identifiers, "
+UNRECORDED += "on its rings; others need nbhd"
+THREE_18 = (ROOT / "examples/three_18.txt").read_text(encoding="ascii")
+LOCAL_MIN = (ROOT / "examples/local_min.txt").read_text(encoding="ascii")
+SAID = f"document.querySelector('{{}}')?.textContent.startsWith('{UNRECORDED}')"
 FROM_ELSEWHERE = "performance.getEntriesByType('resource').map(e => e.name).filter(name => !name.startsWith('data:'))"
 
 
 def printed(*words, **how):
     """What nbhd-page does with these words: the status, the output and the standard error."""
     environment = {**os.environ, "NBHD": str(PROGRAM)}
-    how = {"stdout": subprocess.PIPE, **how}
-    ran = subprocess.run([sys.executable, ROOT / "nbhd-page", *words], stderr=subprocess.PIPE, env=environment, cwd=ROOT, **how)
+    how = {"stdout": subprocess.PIPE, "stderr": subprocess.PIPE, "env": environment, "cwd": ROOT, **how}
+    ran = subprocess.run([sys.executable, ROOT / "nbhd-page", *words], **how)
     return ran.returncode, ran.stdout or b"", ran.stderr.decode()
 
 
@@ -58,13 +62,14 @@ def recorded_runs(page):
     page.wait("the first ring", "document.querySelectorAll('#stage .label').length === 6")
     STEPS.equal("it is that of the words", page.value("document.querySelector('#ring').value"), RING)
     names = ["cv1.txt", "ldb.txt", "three_18.txt", "local_min.txt", "faulty.txt"]
-    STEPS.check("what it has", page.text(".lesson-note").startswith(f"A lesson in one file: {', '.join(names)} with 8 identifiers"))
+    said = f"A lesson in one file: {', '.join(names)} with 8 identifiers"
+    STEPS.check("what it has", page.text(".lesson-note").startswith(said))
     facts = page.value("[...document.querySelectorAll('#examples .aside')].map(e => e.textContent)")
     STEPS.equal("its programs", sorted(fact.split(" ")[0] for fact in facts), sorted(names))
-    STEPS.equal("no links to documents", page.value("[...document.querySelectorAll('a')].filter(e => e.checkVisibility()).length"), 0)
+    STEPS.equal("no links to documents", page.texts("a"), [])
     rings = page.value("[...document.querySelectorAll('#rings option')].map(e => e.value)")
     STEPS.check("its rings and those of a no", rings[1:3] == [RING, "0,1,2,3,4,5,6,7"] and "0,1,2,3" in rings, rings)
-    for name, text in (("cv1.txt", CV1), ("ldb.txt", LDB), ("three_18.txt", (ROOT / "examples/three_18.txt").read_text(encoding="ascii"))):
+    for name, text in (("cv1.txt", CV1), ("ldb.txt", LDB), ("three_18.txt", THREE_18)):
         for ring in (RING, "0,1,2,3,4,5,6,7"):
             page.open(view="run", ids=IDS, ring=ring, example=name, why="5")
             page.wait_ring(f"{name} on {ring}", ring)
@@ -73,7 +78,8 @@ def recorded_runs(page):
             page.wait(f"a tree of {name} on {ring}", f"{ITEMS} > 1")
     page.choose("#rings select", "0,1,2,3")
     page.wait("a ring that is chosen", "document.querySelector('#ring').value === '0,1,2,3'")
-    page.wait("it is too short for three_18", "document.querySelector('#run-refused').textContent.startsWith('ring fault G1')")
+    refused = "document.querySelector('#run-refused').textContent"
+    page.wait("it is too short for three_18", f"{refused}.startsWith('ring fault G1')")
     page.open(view="run", ids=IDS, ring=RING, example="faulty.txt")
     page.wait("a refused program", "document.querySelector('.check.bad .line')?.textContent === 'text fault N3'")
     STEPS.equal("its fault", page.texts(".ink .fault"), ["finnish"])
@@ -82,16 +88,20 @@ def recorded_runs(page):
 def recorded_verdicts(page):
     """Verdicts on all problems, tables, graphs and pictures are there."""
     page.open(view="judge", ids=IDS, ring=RING, example="local_min.txt")
-    for problem, asked in (("mis", "--problem mis"), ("matching", "--problem matching"), ("weak2", "--problem weak2"), ("distance", "--far 1"), ("differ", "")):
+    named = {name: f"--problem {name}" for name in ("mis", "matching", "weak2")}
+    for problem, asked in {**named, "distance": "--far 1", "differ": ""}.items():
         page.choose("#problem", problem)
-        verdict = nbhd((ROOT / "examples/local_min.txt").read_text(encoding="ascii"), "judge", "--ids", IDS, *asked.split())
-        page.wait(f"the verdict on {problem}", f"document.querySelector('#problem').value === '{problem}' && {DRAWN.format(verdict[:2])}")
-        STEPS.equal(f"the ring of the no to {problem}", page.texts("#witness .identifier"), re.search("ring ([0-9 ]*) place", verdict)[1].split())
+        verdict = nbhd(LOCAL_MIN, "judge", "--ids", IDS, *asked.split())
+        chosen = f"document.querySelector('#problem').value === '{problem}'"
+        page.wait(f"the verdict on {problem}", f"{chosen} && {DRAWN.format(verdict[:2])}")
+        ring = re.search("ring ([0-9 ]*) place", verdict)[1].split()
+        STEPS.equal(f"the ring of the no to {problem}", page.texts("#witness .identifier"), ring)
     page.wait("what the nodes read", "document.querySelector('.seen .reads code')")
     page.click(".seen button")
     page.wait("why leads to the run", f"{ITEMS} && document.querySelector('#stage .badge')")
     page.open(view="table", ids=IDS, ring=RING, example="cv1.txt")
-    page.wait("a table", "document.querySelectorAll('.histogram li').length === 6 && document.querySelectorAll('.windows li').length === 240")
+    counts = "['.histogram li', '.windows li'].map(s => document.querySelectorAll(s).length).join()"
+    page.wait("a table", f"{counts} === '6,240'")
     page.click("#tab-graph")
     page.wait("a matrix", "document.querySelectorAll('.matrix td').length > 36")
     page.value("URL.createObjectURL = blob => (window.saved = blob, '#saved')")
@@ -105,18 +115,18 @@ def not_recorded(page):
     """What is not recorded needs nbhd, and the page says so."""
     page.browser.size(390, 844)
     page.open(view="run", ids=IDS, ring="5,1,3,7", example="cv1.txt")
-    page.wait("another ring", f"document.querySelector('#run-refused').textContent.startsWith('{UNRECORDED}')")
+    page.wait("another ring", SAID.format("#run-refused"))
     STEPS.check("it fits a phone", page.value("document.documentElement.scrollWidth <= innerWidth"))
     page.browser.size(1280, 900)
     page.open(view="judge", ids="7", ring=RING, example="cv1.txt")
-    page.wait("another number of identifiers", f"document.querySelector('.check .note')?.textContent.startsWith('{UNRECORDED}')")
+    page.wait("another number of identifiers", SAID.format(".check .note"))
     STEPS.equal("it is not checked", page.text(".check strong"), "Not checked")
     page.fill("#ids", IDS)
     page.wait("a number that is recorded", DRAWN.format("yes"))
     page.fill("#text", CV1 + "\n")
-    page.wait("another program", f"document.querySelector('.check .note')?.textContent.startsWith('{UNRECORDED}')")
+    page.wait("another program", SAID.format(".check .note"))
     page.open(view="judge", ids=IDS, ring=RING, example="cv1.txt", problem="own", forbid="0,1")
-    page.wait("another problem", f"document.querySelector('#verdict .refused')?.textContent.startsWith('{UNRECORDED}')")
+    page.wait("another problem", SAID.format("#verdict .refused"))
 
 
 def refused_lessons():
@@ -129,7 +139,7 @@ def refused_lessons():
         ("no number", words(good, ids="x"), "invalid value 'x' for '--ids <M>'"),
         ("a letter in a ring", words(good, f"{RING}/5,x"), "the ring 5,x: bad ring"),
         ("an empty ring", words(good, f"{RING}/"), "the ring : bad ring"),
-        ("an identifier twice", words(good, f"{RING}/5,1,5,2"), "the ring 5,1,5,2: places 0 and 2 have the same identifier 5"),
+        ("an identifier twice", words(good, f"{RING}/5,1,5,2"), "the ring 5,1,5,2: places 0 and 2 have the same "),
         ("an identifier that is too great", words(good, "5,1,8,2"), "the ring 5,1,8,2: "),
         ("a ring that is too short", words(good, "5,1,3"), "the ring 5,1,3: "),
     ):
@@ -138,7 +148,8 @@ def refused_lessons():
         STEPS.check(f"a lesson with {name}", good_line, (status, text[:40], said))
     for asked in (words(good)[:2], words(good)[2:], words(good)[:4], ["--rings", RING]):
         status, text, said = printed(*asked)
-        STEPS.check(f"the words {asked}", status == 2 and text == b"" and "--lesson, --ids and --rings belong together" in said, said)
+        told = said.endswith("error: --lesson, --ids and --rings belong together\n")
+        STEPS.check(f"the words {asked}", status == 2 and text == b"" and told, said)
     with open("/dev/full", "wb") as full:
         told = printed(*words(good), stdout=full)
     STEPS.equal("a full disk", told, (1, b"", "nbhd-page: the lesson is not written: No space left on device\n"))

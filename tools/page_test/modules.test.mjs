@@ -33,7 +33,10 @@ const reported = (kind) => JSON.parse(SAID[kind]);
 const fault = (members) => ({ kind: "fault", of: "text", code: "N3", ...members });
 
 test("report: the object of each command", () => {
-  const kinds = { check: ["accepted"], trace: ["trace"], explain: ["explanation"], judge: ["yes", "no"], table: ["table"], apply: ["places"], audit: ["yes", "no"], migrate: ["table"] };
+  const kinds = {
+    check: ["accepted"], trace: ["trace"], explain: ["explanation"], judge: ["yes", "no"], table: ["table"],
+    apply: ["places"], audit: ["yes", "no"], migrate: ["table"],
+  };
   for (const [command, own] of Object.entries(kinds)) {
     for (const kind of [...own, "fault"]) assert.deepEqual(reportOf(command, { status: 0, out: SAID[kind], note: "" }), reported(kind));
     const other = own.includes("yes") ? "trace" : "yes";
@@ -215,13 +218,14 @@ test("table: windows are all lists of distinct identifiers, in lexicographic ord
 
 test("table: how many edges lead from channel to channel", () => {
   // Short blocks of windows and long ones, and channels that are left out.
-  for (const [ids, rounds, channels, most] of [[3, 0, 3, 9], [9, 0, 2, 9], [5, 1, 7, 9], [7, 1, 3, 9], [6, 2, 4, 9], [8, 1, 9, 4], [3, 1, 2, 9]]) {
+  const sizes = [[3, 0, 3, 9], [9, 0, 2, 9], [5, 1, 7, 9], [7, 1, 3, 9], [6, 2, 4, 9], [8, 1, 9, 4], [3, 1, 2, 9]];
+  for (const [ids, rounds, channels, most] of sizes) {
     const entries = windowsOf(ids, 2 * rounds + 1).map((window, i) => (7 * i + window[0]) % channels + 1);
     const { names, counts } = edgeCounts({ ids, rounds, entries }, most);
     assert.deepEqual(names, countChannels(entries).map(([channel]) => channel).slice(0, most));
     const edges = ids > 2 * rounds + 1 ? edgesOf(tableOf({ ids, rounds, entries })) : [];
-    const wanted = names.map((a) => names.map((b) => edges.filter(([from, to]) => entries[from] === a && entries[to] === b).length));
-    assert.deepEqual(counts, wanted, `${ids} ${rounds}`);
+    const count = (a, b) => edges.filter(([from, to]) => entries[from] === a && entries[to] === b).length;
+    assert.deepEqual(counts, names.map((a) => names.map((b) => count(a, b))), `${ids} ${rounds}`);
   }
 });
 
@@ -480,7 +484,8 @@ test("trees: the trees of an explanation, and those of a step", () => {
   assert.deepEqual(heads("assign", 2), []);
   // Without a round the finish has the round of the start.
   const found = treesOf(reported("explanation"), []);
-  assert.deepEqual(["start", "finish"].map((kind) => treesIn(found, { kind, round: 0 }).map(({ head }) => head)), [["start r0"], ["finish", "start r0"]]);
+  const headsOf = (kind) => treesIn(found, { kind, round: 0 }).map(({ head }) => head);
+  assert.deepEqual(["start", "finish"].map(headsOf), [["start r0"], ["finish", "start r0"]]);
 });
 
 test("trees: the branch of an if that is taken, and the other one, which is one part", () => {
@@ -500,7 +505,8 @@ test("trees: the branch of an if that is taken, and the other one, which is one 
 
 test("trees: what the last assignment reads", () => {
   const last = (...lines) => lastRead(treesOf(explained([0, "r0", "id 5"], [1, "left", "0 0"], [1, "right", "r0 5"],
-    [1, "r0", "if 7", " lt 1", "  L 3", "  r0 5", " add 7", "  L 3", "  4 4", " R 9 (not taken)"], [1, "finish", ...lines]), []));
+    [1, "r0", "if 7", " lt 1", "  L 3", "  r0 5", " add 7", "  L 3", "  4 4", " R 9 (not taken)"],
+    [1, "finish", ...lines]), []));
   assert.deepEqual(last("r0 7"), { head: "round 1 r0", read: [["L", 3], ["r0", 5]] });
   assert.deepEqual(last("min 6", " r0 7", " 6 6"), { head: "finish", read: [["r0", 7]] });
   assert.deepEqual(last("0 0"), { head: "finish", read: [] });

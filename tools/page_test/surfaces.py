@@ -50,7 +50,8 @@ def documents(page):
             STEPS.check(f"{name} at {width}: nothing is too wide", page.value("document.documentElement.scrollWidth <= innerWidth"))
             STEPS.check(f"{name} at {width}: letters", page.value("parseFloat(getComputedStyle(document.querySelector('main p')).fontSize) >= 15"))
             if width < 600:
-                STEPS.equal(f"{name} at {width}: code that scrolls", page.value("[...document.querySelectorAll('pre')].filter(e => e.scrollWidth > e.clientWidth).length"), 0)
+                wraps = "[...document.querySelectorAll('pre')].every(e => e.scrollWidth <= e.clientWidth)"
+                STEPS.check(f"{name} at {width}: code wraps", page.value(wraps))
             STEPS.check(f"{name}: pictures", page.value("[...document.images].every(image => image.complete && image.naturalWidth > 0)"))
     page.browser.size(1280, 900)
     page.browser.call("Page.navigate", url=f"{page.url}docs/EXERCISES.html")
@@ -131,7 +132,7 @@ def readers(page):
     page.wait("it is valid again", f"{invalid} === 'false'")
     described = "document.querySelector('#ring').getAttribute('aria-describedby').split(' ').every(id => document.getElementById(id))"
     STEPS.check("the ring names its refusal", page.value(described))
-    page.open(view="table", ids="102", example="linial_poly.txt")
+    page.open(view="table", ids="103", example="linial_poly.txt")
     page.wait("a refused table", "document.querySelector('[role=status] #table-refused').textContent")
     ring = ",".join(str(i * 5 % 1024) for i in range(1024))
     page.open(view="run", ids="1024", ring=ring, example="identity.txt")
@@ -362,7 +363,8 @@ def why(page):
     lines = nbhd(CV1, "explain", "--ids", "8", "--ring", "5,1,3,7", "--place", "1").splitlines()
     heads = [number for number, line in enumerate(lines) if not line.startswith(" ")]
     trees = {lines[a].split(",")[0]: lines[a + 1 : b] for a, b in zip(heads, [*heads[1:], len(lines)])}
-    steps = {"": ["start r0"], "1": ["round 1 left", "round 1 right"], "2": ["round 1 r0"], "end": ["finish", "round 1 r0"]}
+    steps = {"": ["start r0"], "1": ["round 1 left", "round 1 right"], "2": ["round 1 r0"]}
+    steps["end"] = ["finish", "round 1 r0"]
     for width, base, way in ((1280, "10", "mouse"), (1280, "2", "keys"), (390, "10", "finger"), (390, "2", "keys")):
         page.browser.size(width, 900)
         page.browser.fingers(way == "finger")

@@ -19,7 +19,8 @@ def entries_of(text):
 
 def kept_tables(page):
     """A kept table is chosen by its name, which is in the link, and all views show it."""
-    names = [f"{folder}/{file.name}" for folder in ("least", "problems") for file in sorted((ROOT / "examples" / folder).glob("*.table"))]
+    files = [file for folder in ("least", "problems") for file in sorted((ROOT / "examples" / folder).glob("*.table"))]
+    names = [f"{file.parent.name}/{file.name}" for file in files]
     page.open(view="run", ids="8", ring="5,1,3,0", example="cv1.txt")
     page.wait_ring("a program", "5,1,3,0")
     listed = page.value("[...document.querySelectorAll('#table-choice option')].map(e => e.value)")
@@ -43,10 +44,12 @@ def kept_tables(page):
     page.browser.key("Enter")
     STEPS.equal("no tree", page.texts("#why"), [])
     page.fill("#ring", "5,1,3")
-    page.wait("a ring that is too short", "document.querySelector('#run-refused').textContent.startsWith('ring fault G1')")
+    refused = "document.querySelector('#run-refused').textContent"
+    page.wait("a ring that is too short", f"{refused}.startsWith('ring fault G1')")
     page.click("#tab-judge")
     page.wait("its verdict", DRAWN.format("yes"))
-    rings = "On every ring of 5 to 6 distinct identifiers below 6, neighbours’ channels differ by at least 2, and those at distance two differ."
+    rings = "On every ring of 5 to 6 distinct identifiers below 6, neighbours’ channels differ by at least 2, "
+    rings += "and those at distance two differ."
     tuples = nbhd(text, "audit").split()[1]
     STEPS.equal("what it says", page.texts("#verdict p")[1:3], [rings, f"{int(tuples):,} tuples were looked at."])
     page.click("#tab-table")
@@ -56,10 +59,12 @@ def kept_tables(page):
     windows = zip(page.texts(".windows .code"), page.texts(".windows text"))
     STEPS.equal("its windows", [[window.strip(), channel] for window, channel in windows], entries_of(text))
     page.click("#tab-graph")
-    page.wait("its graph", "document.querySelectorAll('.graph .point').length === 120 && document.querySelector('.matrix')")
+    points = "document.querySelectorAll('.graph .point').length"
+    page.wait("its graph", f"{points} === 120 && document.querySelector('.matrix')")
     STEPS.equal("no edge is red", page.count(".graph .close .edge"), 0)
     page.choose("#table-choice", "")
-    page.wait("the program again", "document.querySelector('#check .good, .check.good')?.checkVisibility() && !location.hash.includes('table=')")
+    good = "document.querySelector('.check.good')?.checkVisibility()"
+    page.wait("the program again", f"{good} && !location.hash.includes('table=')")
     page.open(view="run", ids="8", ring="5,1,3,0", table="least/none.table")
     page.wait("no such table", SHOWN.format("There is no kept table least/none.table."))
 
@@ -74,13 +79,15 @@ def problem_tables(page):
         ("least/rounds1_ids6_channels3_near1_far0.table", "differ", "yes"),
     ):
         page.choose("#table-choice", name)
-        page.wait(f"the problem of {name}", f"document.querySelector('#problem').value === '{problem}' && {DRAWN.format(verdict)}")
+        chosen = f"document.querySelector('#problem').value === '{problem}'"
+        page.wait(f"the problem of {name}", f"{chosen} && {DRAWN.format(verdict)}")
     ring, name = "3,0,6,2,1,5,4", "problems/mis_rounds2_ids7_channels2.table"
     text = kept(name)
     channels = [line.split()[2] for line in nbhd(text, "apply", "--ring", ring).splitlines()]
     page.open(view="run", ring=ring, table=name, problem="mis")
     page.wait_ring("its ring", ring)
-    STEPS.equal("its hollow nodes", marked(page, "#stage", "outside"), [place for place, channel in enumerate(channels) if channel == "0"])
+    hollow = [place for place, channel in enumerate(channels) if channel == "0"]
+    STEPS.equal("its hollow nodes", marked(page, "#stage", "outside"), hollow)
     STEPS.equal("nothing is red", page.count("#stage :is(.equal, .broken)"), 0)
     page.open(view="run", ring=ring, table=name, problem="own", forbid="0,*,0")
     page.wait_ring("its ring by patterns", ring)
@@ -106,7 +113,8 @@ def pasted_tables(page):
     STEPS.equal("its ring", page.texts("#witness .identifier"), ring)
     page.click("#run-this-ring")
     page.wait_ring("its ring in the run", ",".join(ring))
-    STEPS.check("a pasted table is in no link", "table=" not in page.value("location.hash"), page.value("location.hash"))
+    link = page.value("location.hash")
+    STEPS.check("a pasted table is in no link", "table=" not in link, link)
     page.click("#tab-table")
     wide = CV1.replace("channels 10", "channels 12")
     long = nbhd(wide, "table", "--ids", "55")
@@ -114,7 +122,8 @@ def pasted_tables(page):
     page.fill("#table-text", long)
     page.wait("a table of 2 MB", "document.querySelector('#table-say').textContent.startsWith('157,410 windows')")
     page.click("#tab-judge")
-    page.wait("its verdict", f"{DRAWN.format('yes')} && /8,185,320 tuples/.test(document.querySelector('#verdict').textContent)")
+    tuples = "/8,185,320 tuples/.test(document.querySelector('#verdict').textContent)"
+    page.wait("its verdict", f"{DRAWN.format('yes')} && {tuples}")
     for name, text, words in (
         ("a program", CV1, "table fault A1"),
         ("a table that is cut", long[:40], "table fault A"),
@@ -127,7 +136,8 @@ def pasted_tables(page):
         page.wait(f"the judge of {name}", f"document.querySelector('#verdict').textContent === {json.dumps(refused)}")
     five = json.dumps(nbhd(CV1, "table", "--ids", "5"))
     page.value(f"window.chosen = new DataTransfer(), chosen.items.add(new File([{five}], 'five.table')), 0")
-    page.value("(e => { e.files = chosen.files; e.dispatchEvent(new Event('change')); })(document.querySelector('#table-file'))")
+    choose = "(e => { e.files = chosen.files; e.dispatchEvent(new Event('change')); })"
+    page.value(f"{choose}(document.querySelector('#table-file'))")
     page.wait("the table of a file", SHOWN.format("Rounds 1, identifiers 5, channels 10, windows 60."))
 
 

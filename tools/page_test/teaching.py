@@ -5,11 +5,12 @@ from surfaces import INSIDE, ITEMS, START
 
 RING = START["ring"]
 CURRENT = "document.querySelector('#timeline [aria-current=step]')?.textContent"
+BOX = "document.querySelector('{}').getBoundingClientRect()"
 WHY = "document.querySelector('#why-heading').textContent"
 
 
 def no_beside_its_ring(page):
-    """The ring of a no, its windows and the button to run it are in the window together; each node says what its channel comes from."""
+    """The ring of a no, its windows and the button to run it are seen together, with what each channel comes from."""
     nos = {
         "LDB": {"ids": "8", "example": "ldb.txt"},
         "a set": {"ids": "12", "example": "mis_minima.txt"},
@@ -20,19 +21,21 @@ def no_beside_its_ring(page):
         page.browser.size(width, height)
         for name, state in nos.items():
             page.open(view="judge", **state)
-            page.wait(f"the no of {name} at {width}", "document.querySelector('.verdict.no') && document.querySelector('#run-this-ring')")
+            page.wait(f"the no of {name} at {width}", "document.querySelector('.verdict.no ~ * #run-this-ring')")
             for part in ("#run-this-ring", "#witness svg", ".seen"):
                 STEPS.check(f"{part} of {name} at {width}", page.value(f"{INSIDE}(document.querySelector('{part}'))"))
-            beside = "(r => r('.seen').left >= r('#witness svg').right)(s => document.querySelector(s).getBoundingClientRect())"
-            STEPS.check(f"{name} at {width}: the windows stand beside the ring", page.value(beside))
+            left, right = page.value(f"[{BOX.format('.seen')}.left, {BOX.format('#witness svg')}.right]")
+            STEPS.check(f"{name} at {width}: the windows stand beside the ring", left >= right, (left, right))
     page.browser.size(1280, 900)
     # A node of LDB reads its identifier and its left neighbour's.
     page.open(view="judge", **nos["LDB"])
     page.wait("the no of LDB", "document.querySelector('#run-this-ring')")
-    STEPS.equal("what its nodes read", page.texts(".seen .reads"), ["round 1 r0 reads r0 = 1, L = 0", "round 1 r0 reads r0 = 2, L = 1"])
+    reads = ["round 1 r0 reads r0 = 1, L = 0", "round 1 r0 reads r0 = 2, L = 1"]
+    STEPS.equal("what its nodes read", page.texts(".seen .reads"), reads)
     page.click(".seen tr:nth-of-type(3) button")
     page.wait("why leads to the run", f"{ITEMS}.length && {WHY} === 'Why? Node 2 at place 2'")
-    STEPS.equal("at its finish", (page.value(CURRENT), page.value("document.querySelector('#ring').value")), ("finish", "0,1,2,3"))
+    shown = page.value(f"[{CURRENT}, document.querySelector('#ring').value]")
+    STEPS.equal("at its finish", shown, ["finish", "0,1,2,3"])
     page.open(view="judge", ids="8", text="rounds 0 channels 1 registers 1 start r0 = 0 finish r0")
     page.wait("the no of a constant", "document.querySelector('#run-this-ring')")
     STEPS.equal("what it reads", page.texts(".seen .reads"), ["start r0 reads nothing"] * 2)
@@ -42,17 +45,23 @@ def trace_pressed(page):
     """A value of the trace that is pressed opens its tree in its step."""
     page.open(**START, step="")
     page.wait("a trace", "document.querySelectorAll('.trace td').length === 20")
-    for row, step in (("start r0", "start"), ("round 1 right", "1 send"), ("round 1 r0", "1 assign"), ("finish", "finish"), ("round 1 left", "1 send")):
+    rows = [("start r0", "start"), ("round 1 right", "1 send"), ("round 1 r0", "1 assign"), ("finish", "finish")]
+    for row, step in [*rows, ("round 1 left", "1 send")]:
         for place, identifier in enumerate(RING.split(",")):
-            cell = f"[...document.querySelectorAll('.trace tr')].find(e => e.firstElementChild.textContent === '{row}').children[{place + 1}]"
-            page.value(f"{cell}.dispatchEvent(new MouseEvent('click', {{ bubbles: true }}))")
-            page.wait(f"{row} at {place}", f"{CURRENT} === '{step}' && {WHY} === 'Why? Node {identifier} at place {place}'")
+            line = f"[...document.querySelectorAll('.trace tr')].find(e => e.firstElementChild.textContent === '{row}')"
+            page.value(f"{line}.children[{place + 1}].click()")
+            node = f"{WHY} === 'Why? Node {identifier} at place {place}'"
+            page.wait(f"{row} at {place}", f"{CURRENT} === '{step}' && {node}")
             shown = f"document.activeElement.closest('[role=tree]')?.ariaLabel === '{row}'"
             page.wait(f"the tree of {row} at {place}", shown)
 
 
-LINES = """(box => { const ink = getComputedStyle(box.querySelector('.ink')), [line, room] = [ink.lineHeight, ink.paddingTop].map(parseFloat);
-    const over = (box.scrollTop - room + line) % line; return box.scrollTop === 0 || over < 2 || over > line - 2.5; })(document.querySelector('#editor'))"""
+# Whether a line of the editor begins at its top, but for a pixel or two.
+LINES = """(box => {
+  const { lineHeight, paddingTop } = getComputedStyle(box.querySelector('.ink'));
+  const line = parseFloat(lineHeight), over = (box.scrollTop - parseFloat(paddingTop) + line) % line;
+  return box.scrollTop === 0 || over < 2 || over > line - 2.5;
+})(document.querySelector('#editor'))"""
 
 
 def whole_lines(page):
@@ -72,10 +81,12 @@ def whole_lines(page):
     STEPS.equal("no comment", (page.value(remarks), page.texts(".row")[0].strip()), (0, "rounds 1"))
     number = CV1.split("\n").index("finish r0")
     page.browser.drag(*[page.middle(f".row[data-row='{number + 1}']")] * 2)
-    STEPS.equal("the cursor is where the text is pressed", page.value("document.querySelector('#text').selectionStart"), CV1.index("finish r0"))
+    cursor = page.value("document.querySelector('#text').selectionStart")
+    STEPS.equal("the cursor is where the text is pressed", cursor, CV1.index("finish r0"))
     STEPS.equal("all comments then", page.value(remarks), sum(line.startswith("#") for line in CV1.split("\n")))
     page.browser.type("# mine\n")
-    STEPS.equal("what is typed there", page.value("document.querySelector('#text').value"), CV1.replace("finish r0", "# mine\nfinish r0"))
+    typed = page.value("document.querySelector('#text').value")
+    STEPS.equal("what is typed there", typed, CV1.replace("finish r0", "# mine\nfinish r0"))
     page.browser.size(1280, 900)
 
 
@@ -85,9 +96,9 @@ def trace_on_paper(page):
     page.open(**START)
     page.wait_ring("the ring on paper", RING)
     page.browser.call("Emulation.setEmulatedMedia", media="print")
-    boxes = "['#stage svg', '.trace table'].map(s => document.querySelector(s).getBoundingClientRect())"
-    beside = page.value(f"(([ring, trace]) => [trace.left >= ring.right, trace.top < ring.bottom && trace.bottom > ring.top])({boxes})")
-    STEPS.equal("the trace stands beside the ring", beside, [True, True])
+    ring, trace = BOX.format("#stage svg"), BOX.format(".trace table")
+    left, right, top, bottom = page.value(f"[{trace}.left, {ring}.right, {trace}.top, {ring}.bottom]")
+    STEPS.check("the trace stands beside the ring", left >= right and top < bottom, (left, right, top, bottom))
     page.browser.call("Emulation.setEmulatedMedia", media="")
     page.browser.size(1280, 900)
 

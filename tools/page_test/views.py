@@ -406,12 +406,14 @@ def table(page):
     one = "document.querySelector('#table-say').textContent === '1 of 3,360 windows begins with 1 6 15.'"
     page.wait("a search for one window", one)
     page.open(view="table", ids="100", text=LDB.replace("channels 3", "channels 10"))
-    page.wait("nearly as many windows as are listed", "document.querySelector('#table-say').textContent.startsWith('970,200 windows')")
+    listed = "document.querySelector('#table-say').textContent.startsWith('970,200 windows')"
+    page.wait("nearly as many windows as are listed", listed)
     page.open(view="table", ids="10", example="cv_to_three.txt")
     said = "3,628,800 windows are too many to list here; nbhd table prints them."
     page.wait("a table of four rounds", f"document.querySelector('#table-say').textContent === {json.dumps(said)}")
-    entries = json.loads(nbhd((ROOT / "examples/cv_to_three.txt").read_text(), "table", "--ids", "10", "--format", "json"))["entries"]
-    counts = [f"{count:,}" for _, count in sorted(Counter(entries).items())]
+    three = (ROOT / "examples/cv_to_three.txt").read_text(encoding="ascii")
+    report = json.loads(nbhd(three, "table", "--ids", "10", "--format", "json"))
+    counts = [f"{count:,}" for _, count in sorted(Counter(report["entries"]).items())]
     STEPS.equal("its histogram", page.texts(".histogram .count"), counts)
     page.click("#save")
     said = "The table is not saved: the output is longer than 24 MB."
@@ -465,34 +467,43 @@ def graph(page):
         STEPS.equal(f"numbers that are offered for {name}", page.texts("#graph-say button"), offered)
 
 
-MATRIX = """[...document.querySelectorAll('.matrix tbody tr')].flatMap(row => [...row.querySelectorAll('td')].map((cell, i) =>
-    [[row.querySelector('th').textContent, document.querySelectorAll('.matrix thead th')[i].textContent].join(' '), cell.textContent, cell.className]))"""
+# The cells of the matrix, each as its two channels, its count and its class.
+MATRIX = """(columns => [...document.querySelectorAll('.matrix tbody tr')].flatMap(row =>
+  [...row.querySelectorAll('td')].map((cell, i) =>
+    [`${row.querySelector('th').textContent} ${columns[i].textContent}`, cell.textContent, cell.className])
+))(document.querySelectorAll('.matrix thead th'))"""
 
 
 def matrix(page):
     """Which channel touches which, with counts, for graphs of all sizes; what the problem forbids is red."""
-    three = (ROOT / "examples/cv_to_three.txt").read_text(encoding="ascii")
-    cases = (("LDB", LDB, 5, {}), ("CV1", CV1, 8, {}), ("CV1, near 2", CV1, 6, {"near": "2"}), ("LDB, a set", LDB, 8, {"problem": "mis"}))
+    cases = [("LDB", LDB, 5, {}), ("CV1", CV1, 8, {}), ("CV1, near 2", CV1, 6, {"near": "2"})]
+    cases += [("LDB, a set", LDB, 8, {"problem": "mis"})]
+    wrong = {"problem": lambda a, b: a == b == 1, "near": lambda a, b: abs(a - b) < 2, "": lambda a, b: a == b}
     for name, text, ids, asked in cases:
         page.open(view="graph", ids=str(ids), text=text, **asked)
         page.wait(f"the matrix of {name}", "document.querySelector('.matrix')")
         lines = nbhd(text, "table", "--ids", str(ids)).splitlines()
         channels = dict(line.split(" : ") for line in lines if " : " in line)
-        edges = [(w, " ".join((*w.split()[1:], str(x)))) for w in channels for x in range(ids) if str(x) not in w.split()]
+        after = lambda window: [str(x) for x in range(ids) if str(x) not in window.split()]
+        edges = [(window, " ".join((*window.split()[1:], x))) for window in channels for x in after(window)]
         counts = Counter((int(channels[a]), int(channels[b])) for a, b in edges)
         all_channels = sorted({int(channel) for channel in channels.values()})
-        is_wrong = {"problem": lambda a, b: a == b == 1, "near": lambda a, b: abs(a - b) < 2}.get("".join(asked), lambda a, b: a == b)
+        is_wrong = wrong["".join(asked)]
         wanted = [
             [f"{a} {b}", f"{counts[a, b]:,}", "none" if not counts[a, b] else "wrong" if is_wrong(a, b) else ""]
             for a in all_channels
             for b in all_channels
         ]
         STEPS.equal(f"the counts of {name}", page.value(MATRIX), wanted)
-    for name, text, ids, edges in (("four rounds", three, 10, 3_628_800), ("five_162", "", 162, 663_526_080), ("identity", "", 100, 24 * 23)):
-        page.open(view="graph", ids=str(ids), **({"text": text} if text else {"example": f"{name}.txt"}))
+    # Of the identity the first channels are shown.
+    sizes = {"cv_to_three": (10, 3_628_800), "five_162": (162, 663_526_080), "identity": (100, 24 * 23)}
+    for name, (ids, edges) in sizes.items():
+        page.open(view="graph", ids=str(ids), example=f"{name}.txt")
         page.wait(f"the matrix of {name}", "document.querySelector('.matrix')")
-        STEPS.equal(f"the edges of {name}", sum(int(count.replace(",", "")) for _, count, _ in page.value(MATRIX)), edges)
-    STEPS.check("more channels are named", "for the first 24 of 100 channels." in page.text("#matrix .aside"), page.text("#matrix .aside"))
+        counts = [int(count.replace(",", "")) for _, count, _ in page.value(MATRIX)]
+        STEPS.equal(f"the edges of {name}", sum(counts), edges)
+    said = page.text("#matrix .aside")
+    STEPS.check("more channels are named", said.endswith(", for the first 24 of 100 channels."), said)
 
 
 def links(page):
@@ -618,7 +629,8 @@ def gallery(page):
     _, *parts = re.split(r"^## (.*)\n", (ROOT / "docs/GALLERY.md").read_text(encoding="utf-8"), flags=re.MULTILINE)
     sections = dict(zip(parts[::2], parts[1::2]))
     head = ""
-    for kind, text in page.value("[...document.querySelectorAll('#examples > *')].map(e => [e.localName, (e.lastElementChild ?? e).textContent])"):
+    parts = "[...document.querySelectorAll('#examples > *')]"
+    for kind, text in page.value(f"{parts}.map(e => [e.localName, (e.lastElementChild ?? e).textContent])"):
         if kind == "h3":
             head = text
             STEPS.check(f"a head of the gallery: {head}", head in sections)
