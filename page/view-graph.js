@@ -9,6 +9,7 @@ import { badge, badgeImage } from "./channels.js";
 import { demandOf, NO_PATTERNS, patternsText } from "./demand.js";
 import { reasonOf } from "./faults.js";
 import { drawMatrix } from "./matrix.js";
+import { recorded } from "./recorded.js";
 import { askTable } from "./source.js";
 import { edgesOf, tableOf } from "./table.js";
 import { wrongPaths } from "./paths.js";
@@ -39,7 +40,7 @@ export async function updateGraph(checked) {
   if (report.kind !== "table") return showNothing(...coded(reasonOf(report)));
   if (windows > MOST) {
     const tooMany = `${windows.toLocaleString("en")} windows are too many to draw: at most ${MOST} can be. `;
-    showNothing(tooMany, ...(state.table ? [] : advice(rounds)));
+    showNothing(tooMany, ...(state.table || recorded ? [] : advice(rounds)));
   } else {
     const table = tableOf(report);
     show({ ...table, windows: table.windows.map((window) => window.join(" ")) }, edgesOf(table), demand);

@@ -87,12 +87,9 @@ def lesson(root, runs, paths, ids, rings):
     for ring in all_rings:
         for text in accepted:
             recorder.run(text, ring)
-    recorded = {
-        "start": {"ids": ids, "ring": rings[0]},
-        "rings": all_rings,
-        "examples": [{"name": it, "title": title_of(it, text), "text": text, "ids": ids} for it, text in programs.items()],
-        "answers": recorder.answers,
-    }
+    examples = [{"name": name, "title": title_of(name, text), "text": text} for name, text in programs.items()]
+    recorded = {"start": {"ids": ids, "ring": rings[0]}, "rings": all_rings, "answers": recorder.answers}
+    recorded["examples"] = [{**example, "ids": ids} for example in examples]
     what = f"{', '.join(programs)} with {ids} identifiers, on {len(all_rings)} rings"
     return in_one_file(root / "page", SAYS.format(what=html.escape(what)), recorded)
 

@@ -132,7 +132,7 @@ def readers(page):
     page.wait("it is valid again", f"{invalid} === 'false'")
     described = "document.querySelector('#ring').getAttribute('aria-describedby').split(' ').every(id => document.getElementById(id))"
     STEPS.check("the ring names its refusal", page.value(described))
-    page.open(view="table", ids="103", example="linial_poly.txt")
+    page.open(view="table", ids="33", example="cv1.txt")
     page.wait("a refused table", "document.querySelector('[role=status] #table-refused').textContent")
     ring = ",".join(str(i * 5 % 1024) for i in range(1024))
     page.open(view="run", ids="1024", ring=ring, example="identity.txt")
