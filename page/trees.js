@@ -60,7 +60,7 @@ export function treesIn(trees, { kind, round }) {
   return source ? [...own, trees.find(({ head }) => head === source.head)] : own;
 }
 
-/** What a channel comes from: the `head` of the last tree of its explanation, and the words with values that this reads. */
+/** What a channel comes from: the `head` of its explanation's last tree, and the words and values that this reads. */
 export function lastRead(trees) {
   const { head, parts } = treesIn(trees, trees.at(-1)).at(-1);
   const read = parts.filter(({ word, taken }) => taken && /^(r[0-9]|L|R|id)$/.test(word));
