@@ -967,8 +967,9 @@ numbers are printed in another base by `--base`
   trace --ids 8 --ring 5,1,3,7 --radix =>
 numbers are printed in a base from 2 to 10
   trace --ids 8 --ring 5,1,3,7 --hex => trace --ids 8 --ring 5,1,3,7
+the node that is explained is given by its place in the ring, as in `--place 0`
+  explain --ids 8 --ring 5,1,3,7 --node 0 =>
 the node that is explained is given by its place in the ring
-  explain --ids 8 --ring 5,1,3,7 --node 0 => explain --ids 8 --ring 5,1,3,7 --place 0
   explain --ids 8 --ring 5,1,3,7 --pos 0 => explain --ids 8 --ring 5,1,3,7 --place 0
   explain --ids 8 --ring 5,1,3,7 --position 0 => explain --ids 8 --ring 5,1,3,7 --place 0
   explain --ids 8 --ring 5,1,3,7 --index 0 => explain --ids 8 --ring 5,1,3,7 --place 0
@@ -1009,14 +1010,14 @@ a report is in lines or in JSON, by `--format lines` or `--format json`
 nothing is random; `shuf` makes a random ring
   run --ids 8 --ring 5,1,3,7 --seed 3 => run --ids 8 --ring 5,1,3,7
 `--workers` is an option of `table`, `judge` and `plan`
-  check --ids 8 --workers 2 => check --ids 8
-  audit --workers 4 => audit
+  check --ids 8 --workers 2 =>
+  audit --workers 4 =>
 `--near` is an option of `table`, `judge`, `formula` and `refute`
-  run --ids 8 --ring 5,1,3,7 --near 2 => run --ids 8 --ring 5,1,3,7
-  print --near:8 => print
+  run --ids 8 --ring 5,1,3,7 --near 2 =>
+  print --near:8 =>
 `--ring` is an option of `run`, `trace`, `explain`, `plan` and `apply`
-  judge --ids 8 --ring 5,1,3,7 => judge --ids 8
-  audit --ring 5,1,3,7 => audit
+  judge --ids 8 --ring 5,1,3,7 =>
+  audit --ring 5,1,3,7 =>
 a program says its rounds and channels; those of a formula are given by `--rounds` and `--channels`
   judge --ids 8 --rounds 1 => judge --ids 8
 the numbers of a table are in its text
@@ -1024,11 +1025,11 @@ the numbers of a table are in its text
   apply --ids 8 --ring 5,1,3,7 => apply --ring 5,1,3,7
   apply --ring 5,1,3,7 --near 2 => apply --ring 5,1,3,7
 `--forbid` is an option of `judge`, `audit`, `formula` and `refute`
-  check --ids 8 --forbid 1,1 => check --ids 8
-  migrate --forbid 1,1 => migrate
+  check --ids 8 --forbid 1,1 =>
+  migrate --forbid 1,1 =>
 `--problem` is an option of `judge`, `audit`, `formula` and `refute`
-  run --ids 8 --ring 5,1,3,7 --problem mis => run --ids 8 --ring 5,1,3,7
-  print --problem mis => print
+  run --ids 8 --ring 5,1,3,7 --problem mis =>
+  print --problem mis =>
 a table does not say what its channels have to be but for near and far; `nbhd audit --problem mis` judges it
   table --ids 8 --forbid 1,1 => table --ids 8
   table --ids 8 --problem mis => table --ids 8
@@ -1114,7 +1115,7 @@ the number of threads is given by `--workers`
   table --ids 8 --segments 2 => table --ids 8 --workers 2
   judge --ids 8 --segments 2 => judge --ids 8 --workers 2
 `--segments` is an option of `run`
-  check --ids 8 --segments 2 => check --ids 8
+  check --ids 8 --segments 2 =>
 """
 
 

@@ -136,6 +136,9 @@ fn line_one_advice(line: &[u8]) -> &'static str {
     if line.starts_with(b"#") {
         return NO_COMMENT;
     }
+    if line.starts_with(b"{") {
+        return "; this looks like JSON: without `--format json` nbhd prints the text of a table";
+    }
     if line.starts_with(b"nbhd-table ") {
         return version_advice(line);
     }

@@ -245,7 +245,7 @@ impl<'a> Draft<'a> {
                 self.next = next_after(value, Next::Output);
             }
             Meant::Left(fact) => {
-                self.is_whole = self.is_whole && fact.is_some();
+                self.is_whole = self.is_whole && is_left_out(fact);
                 if let Some(fact) = fact {
                     self.tell(fact);
                 }
@@ -403,6 +403,12 @@ impl<'a> Draft<'a> {
 // Returns how the word behind an option is read, if the option has this value in its own word.
 fn next_after(value: &str, next: Next) -> Next {
     if value.is_empty() { next } else { Next::Word }
+}
+
+// Returns whether a name with this fact can be left out. An option of other commands may show that one
+// of these is meant.
+fn is_left_out(fact: Option<Fact>) -> bool {
+    matches!(fact, Some(Fact::Text(_)))
 }
 
 // Returns how the word behind a name that is left out is read: each own option takes a value.

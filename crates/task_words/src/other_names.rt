@@ -84,7 +84,7 @@ const IN_PROGRAM: &str =
     "a program says its rounds and channels; those of a formula are given by `--rounds` and `--channels`";
 
 /// Names in place of options. The first row that fits counts.
-pub(crate) const OPTIONS: [OtherName; 38] = [
+pub(crate) const OPTIONS: [OtherName; 39] = [
     option!(["version", "v"] at ["migrate"] => Meaning::Nothing, "`nbhd migrate` prints a table in the newest version"),
     option!(["version", "V"] => Meaning::Nothing, VERSION),
     option!(["help", "?"] => Meaning::Nothing, HELP),
@@ -109,7 +109,8 @@ pub(crate) const OPTIONS: [OtherName; 38] = [
     option!(["octal"] => Meaning::Value("base", "8"), "numbers are printed in another base by `--base`"),
     option!(["radix", "b"] => Meaning::OneOf(&["base"]), "numbers are printed in another base by `--base`"),
     option!(["hex", "hexadecimal"] => Meaning::Nothing, "numbers are printed in a base from 2 to 10"),
-    option!(["node", "pos", "position", "index", "at", "p"] at ["explain"] =>
+    option!(["node"] at ["explain"] => Meaning::Nothing, "the node that is explained is given by its place in the ring, as in `--place 0`"),
+    option!(["pos", "position", "index", "at", "p"] at ["explain"] =>
         Meaning::OneOf(&["place"]), "the node that is explained is given by its place in the ring"),
     option!(["json", "yaml", "csv", "xml", "fmt", "format"] at ["formula"] =>
         Meaning::Nothing, "`nbhd formula` prints DIMACS, which solvers read, and has no other form"),
