@@ -1,3 +1,4 @@
 pub mod Joined
+pub mod Repairing
 pub mod Causes
 pub mod MostIds

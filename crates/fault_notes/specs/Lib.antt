@@ -1,5 +1,6 @@
 -- The definitions that the contracts cite.
 pub mod Words
+pub mod Repairs
 pub mod TextNotes
 pub mod Placed
 pub mod FaultTokens

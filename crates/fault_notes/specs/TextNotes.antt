@@ -1,5 +1,5 @@
 -- The note on a fault of a program text.
-use Rattle.std.specs.Prelude.{◌≡◌, ℕ, ◌++◌, List, [], ◌∷◌, drop, codes, Option}
+use Rattle.std.specs.Prelude.{◌≡◌, ℕ, ◌++◌, List, [], ◌∷◌, drop, codes, Option, IfSome}
 use Rattle.node_lang.specs.declared.fault.FaultKind.{FaultKind}
 use Rattle.node_lang.specs.declared.fault.FaultKind.TheVariants as kind
 use Rattle.node_lang.specs.declared.expected.Expected.{Expected}
@@ -9,6 +9,8 @@ use Rattle.source_places.specs.Shown.{shown, marked_line}
 use Rattle.source_places.specs.KindAdvice.{IsAdviceOn, IsOfKind}
 use Rattle.source_places.specs.declared.kinds.TextKind.TheVariants.{Program}
 use Rattle.fault_notes.specs.Words.{wanted_part, first_word}
+use Rattle.fault_notes.specs.declared.edits.Edit.{Edit}
+use Rattle.fault_notes.specs.Repairs.{IsRepair, optional_text}
 
 -- a word in quotes, as it is shown
 abbrev pub quoted : List ℕ → List ℕ
@@ -28,11 +30,19 @@ cause_of kind.TooManyNodes word w = codes "the expressions of a program have at 
 cause_of kind.EndOfText word w = codes "unexpected end of the text" ++ wanted_part w
 cause_of kind.OutOfMemory word w = []
 
+-- Advice is a fact on the language, which may be empty, and then perhaps what an edit tells one to do, which has been tried.
+pub record IsAdvice (text : List ℕ) (offset : ℕ) (advice : List ℕ) : Type 0 where
+  pub fact : List ℕ
+  pub repair : Option Edit
+  pub helps : IfSome repair (IsRepair text offset)
+  pub is : advice ≡ fact ++ optional_text text repair
+
 -- The note on this fault has its place and its cause, with what is expected there, perhaps followed by advice.
 pub record IsTextNote (text : List ℕ) (k : FaultKind) (offset : ℕ) (note : List ℕ) : Type 0 where
   pub wanted : Option Expected
   pub is_wanted : IsExpected text k offset wanted
   pub advice : List ℕ
+  pub is_advice : IsAdvice text offset advice
   pub is : note ≡ place_head text offset
       ++ (cause_of k (first_word (drop offset text)) wanted ++ (advice ++ 10 ∷ marked_line text offset))
 

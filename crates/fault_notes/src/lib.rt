@@ -1,22 +1,22 @@
-//! Notes on program texts and programs that are refused: the cause and its place, what can stand there,
-//! and advice, by rules.
+//! Notes on program texts and programs that are refused: the cause and its place, what can stand there, a fact on the
+//! language, and an edit that has been tried.
 #![tactic(auto)]
 
-mod advice_at_end;
-mod advice_on_bytes;
-mod around;
 mod bound_lines;
+mod candidates;
 mod cause_places;
-mod conditions;
-mod mark_rules;
-mod operation_names;
-mod place_rules;
+mod edits;
+mod facts;
+mod misread;
+mod names;
+mod operators;
 mod placed;
 mod program_notes;
-mod rules;
-mod text_beginnings;
+mod repair;
+mod rewrites;
+mod signs;
 mod text_notes;
-mod word_rules;
+mod tokens;
 mod word_texts;
 
 pub use cause_places::place_of_cause;

@@ -7,13 +7,13 @@ ghost use Rattle.node_lang.specs.declared.expected.Expected.{Expected};
 ghost use Rattle.node_lang.specs.Faults.{FaultsAt};
 ghost use Rattle.source_places.specs.Heads.{place_head};
 ghost use Rattle.source_places.specs.Shown.{marked_line};
-ghost use Rattle.fault_notes.specs.TextNotes.{quoted, cause_of, IsTextNote, IsLongNote};
+ghost use Rattle.fault_notes.specs.TextNotes.{quoted, cause_of, IsAdvice, IsTextNote, IsLongNote};
+ghost use Rattle.fault_notes.specs.Repairs.{optional_text};
 
-use crate::advice_at_end::end_advice;
-use crate::advice_on_bytes::byte_advice;
-use crate::around::{Place, place_in};
-use crate::rules::advice_by;
-use crate::word_texts::{first_word, is_word_byte, write_wanted_part};
+use crate::edits::{text_from, write_repair};
+use crate::misread::Misread;
+use crate::repair::{Advice, advice_on};
+use crate::word_texts::{first_word, write_wanted_part};
 use node_lang::{Expected, FaultKind, TextFault, expected_in};
 use node_program::OutOfMemory;
 use source_places::{TextKind, kind_advice, write_marked_line, write_place_head, write_shown};
@@ -39,9 +39,9 @@ pub fn text_note(alloc: Global, text: &[u8], fault: TextFault) -> Result<String,
     if fault.kind == FaultKind::TooLong {
         return long_note(alloc, text);
     }
-    let wanted = expected_in(alloc, text)?;
+    let expected = expected_in(alloc, text)?;
     let mut note = String::new(alloc);
-    write_note(&mut note, text, fault, wanted)?;
+    write_note(alloc, &mut note, text, Misread { fault, expected })?;
     Ok(note)
 }
 
@@ -57,32 +57,88 @@ fn long_note(alloc: Global, text: &[u8]) -> Result<String, OutOfMemory>
     }
 }
 
-// Writes the note on a fault that has a place, at which `wanted` can follow.
+// Writes the note on a fault that has a place.
 fn write_note(
+    alloc: Global,
     out: &mut String,
     text: &[u8],
-    fault: TextFault,
-    wanted: Option<Expected>,
-) -> Result<(), AllocError>
-    requires { fault.offset ≤ length text.now }
-    ensures { OnOk result ((advice : List ℕ) × (string_bytes out.new ≡ string_bytes out.old ++ (place_head text.now fault.offset
-        ++ (cause_of fault.kind (word (drop fault.offset text.now)) wanted ++ (advice ++ 10 ∷ marked_line text.now fault.offset))))) }
+    misread: Misread,
+) -> Result<(), OutOfMemory>
+    requires { misread.fault.offset ≤ length text.now }
+    ensures { OnOk result ((advice : List ℕ) × IsAdvice text.now misread.fault.offset advice × (string_bytes out.new ≡ string_bytes out.old ++ (place_head text.now misread.fault.offset
+        ++ (cause_of misread.fault.kind (word (drop misread.fault.offset text.now)) misread.expected ++ (advice ++ 10 ∷ marked_line text.now misread.fault.offset))))) }
 {
-    let word = word_at(text, fault.offset);
-    write_place_head(out, text, fault.offset)?;
-    write_cause(out, fault.kind, word, wanted)?;
-    out.push_str(advice_on(text, fault, wanted))?;
+    let offset = misread.fault.offset;
+    let word = word_at(text, offset);
+    write_place_head(out, text, offset)?;
+    write_cause(out, misread.fault.kind, word, misread.expected)?;
+    write_advice(alloc, out, text, misread)?;
     out.push_str("\n")?;
-    write_marked_line(out, text, fault.offset)
+    write_marked_line(out, text, offset)?;
+    Ok(())
+}
+
+// Writes advice.
+fn write_advice(
+    alloc: Global,
+    out: &mut String,
+    text: &[u8],
+    misread: Misread,
+) -> Result<(), OutOfMemory>
+    requires { misread.fault.offset ≤ length text.now }
+    ensures { OnOk result ((advice : List ℕ) × IsAdvice text.now misread.fault.offset advice × (string_bytes out.new ≡ string_bytes out.old ++ advice)) }
+{
+    if let Some(advice) = fixed_advice(text, misread.fault.kind) {
+        return Ok(out.push_str(advice)?);
+    }
+    let advice = advice_on(alloc, text, misread)?;
+    Ok(write_told(out, text, &advice)?)
+}
+
+// Writes a fact and what an edit tells one to do.
+fn write_told(out: &mut String, text: &[u8], advice: &Advice) -> Result<(), AllocError>
+    requires { IfSome advice.now.repair (λ e. (e.from ≤ e.to) × (e.to ≤ length text.now)) }
+    ensures { OnOk result (string_bytes out.new ≡ string_bytes out.old ++ (string_bytes advice.now.fact ++ optional_text text.now advice.now.repair)) }
+{
+    out.push_str(advice.fact.as_str())?;
+    match &advice.repair {
+        Some(edit) => write_repair(out, text, edit),
+        None => Ok(()),
+    }
+}
+
+// Returns advice that names no edit: on a text of another kind, or on a limit.
+fn fixed_advice(text: &[u8], fault: FaultKind) -> Option<&'static str> {
+    if let Some(advice) = kind_advice(text, TextKind::Program) {
+        return Some(advice);
+    }
+    match fault {
+        FaultKind::TooDeep => Some(TOO_DEEP),
+        FaultKind::TooManyNodes => Some(TOO_MANY),
+        FaultKind::HeaderRange | FaultKind::NumberTooLarge => Some(""),
+        FaultKind::EndOfText => hidden_advice(text),
+        _ => None,
+    }
+}
+
+// Returns advice on a text that is empty, or whose only line ends with a comment.
+fn hidden_advice(text: &[u8]) -> Option<&'static str> {
+    if text.is_empty() {
+        return Some("; the text is empty, so no file was given, or an empty one");
+    }
+    let line = text.strip_suffix(b"\n").unwrap_or(text);
+    if line.contains(&b'#') && !line.contains(&b'\n') {
+        return Some("; a comment goes up to the end of its line, which is a line feed");
+    }
+    None
 }
 
 // Returns the word at an offset, or the byte there.
-#[tactic(auto, using(std::proofs::lemmas::List::take_rest))]
 fn word_at(text: &[u8], offset: usize) -> &[u8]
     requires { offset ≤ length text.now }
     ensures { result.now ≡ word (drop offset text.entry.now) }
 {
-    first_word(&text[offset..])
+    first_word(text_from(text, offset))
 }
 
 // Writes a word in quotes.
@@ -148,36 +204,4 @@ fn write_word(
     out.push_str(head)?;
     write_quoted(out, word)?;
     write_wanted_part(out, wanted)
-}
-
-// Returns advice, or an empty text.
-fn advice_on(text: &[u8], fault: TextFault, wanted: Option<Expected>) -> &'static str
-    requires { fault.offset ≤ length text.now }
-{
-    if let Some(advice) = kind_advice(text, TextKind::Program) {
-        return advice;
-    }
-    let (before, rest) = text.split_at(fault.offset);
-    match (fault.kind, wanted) {
-        (FaultKind::NotAscii, _) => byte_advice(before, rest),
-        (FaultKind::BadWord, Some(wanted)) => word_advice(place_in(before, rest, wanted)),
-        (FaultKind::Unexpected, Some(wanted)) => advice_by("place", place_in(before, rest, wanted)),
-        (FaultKind::EndOfText, wanted) => end_advice(text, wanted),
-        (FaultKind::TooDeep, _) => TOO_DEEP,
-        (FaultKind::TooManyNodes, _) => TOO_MANY,
-        (FaultKind::HeaderRange, _) => advice_by("range", place_in(before, rest, Expected::Number)),
-        (FaultKind::NumberTooLarge, _) => advice_by(
-            "large",
-            place_in(before, rest, Expected::Number),
-        ),
-        _ => "",
-    }
-}
-
-// Returns advice on a word or a mark that is not of the language.
-fn word_advice(place: Place) -> &'static str {
-    match place.word {
-        [byte] if !is_word_byte(*byte) => advice_by("mark", place),
-        _ => advice_by("word", place),
-    }
 }

@@ -1,5 +1,5 @@
 use Rattle.std.proofs.Common.{◌≤◌, ◌-◌, length}
-use Rattle.fault_notes.proofs.around.registers_in.Given as goal
+use Rattle.fault_notes.proofs.tokens.tokens_in.Given as goal
 
 abbrev pub invariant-tokens : goal.invariant-tokens
 invariant-tokens l = l.at ≤ length l.text

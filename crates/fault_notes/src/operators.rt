@@ -1,0 +1,186 @@
+//! Operators of other languages, and what they are here.
+
+use crate::tokens::{
+    Tokens, after, after_marks, begins_operand, operand_end, text_of, token_of, word_of,
+};
+use node_lang::Token;
+use source_places::is_one_of;
+
+// What stands between two operands: its sign, the operation that it is, how tight it binds, whether the
+// operands are exchanged, and the number of the token after it.
+#[derive(Clone, Copy)]
+pub(crate) struct Operator<'a> {
+    pub(crate) sign: &'a [u8],
+    pub(crate) name: &'a [u8],
+    pub(crate) level: u32,
+    pub(crate) is_turned: bool,
+    pub(crate) end: usize,
+}
+
+// How tight comparisons bind.
+pub(crate) const COMPARED: u32 = 3;
+
+// How tight operators bind that are operations with a written number alone.
+pub(crate) const SCALED: u32 = 9;
+
+// Signs between operands: operations, and how tight they bind.
+const SIGNS: [(&[u8], &[u8], u32); 15] = [
+    (b"&&", b"and", 2),
+    (b"||", b"or", 1),
+    (b"<<", b"shl", 7),
+    (b">>", b"shr", 7),
+    (b"&", b"and", 6),
+    (b"|", b"or", 4),
+    (b"^", b"xor", 5),
+    (b"+", b"add", 8),
+    (b"-", b"sub", 8),
+    (b"*", b"shl", SCALED),
+    (b"/", b"shr", SCALED),
+    (b"//", b"shr", SCALED),
+    (b"%", b"and", SCALED),
+    (b"**", b"shl", SCALED),
+    (b"=", b"eq", COMPARED),
+];
+
+// Signs of comparisons, and whether their operands are exchanged.
+const COMPARISONS: [(&[u8], &[u8], bool); 12] = [
+    (b"<=", b"le", false),
+    (b"=<", b"le", false),
+    (b"<", b"lt", false),
+    (b"===", b"eq", false),
+    (b"==", b"eq", false),
+    (b"!=", b"ne", false),
+    (b"/=", b"ne", false),
+    (b"~=", b"ne", false),
+    (b"<>", b"ne", false),
+    (b"=>", b"le", true),
+    (b">=", b"le", true),
+    (b">", b"lt", true),
+];
+
+// Words between operands, and the signs that they stand for.
+const WORDS: [(&str, &[u8]); 9] = [
+    ("is equals", b"=="),
+    ("gt", b">"),
+    ("ge geq", b">="),
+    ("plus", b"+"),
+    ("minus", b"-"),
+    ("times", b"*"),
+    ("div", b"/"),
+    ("mod rem", b"%"),
+    ("bsl lsl", b"<<"),
+];
+
+// Returns the operation of a sign.
+fn signed(sign: &[u8]) -> Option<(&'static [u8], u32, bool)> {
+    for row in &COMPARISONS {
+        if sign == row.0 {
+            return Some((row.1, COMPARED, row.2));
+        }
+    }
+    for row in &SIGNS {
+        if sign == row.0 {
+            return Some((row.1, row.2, false));
+        }
+    }
+    None
+}
+
+// Returns the sign of the tokens from one up to another, or the one that a word stands for.
+fn sign_of<'a>(tokens: Tokens<'a>, number: usize, end: usize) -> &'a [u8] {
+    for row in &WORDS {
+        if is_one_of(row.0, word_of(tokens, number)) {
+            return row.1;
+        }
+    }
+    text_of(tokens, number, end)
+}
+
+// Returns the operator at a token.
+pub(crate) fn operator_at<'a>(tokens: Tokens<'a>, number: usize) -> Option<Operator<'a>> {
+    if let Some(Token::Two(_)) = token_of(tokens, number) {
+        let name = word_of(tokens, number);
+        return Some(Operator {
+            sign: name,
+            name,
+            level: if is_one_of("and or xor", name) { 2 } else { 8 },
+            is_turned: false,
+            end: after(number, 1),
+        });
+    }
+    let end = after_marks(tokens, number);
+    let sign = sign_of(tokens, number, end);
+    let (name, level, is_turned) = signed(sign)?;
+    Some(Operator {
+        sign,
+        name,
+        level,
+        is_turned,
+        end,
+    })
+}
+
+// The most operators that are looked at in a row.
+const MOST_OPERATORS: usize = 16;
+
+// Returns the number of the first token after operands with operators between them.
+pub(crate) fn chain_end(tokens: Tokens, number: usize) -> usize {
+    let mut end = operand_end(tokens, number);
+    for _ in 0..MOST_OPERATORS {
+        match operator_at(tokens, end) {
+            Some(operator) if begins_operand(tokens, operator.end) => {
+                end = operand_end(tokens, operator.end);
+            }
+            _ => return end,
+        }
+    }
+    end
+}
+
+// Returns the number of the operator that is applied first: this one, or a later one that binds
+// tighter.
+pub(crate) fn tightest(tokens: Tokens, number: usize) -> usize {
+    let mut at = number;
+    for _ in 0..MOST_OPERATORS {
+        let Some(operator) = operator_at(tokens, at) else {
+            return at;
+        };
+        let next = operand_end(tokens, operator.end);
+        match operator_at(tokens, next) {
+            Some(other) if other.level > operator.level && begins_operand(tokens, other.end) => at =
+                next,
+            _ => return at,
+        }
+    }
+    at
+}
+
+// Powers of two, their exponents, and the numbers below them.
+const POWERS: [(&[u8], &[u8], &[u8]); 8] = [
+    (b"2", b"1", b"1"),
+    (b"4", b"2", b"3"),
+    (b"8", b"3", b"7"),
+    (b"16", b"4", b"15"),
+    (b"32", b"5", b"31"),
+    (b"64", b"6", b"63"),
+    (b"128", b"7", b"127"),
+    (b"256", b"8", b"255"),
+];
+
+// Returns the exponent of a power of two, and the number below it.
+fn power_of(number: &[u8]) -> Option<(&'static [u8], &'static [u8])> {
+    let row = POWERS.iter().find(|row| row.0 == number)?;
+    Some((row.1, row.2))
+}
+
+// Returns the operands of the operation that a product, a quotient, a remainder or a power is, if it is one.
+pub(crate) fn scaled<'a>(sign: &[u8], a: &'a [u8], b: &'a [u8]) -> Option<(&'a [u8], &'a [u8])> {
+    match (sign, power_of(a), power_of(b)) {
+        (b"*", _, Some((exponent, _))) => Some((a, exponent)),
+        (b"*", Some((exponent, _)), None) => Some((b, exponent)),
+        (b"/" | b"//", _, Some((exponent, _))) => Some((a, exponent)),
+        (b"%", _, Some((_, below))) => Some((a, below)),
+        (b"**", _, _) if a == b"2".as_slice() => Some((b"1", b)),
+        _ => None,
+    }
+}

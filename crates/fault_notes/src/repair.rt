@@ -1,0 +1,202 @@
+//! Advice on a fault of a program text: a fact on the language, and an edit that has been tried.
+
+ghost use Rattle.std.specs.Prelude.{◌≤◌, length, IfOk, IfSome};
+ghost use Rattle.fault_notes.specs.Repairs as repair;
+
+use crate::candidates::candidates;
+use crate::edits::{Edit, fault_in, left_after};
+use crate::facts::{Fact, Told, fact_at};
+use crate::misread::Misread;
+use crate::names::is_known;
+use crate::rewrites::{edit_of, rewrite};
+use crate::tokens::{Tokens, before, number_at, part, tokens_in};
+use node_lang::{Expected, FaultKind, TextFault, expected_in};
+use node_program::OutOfMemory;
+use source_places::write_shown;
+use std::alloc::{AllocError, Global};
+
+/// Advice on a fault: a fact on the language, which may be empty, and an edit.
+#[derive(Drop)]
+pub(crate) struct Advice {
+    pub(crate) fact: String,
+    pub(crate) repair: Option<Edit>,
+}
+
+// The most steps of a text in another notation.
+const MOST_STEPS: usize = 16;
+
+/// Returns advice on the fault of a program text. An edit has been tried: the edited text is a program,
+/// or has its first fault on a later line. Fails if memory was refused.
+pub(crate) fn advice_on(alloc: Global, text: &[u8], misread: Misread) -> Result<Advice, OutOfMemory>
+    requires { misread.fault.offset ≤ length text.now }
+    ensures { IfOk result (λ advice. IfSome advice.repair (repair.IsRepair text.now misread.fault.offset)) }
+{
+    let all = tokens_in(alloc, text)?;
+    let tokens = Tokens { text, all: &all };
+    let fact = fact_at(tokens, misread);
+    let repair = repair_of(alloc, tokens, misread, fact)?;
+    let fact = told(alloc, fact, repair.is_some())?;
+    Ok(Advice { fact, repair })
+}
+
+// Returns an edit that helps, if there is one.
+fn repair_of(
+    alloc: Global,
+    tokens: Tokens,
+    misread: Misread,
+    fact: Option<Fact>,
+) -> Result<Option<Edit>, OutOfMemory>
+    requires { misread.fault.offset ≤ length tokens.text.now }
+    ensures { IfOk result (λ found. IfSome found (repair.IsRepair tokens.entry.text.now misread.fault.offset)) }
+{
+    let offset = misread.fault.offset;
+    let steps = rewritten(alloc, tokens.text, misread)?;
+    let repair = first_that_helps(alloc, tokens.text, offset, steps)?;
+    if repair.is_some() {
+        return Ok(repair);
+    }
+    let Some(expected) = tried_at(misread, fact) else {
+        return Ok(None);
+    };
+    let edits = candidates(alloc, tokens, number_at(tokens, offset), expected)?;
+    best_of(alloc, tokens.text, offset, edits)
+}
+
+// Returns what is expected at a fault, if edits are tried there.
+fn tried_at(misread: Misread, fact: Option<Fact>) -> Option<Expected> {
+    match fact {
+        Some(fact) if fact.told == Told::Alone => None,
+        _ => misread.expected,
+    }
+}
+
+// Returns the text of a fact, an empty one if it is not told beside an edit.
+fn told(alloc: Global, fact: Option<Fact>, is_mended: bool) -> Result<String, AllocError> {
+    let mut out = String::new(alloc);
+    match fact {
+        Some(fact) if !is_mended || fact.told != Told::Without => {
+            out.push_str(fact.head)?;
+            if !fact.tail.is_empty() {
+                write_shown(&mut out, fact.word)?;
+                out.push_str(fact.tail)?;
+            }
+        }
+        _ => {}
+    }
+    Ok(out)
+}
+
+// Returns an edit if it helps.
+fn first_that_helps(
+    alloc: Global,
+    text: &[u8],
+    offset: usize,
+    edit: Option<Edit>,
+) -> Result<Option<Edit>, OutOfMemory>
+    requires { offset ≤ length text.now }
+    ensures { IfOk result (λ found. IfSome found (repair.IsRepair text.now offset)) }
+{
+    let Some(edit) = edit else {
+        return Ok(None);
+    };
+    match left_after(alloc, text, offset, &edit)? {
+        Some(_) => Ok(Some(edit)),
+        None => Ok(None),
+    }
+}
+
+// Returns the first edit after which the least is left, if one helps.
+fn best_of(
+    alloc: Global,
+    text: &[u8],
+    offset: usize,
+    edits: Vec<Edit>,
+) -> Result<Option<Edit>, OutOfMemory>
+    requires { offset ≤ length text.now }
+    ensures { IfOk result (λ found. IfSome found (repair.IsRepair text.now offset)) }
+{
+    let mut best = None;
+    let mut least = usize::MAX;
+    'edits: for edit in edits {
+        let most = most_left(text, &edit);
+        let left = left_after(alloc, text, offset, &edit)?;
+        match left {
+            Some(left) if left < least && left <= most => {
+                least = left;
+                best = Some(edit);
+            }
+            _ => {}
+        }
+    }
+    Ok(best)
+}
+
+// Returns how much may be left behind an edit: nothing if it leaves out a known word, a line or several words that do not
+// stand twice.
+fn most_left(text: &[u8], edit: &Edit) -> usize {
+    let old = part(text, edit.from, edit.to);
+    let is_line = matches!(last_of(text, edit.from), b"" | b"\n")
+        && matches!(part(text, edit.to, edit.to.saturating_add(1)), b"" | b"\n")
+        && matches!(old, [b'A'..=b'Z' | b'a'..=b'z', ..]);
+    let is_long = old.contains(&b' ') || old.contains(&b'\n') || is_line;
+    if !edit.put.is_empty() || !is_long && !is_known(old) {
+        return usize::MAX;
+    }
+    let blanks = part(text, 0, edit.from)
+        .iter()
+        .rev()
+        .take_while(|byte| b" \n\t\r".contains(*byte))
+        .count();
+    let is_twice = part(text, 0, edit.from.saturating_sub(blanks)).ends_with(old);
+    if is_twice { usize::MAX } else { 0 }
+}
+
+// Returns the byte before a place of a text, an empty text if there is none.
+fn last_of(text: &[u8], place: usize) -> &[u8] {
+    part(text, before(place, 1), place)
+}
+
+// Returns a text after an edit, without blanks around what is put.
+fn spliced(alloc: Global, text: &[u8], edit: &Edit) -> Result<Vec<u8>, AllocError> {
+    let mut new = Vec::new(alloc);
+    new.extend_from_slice(part(text, 0, edit.from))?;
+    new.extend_from_slice(&edit.put)?;
+    new.extend_from_slice(part(text, edit.to, text.len()))?;
+    Ok(new)
+}
+
+// Returns whether a fault stands on a line behind what was edited. A sign over 127 is no such fault, since those of a
+// text are met first.
+fn is_behind(now: &[u8], fault: TextFault, tail: usize) -> bool {
+    let end = now.len().saturating_sub(tail);
+    fault.kind != FaultKind::NotAscii && part(now, end, fault.offset).contains(&b'\n')
+}
+
+// Returns the edit that several steps make, if there is one.
+fn rewritten(alloc: Global, text: &[u8], misread: Misread) -> Result<Option<Edit>, OutOfMemory> {
+    let mut now = Vec::from_slice(alloc, text)?;
+    let mut stop = misread;
+    let mut from = text.len();
+    let mut tail = text.len();
+    for _ in 0..MOST_STEPS {
+        let Some(edit) = rewrite(alloc, &now, stop)? else {
+            break;
+        };
+        from = from.min(edit.from);
+        tail = tail.min(now.len().saturating_sub(edit.to));
+        now = spliced(alloc, &now, &edit)?;
+        let Some(fault) = fault_in(alloc, &now)? else {
+            break;
+        };
+        if is_behind(&now, fault, tail) {
+            break;
+        }
+        let expected = expected_in(alloc, &now)?;
+        stop = Misread { fault, expected };
+    }
+    if from == text.len() {
+        return Ok(None);
+    }
+    let put = part(&now, from, now.len().saturating_sub(tail));
+    Ok(Some(edit_of(alloc, from, text.len().saturating_sub(tail), &[put])?))
+}
