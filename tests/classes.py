@@ -69,13 +69,6 @@ def fin(kind, new, *wanted):
 
 
 # 1 comma missing
-cv("comma", "ldb(r0, L), 1)", "ldb(r0 L), 1)", "comma")
-cv("comma", "L), 1)", "L) 1)", "comma")
-cv("comma", "1), bit(", "1) bit(", "comma")
-cv("comma", "bit(r0, ldb", "bit(r0 ldb", "comma")
-one("comma", "r0 = if(lt(r0, L) r0, L)", "comma")
-one("comma", "r0 = if(lt(r0, L), r0 max(L, R))", "comma")
-one("comma", "r0 = max(r0 5)", "comma")
 
 # 2 operation word missing before a bracket with a comma
 one("word-missing", "r0 = (r0, L)", "operation", ("word", "before"), "max(", "min(")
@@ -88,12 +81,6 @@ fin("word-missing", "(r0)", "operation", "without brackets", "without the bracke
 fin("no-operation", "max3(r0, 1, 2)", "max(", "`max`", "operation")
 fin("no-operation", "foo(r0, 1)", "operation")
 one("no-operation", "r0 = minimum(r0, L)", "min(", "`min`")
-fin("capitals", "Min(r0, 5)", "capital", "lower", "small letter", " case")
-one("capitals", "r0 = LDB(r0, L)", "capital", "lower", "small letter", " case")
-fin("capitals", "IF(r0, 1, 2)", "capital", "lower", "small letter", " case")
-row("capitals", CHECK, sub(CV1, "rounds 1", "Rounds 1"), "capital", "lower", "small letter", " case")
-one("capitals", "r0 = max(R0, L)", "capital", "lower", "small letter", " case")
-fin("capitals", "ID", "capital", "lower", "small letter", " case", "`r0`")
 
 # 4 left, right in an expression
 one("left-right", "r0 = max(r0, left)", "`L`", "'L'", "write L", "L is", "L for", "means L")
@@ -124,7 +111,6 @@ row("register", CHECK, sub(ID, "registers 1", "registers 9"), "at most 8", "1 to
 
 # 8 doubled lines
 TW = ("twice", "second", "doubl", "again", "already", "once", "only one", "superfluous", "too many", "delete", "remove")
-cv("doubled", "send right r0\n", "send left r0\n", "send right", *TW)
 one("doubled", "r0 = max(r0, L)\nr0 = max(r0, R)", "registers", *TW)
 cv("doubled", "rounds 1\n", "rounds 1\nrounds 1\n", "channels", *TW)
 
@@ -132,17 +118,12 @@ cv("doubled", "rounds 1\n", "rounds 1\nrounds 1\n", "channels", *TW)
 one("entity", "r0 = if(r0 &lt; L, 1, 2)", "html", "lt(", "entity")
 one("entity", "r0 = r0 &amp; 3", "html", "and(", "entity")
 one("entity", "r0 = if(r0 &gt; L, 1, 2)", "html", "lt(", "entity")
-one("entity", "r0 = max(r0,&nbsp;L)", "html", "entity", "blank", "space")
 row("typography", CHECK, "“".encode() + CV1 + "”".encode(), "quot")
 one("typography", "r0 = max(“r0”, L)", "quot")
 fin("typography", "r0 – 1", "sub(", "dash")
 row("typography", CHECK, "— my program\n".encode() + CV1, "dash", "#", "ascii")
 row("typography", CHECK, sub(CV1, b"r0 = id", "r0\u00a0=\u00a0id".encode()), "non-breaking", "no-break", "nonbreaking", "space", "blank")
 row("typography", CHECK, sub(CV1, b"L), 1)", "L)\u00a0, 1)".encode()), "non-breaking", "no-break", "nonbreaking", "space", "blank")
-row("typography", CHECK, b'"' + CV1 + b'"\n', "quot")
-row("typography", CHECK, b"'" + CV1 + b"'\n", "quot", "apostroph")
-row("typography", CHECK, CV1.replace(b"\n", b"%0A").replace(b" ", b"%20"), "link", "address", "url", "percent", "encod", "line feed", "escape")
-row("typography", CHECK, CV1.replace(b"\n", b"\\n"), "line feed", "escape", "backslash", "new line", "newline", "line break", "printf")
 row("typography", CHECK, b"\xef\xbb\xbf" + CV1, "byte order mark", "bom")
 row("typography", CHECK, CV1.decode().encode("utf-16"), "utf-16")
 row("typography", CHECK, CV1.decode().encode("utf-16-le"), "utf-16")
@@ -204,7 +185,6 @@ cv("comment", "finish r0\n", "finish r0 // the channel\n", "#")
 cv("comment", "finish r0\n", "finish r0 -- the channel\n", "#")
 cv("comment", "r0 = id\n", "r0 = id;\n", "semicolon", "`;`", "';'")
 cv("comment", "rounds 1\n", "<!-- CV -->\nrounds 1\n", "#")
-cv("comment", "rounds 1\n", "(* CV *)\nrounds 1\n", "#")
 cv("comment", "rounds 1\n", "Cole and Vishkin\nrounds 1\n", "#", "rounds")
 
 # 13 forgotten lines and order
@@ -218,9 +198,7 @@ cv("forgotten", "r0 = id\n", "", "r0 =", "assign")
 cv("forgotten", "send left 0\n", "", "send left")
 cv("forgotten", "send right r0\n", "", "send right")
 cv("forgotten", "r0 = add(shl(ldb(r0, L), 1), bit(r0, ldb(r0, L)))\n", "", "r0 =", "assign")
-cv("order", "rounds 1\nchannels 6\n", "channels 6\nrounds 1\n", "order", "first", "before", "begin")
 cv("order", "send left 0\nsend right r0\n", "send right r0\nsend left 0\n", "order", "first", "before")
-row("order", CHECK, sub(sub(CV1, "finish r0\n", ""), "round\nsend", "finish r0\nround\nsend"), "order", "before", "last")
 
 # 14 number of rounds and blocks
 cv("rounds", "rounds 1", "rounds 5", "0 to 4", "at most 4", "up to 4", "4 rounds", "four")

@@ -6,8 +6,8 @@ from programs import CV1, ID0, ID0_OF_4, LDB, SHIFT4
 # Parts of `CV1`, their replacements, and the starts of the notes on the text.
 MARKS_AND_ORDER = [
     ("L), 1)", "L) 1)", "nbhd: line 9, column 25: unexpected `1`; expected `,`"),
-    ("L)))", "L))", "nbhd: line 10, column 1: unexpected `finish`; expected `)`; a bracket is open"),
-    ("L)))", "L))))", "nbhd: line 9, column 50: unexpected `)`; expected `finish`; this bracket closes nothing"),
+    ("L)))", "L))", "nbhd: line 10, column 1: unexpected `finish`; expected `)`"),
+    ("L)))", "L))))", "nbhd: line 9, column 50: unexpected `)`; expected `finish`"),
     ("left 0\nsend right r0", "right r0\nsend left 0", "nbhd: line 7, column 6: unexpected `right`; expected `left`"),
     ("send left 0\n", "", "nbhd: line 7, column 6: unexpected `right`; expected `left`"),
     ("send right r0\n", "", "nbhd: line 8, column 1: unexpected `r0`; expected `send`"),
@@ -67,7 +67,7 @@ OPERANDS = [
         "finish r0",
         "finish if r0 then 1 else 2",
         "nbhd: line 10, column 11: unexpected `r0`; expected `(`"
-        "; the operands of an operation are written in brackets, as in `if(c, a, b)`",
+        "",
     ),
     ("finish r0", "finish if(r0, 1)", "nbhd: line 10, column 16: unexpected `)`; expected `,`; `if` takes 3 operands"),
     ("finish r0", "finish not(r0, 1)", "nbhd: line 10, column 14: unexpected `,`; expected `)`; `not` takes 1 operand"),
@@ -76,7 +76,7 @@ OPERANDS = [
     (
         "finish r0",
         "finish if(r0 == 1, 0, 1)",
-        "nbhd: line 10, column 14: unexpected `=`; expected `,`; write `eq(a, b)` to compare",
+        "nbhd: line 10, column 14: unexpected `=`; expected `,`",
     ),
 ]
 
@@ -84,7 +84,7 @@ WORDS_OF_OTHER_LANGUAGES = [
     (
         "rounds",
         "Rounds",
-        "nbhd: line 1, column 1: unknown word `Rounds`; expected `rounds`; `rounds` is written with small letters",
+        "nbhd: line 1, column 1: unknown word `Rounds`; expected `rounds`",
     ),
     ("L)", "l)", "nbhd: line 9, column 22: unknown word `l`; expected an expression; the message from the left is `L`"),
     (
@@ -95,32 +95,32 @@ WORDS_OF_OTHER_LANGUAGES = [
     (
         "finish r0",
         "finish R0",
-        "nbhd: line 10, column 8: unknown word `R0`; expected an expression; `r0` is written with a small letter",
+        "nbhd: line 10, column 8: unknown word `R0`; expected an expression",
     ),
     (
         "finish r0",
         "finish r0 + 1",
-        "nbhd: line 10, column 11: unknown word `+`; expected the end of the text; write `add(a, b)`",
+        "nbhd: line 10, column 11: unknown word `+`; expected the end of the text",
     ),
     ("r0 = id", "r0 = 2*id", "nbhd: line 5, column 7: unknown word `*`; expected `round`; there is no product"),
     ("r0 = id", "r0 = mul(2, id)", "nbhd: line 5, column 6: unknown word `mul`; expected an expression; there is no product"),
     (
         "r0 = id",
         "r0 = mod(id, 2)",
-        "nbhd: line 5, column 6: unknown word `mod`; expected an expression; there is no remainder but by powers of two: by 2 it is `and(r0, 1)`, by 16 `and(r0, 15)`",
+        "nbhd: line 5, column 6: unknown word `mod`; expected an expression",
     ),
     (
         "ldb(r0, L), 1",
         "gt(r0, L), 1",
-        "nbhd: line 9, column 14: unknown word `gt`; expected an expression; write `lt(b, a)` for a > b",
+        "nbhd: line 9, column 14: unknown word `gt`; expected an expression",
     ),
     (
         "finish r0",
         "finish -1",
-        "nbhd: line 10, column 8: unknown word `-`; expected an expression; write `sub(a, b)`, which stops at 0",
+        "nbhd: line 10, column 8: unknown word `-`; expected an expression",
     ),
-    ("finish r0", "finish 0x5", "nbhd: line 10, column 8: unknown word `0x5`; expected an expression; numbers are decimal"),
-    ("r0 = id", "r0 := id", "nbhd: line 5, column 4: unknown word `:`; expected `=`; an assignment is written `r0 = ..`"),
+    ("finish r0", "finish 0x5", "nbhd: line 10, column 8: unknown word `0x5`; expected an expression"),
+    ("r0 = id", "r0 := id", "nbhd: line 5, column 4: unknown word `:`; expected `=`"),
     ("rounds 1", "rounds 1;", "nbhd: line 1, column 9: unknown word `;`; expected `channels`; lines end without a mark"),
     (
         "r0 = id",
@@ -128,21 +128,21 @@ WORDS_OF_OTHER_LANGUAGES = [
         "nbhd: line 5, column 1: unknown word `colour`; expected the assignment of r0"
         "; registers are `r0` to `r7`, and have no other names",
     ),
-    ("finish r0", "return r0", "nbhd: line 10, column 1: unknown word `return`; expected `finish`; the last line is `finish`"),
+    ("finish r0", "return r0", "nbhd: line 10, column 1: unknown word `return`; expected `finish`"),
     (
         "left 0\nsend right r0",
         "both r0",
-        "nbhd: line 7, column 6: unknown word `both`; expected `left`; write `send left` and `send right`",
+        "nbhd: line 7, column 6: unknown word `both`; expected `left`",
     ),
     (
         "finish r0",
         "finish \"r0\"",
-        "nbhd: line 10, column 8: unknown word `\"`; expected an expression; there are no texts in programs",
+        "nbhd: line 10, column 8: unknown word `\"`; expected an expression",
     ),
     (
         "finish r0\n",
         "finish r0\nend\n",
-        "nbhd: line 11, column 1: unknown word `end`; expected the end of the text; the expression of `finish` ends the program",
+        "nbhd: line 11, column 1: unknown word `end`; expected the end of the text",
     ),
     ("finish r0\n", "finish r0\nrounds 1\n", "nbhd: line 11, column 1: unexpected `rounds`; expected the end of the text"),
 ]
@@ -193,7 +193,7 @@ OTHER_FILES = [
 MARKED_LINES = [
     (
         CV1.replace(b"left 0", b"lift 0"),
-        "nbhd: line 7, column 6: unknown word `lift`; expected `left`\n  send lift 0\n       ^\n",
+        "nbhd: line 7, column 6: unknown word `lift`; expected `left`; write `left` in the place of `lift`\n  send lift 0\n       ^\n",
     ),
     (b"\xef\xbb\xbfrounds 1\n", "\n  \\xef\\xbb\\xbfrounds 1\n  ^\n"),
     (b"rounds\t1\xff", "\n  rounds 1\\xff\n          ^\n"),

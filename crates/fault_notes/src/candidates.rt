@@ -96,7 +96,7 @@ fn instead_of(tokens: Tokens, number: usize, expected: Expected) -> &'static [u8
             register,
         ),
         (Some(Token::Unknown), Expected::This(Token::Register(register)))
-            if !is_mark(tokens, number) => register_text(register),
+            if token_of(tokens, after(number, 1)) == Some(Token::Equals) => register_text(register),
         (Some(Token::Unknown), Expected::This(_)) if is_taken_for(tokens, number, expected) => {
             match missing(expected) {
                 [first, ..] => first,
@@ -155,6 +155,15 @@ fn is_too_much(tokens: Tokens, number: usize, expected: Expected) -> bool {
 
 // Adds what can be missing before a token, or before the register that was read as an expression.
 fn put_missing(edits: &mut Edits, number: usize, expected: Expected) -> Result<(), AllocError> {
+    let previous = before(number, 1);
+    if token_of(edits.tokens, number) == Some(Token::Equals)
+        && begins_line(edits.tokens, previous)
+    {
+        let register = word_of(edits.tokens, previous);
+        edits.put(previous, number, &[b"\0 ", register])?;
+        edits.put(previous, number, &[b") ", register])?;
+        edits.put(previous, number, &[b")) ", register])?;
+    }
     let is_mark = matches!(
         expected,
         Expected::This(Token::Open | Token::Close | Token::Comma | Token::Equals)
@@ -169,13 +178,6 @@ fn put_missing(edits: &mut Edits, number: usize, expected: Expected) -> Result<(
         edits.put(number, number, &[name])?;
         edits.put(number, number, &[name, b" ="])?;
         edits.put(number, number, &[name, b" = \0"])?;
-    }
-    if token_of(edits.tokens, number) == Some(Token::Equals) {
-        let previous = before(number, 1);
-        let register = word_of(edits.tokens, previous);
-        edits.put(previous, number, &[b"\0 ", register])?;
-        edits.put(previous, number, &[b") ", register])?;
-        edits.put(previous, number, &[b")) ", register])?;
     }
     Ok(())
 }
@@ -192,6 +194,9 @@ fn put_instead(edits: &mut Edits, number: usize, expected: Expected) -> Result<(
     let other = instead_of(tokens, number, expected);
     if !other.is_empty() {
         edits.put(number, next, &[other])?;
+    }
+    if expected == Expected::This(Token::Finish) && word_of(tokens, next) == b"=".as_slice() {
+        edits.put(number, after(next, 1), &[b"finish"])?;
     }
     let other = word_of(tokens, next);
     edits.put(number, after(next, 1), &[other, b" ", word])?;
@@ -294,7 +299,8 @@ fn put_glued(edits: &mut Edits, number: usize, expected: Expected) -> Result<(),
         edits.put(previous, next, &[front, word])?;
     }
     let end = operand_end(tokens, number);
-    if let Some((x, k)) = scaled(b"*", front, text_of(tokens, number, end)) {
+    let operands = scaled(b"*", front, text_of(tokens, number, end));
+    if let (Some((x, k)), true) = (operands, front != word) {
         edits.put(previous, end, &[b"shl(", x, b", ", k, b")"])?;
     }
     if word != b"r".as_slice() {
@@ -338,11 +344,15 @@ fn put_line(edits: &mut Edits, number: usize) -> Result<(), AllocError> {
     edits.put_between(line, end, &[])
 }
 
-// Returns whether marks begin a comment in another language, behind a word or at the start of a line.
+// Returns whether marks begin a comment in another language: at the start of a line, or between a blank and a word.
 fn is_comment(tokens: Tokens, number: usize) -> bool {
-    let marks = text_of(tokens, number, after_marks(tokens, number));
+    let end = after_marks(tokens, number);
+    let marks = text_of(tokens, number, end);
+    let is_first = begins_line(tokens, number);
+    let is_apart = start_of(tokens, number) != end_of(tokens, before(number, 1));
     is_one_of("// /* -- ; ;; % %% {- <!--", marks)
-        || begins_line(tokens, number) && is_one_of("' ''' ! \" \"\"\"", marks)
+        && (is_first || is_apart && is_strange(tokens, end))
+        || is_first && is_one_of("' ''' ! \" \"\"\"", marks)
 }
 
 // Adds other numbers of rounds and of registers in the header.

@@ -254,6 +254,7 @@ fn place_of(tokens: Tokens, number: usize, expected: Expected) -> Place {
     match expected {
         Expected::Expression => Place::Before,
         Expected::Number => Place::Number,
+        This(Token::Channels | Token::Registers | Token::Start) => Place::Line,
         _ if ends_operand(tokens, before(number, 1)) && !begins_line(tokens, number) => {
             Place::Behind
         }
@@ -290,17 +291,23 @@ fn fact_on_word<'a>(
     expected: Expected,
 ) -> Option<Fact<'a>> {
     let word = word_of(tokens, number);
-    let is_assigned = matches!(word_of(tokens, after(number, 1)), [b'=' | b'(' | b'[']);
+    let next = after(number, 1);
+    let is_before = matches!(token_of(tokens, next), Some(Token::Register(_)));
+    let is_assigned = matches!(expected, This(Token::Register(_)))
+        && matches!(word_of(tokens, next), [b'=' | b'(' | b'[']);
     if let Some(told) = row_of(&WORDS, word) {
         return alone(told);
+    }
+    if is_before && place == Place::Line {
+        return None;
     }
     match place {
         Place::Before => fact_on_value(tokens, number),
         Place::Behind => without("; one expression is written here, and a comment begins with `#`"),
         Place::Number => without("; a number is written in digits"),
-        Place::Line if is_assigned => beside(
-            "; registers are `r0` to `r7`, and have no other names",
-        ),
+        Place::Line if is_assigned => {
+            beside("; registers are `r0` to `r7`, and have no other names")
+        }
         Place::Line => expectation(tokens, number, expected),
     }
 }
@@ -344,13 +351,13 @@ fn fact_on_marks<'a>(
     if marks.iter().any(|byte| *byte < b' ' || *byte == 127) {
         return alone("; this byte does not belong in a text");
     }
-    if is_one_of("// /* -- ;; %% <!-- {-", marks) && is_strange(tokens, end) {
+    if is_one_of("// /* -- ;; % %% <!-- {-", marks) && is_strange(tokens, end) {
         return beside("; a comment begins with `#`");
     }
     if marks == b"_".as_slice() {
         return without("; words, numbers and registers have no `_`");
     }
-    if marks == b";".as_slice() && place != Place::Before {
+    if marks == b";".as_slice() && open_operation(tokens, number).is_none() {
         return beside("; lines end without a mark");
     }
     match (place, expected) {
@@ -431,6 +438,7 @@ fn fact_on_known<'a>(
     let last = token_of(tokens, before(number, 1));
     let next = token_of(tokens, after(number, 1));
     let is_expression = expected == Expected::Expression;
+    let is_behind = place == Place::Behind && begins_operand(tokens, number);
     match (expected, met?) {
         (_, Token::Comma) if last == Some(Token::Left) || next == Some(Token::Right) => beside(
             SIDES,
@@ -444,12 +452,13 @@ fn fact_on_known<'a>(
             without("; the name of an operation is missing before it")
         }
         (_, Token::Open) if is_expression => beside(BRACKETS),
+        (_, Token::Open) if place == Place::Line => without("; no brackets are allowed here"),
         (_, Token::Open) if place == Place::Behind => {
             beside("; no bracket follows a number, a register, `id`, `L` or `R`")
         }
         (Expected::Expression | This(Token::Close), Token::Comma)
         | (Expected::Expression | This(Token::Comma), Token::Close) => arity(tokens, number),
-        _ if place == Place::Behind && begins_operand(tokens, number) => without(BEHIND),
+        _ if is_behind => without(BEHIND),
         _ if is_expression && hides_comment(tokens, number) => {
             beside("; what follows `#` on a line is a comment")
         }
@@ -492,13 +501,15 @@ fn arity<'a>(tokens: Tokens<'a>, number: usize) -> Option<Fact<'a>> {
 // Returns what is true of a program where this is expected.
 fn expectation<'a>(tokens: Tokens<'a>, number: usize, expected: Expected) -> Option<Fact<'a>> {
     let met = token_of(tokens, number);
+    let is_operand = begins_operand(tokens, number);
     match expected {
         This(Token::Open) => brackets(tokens, before(number, 1)),
         This(Token::Comma | Token::Close) if met.is_none() => arity(tokens, number),
-        This(Token::Comma) => without(BEHIND),
-        This(Token::Close) => without("; a bracket is open"),
+        This(Token::Comma) if is_operand => without(BEHIND),
+        This(Token::Comma | Token::Close) => without("; a bracket is open"),
         This(Token::Equals) => without("; an assignment is written `r0 = ..`"),
         Expected::End => without("; the expression of `finish` ends the program"),
+        Expected::Number => without("; a number is written in digits"),
         This(Token::Rounds) if matches!(met, Some(Token::Number(_))) => {
             without("; the lines have no numbers")
         }

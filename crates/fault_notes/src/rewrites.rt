@@ -153,7 +153,7 @@ fn joined(alloc: Global, tokens: Tokens, number: usize) -> Result<Option<Edit>, 
         ),
         _ => {}
     }
-    if matches!(last, [b'L' | b'R']) && is_one_of(". -> _ ::", marks) && !is_mark(tokens, end) {
+    if matches!(last, [b'L' | b'R']) && is_one_of(". -> _ ::", marks) && is_word(tokens, end) {
         return step(alloc, tokens, number, after(end, 1), &[]);
     }
     match word_of(tokens, number) {
@@ -164,6 +164,11 @@ fn joined(alloc: Global, tokens: Tokens, number: usize) -> Result<Option<Edit>, 
             { sign_written(alloc, tokens.text, start_of(tokens, number)) }
         _ => infix(alloc, tokens, tightest(tokens, number)),
     }
+}
+
+// Returns whether a token is a word.
+fn is_word(tokens: Tokens, number: usize) -> bool {
+    matches!(word_of(tokens, number), [b'0'..=b'9' | b'A'..=b'Z' | b'a'..=b'z', ..])
 }
 
 // Returns whether an `=` behind an expression assigns a register: one at the start of a line, one that stands behind
@@ -226,7 +231,11 @@ pub(crate) fn is_chained(tokens: Tokens, number: usize) -> bool {
         return false;
     };
     match operator_at(tokens, operand_end(tokens, operator.end)) {
-        Some(other) => other.level == COMPARED && operator.level == COMPARED,
+        Some(other) => {
+            other.level == COMPARED
+                && operator.level == COMPARED
+                && begins_operand(tokens, other.end)
+        }
         None => false,
     }
 }
