@@ -79,28 +79,37 @@ def slips():
 
 def part_at(text, place, shown):
     """Where the part stands that a note shows, the nearest to a place."""
-    pattern = re.compile(re.escape(shown).replace(r"\ \.\.", ".*?").replace(r"\ ", r"\s"), re.DOTALL)
-    spans = [found.span() for start in range(len(text)) if (found := pattern.match(text, start))]
+    pattern = re.compile("(?=(" + re.escape(shown).replace(r"\ ", r"\s") + "))")
+    spans = [found.span(1) for found in pattern.finditer(text)]
     return min(spans, key=lambda span: max(span[0] - place, place - span[1], 0), default=None)
 
 
 def done(text, answer):
-    """What the advice of an answer makes of a text; None if it tells of no edit, or of a part that it does not show whole."""
+    """What the advice of an answer makes of a text, and what follows, None of a long part that is shown by its beginning; None if it
+    tells of no edit."""
     _, out, note = answer
     found, told = PLACE.fullmatch(out), TOLD.match(note)
-    old = told and (told["out"] if told["out"] is not None else told["old"])
-    if not found or not told or old and old.endswith(" .."):
+    if not found or not told:
         return None
     place = int(found[1])
-    span = (place, place) if old is None else part_at(text, place, old)
+    old = told["out"] if told["out"] is not None else told["old"]
+    span = (place, place) if old is None else part_at(text, place, old.removesuffix(" .."))
     put = "" if told["out"] is not None else HOLE if told["put"] is None else told["put"].replace("..", HOLE)
-    return span and f"{text[:span[0]]} {put} {text[span[1]:]}"
+    is_long = old is not None and old.endswith(" ..")
+    return span and (f"{text[:span[0]]} {put} ", None if is_long else text[span[1] :])
 
 
-def is_mended(edited, program):
-    """Whether a text has the tokens of a program, where it may leave expressions and numbers to the reader."""
-    pattern = "".join(".+" if token == HOLE else re.escape(token + " ") for token, *_ in tokens_of(edited))
-    return re.fullmatch(pattern, "".join(token + " " for token, *_ in tokens_of(program)), re.DOTALL) is not None
+def spelled(text):
+    """The tokens of a text, each with a blank behind."""
+    return "".join(token + " " for token, *_ in tokens_of(text))
+
+
+def is_mended(text, front, back, program):
+    """Whether both parts have the tokens of a program, where they may leave expressions and numbers to the reader."""
+    if back is None:
+        return spelled(program).startswith(spelled(front)) and spelled(text).endswith(spelled(program)[len(spelled(front)) :])
+    pattern = re.escape(spelled(front + back)).replace(re.escape(HOLE + " "), ".+")
+    return re.fullmatch(pattern, spelled(program)) is not None
 
 
 def filled(text):

@@ -216,10 +216,12 @@ const EMPTY: [(&str, &str); 3] = [
 
 // Returns what stands in a table beside the word.
 fn row_of(rows: &[(&str, &'static str)], word: &[u8]) -> Option<&'static str> {
-    match rows.iter().find(|row| is_one_of(row.0, word)) {
-        Some(row) => Some(row.1),
-        None => None,
+    for row in rows {
+        if is_one_of(row.0, word) {
+            return Some(row.1);
+        }
     }
+    None
 }
 
 // Returns a fact with a word in it.
@@ -348,7 +350,7 @@ fn fact_on_marks<'a>(
 ) -> Option<Fact<'a>> {
     let end = after_marks(tokens, number);
     let marks = text_of(tokens, number, end);
-    if marks.iter().any(|byte| *byte < b' ' || *byte == 127) {
+    if matches!(marks, [0..=31 | 127, ..]) {
         return alone("; this byte does not belong in a text");
     }
     if is_one_of("// /* -- ;; % %% <!-- {-", marks) && is_strange(tokens, end) {

@@ -73,16 +73,25 @@ pub(crate) fn reads_as(
     if is_one_of("ite select mux choose cond iff", word) && is_applied {
         return Some((b"if", false));
     }
-    if let Some(row) = OPERATIONS.iter().find(|row| is_one_of(row.0, word)) {
-        return Some((row.1, row.2));
+    for row in &OPERATIONS {
+        if is_one_of(row.0, word) {
+            return Some((row.1, row.2));
+        }
     }
     if is_applied {
         return None;
     }
-    match VALUES.iter().find(|row| is_one_of(row.0, word)) {
-        Some(row) => Some((row.1, false)),
-        None => message_of(word),
+    value_of(word)
+}
+
+// Returns the value that a word stands for.
+fn value_of(word: &[u8]) -> Option<(&'static [u8], bool)> {
+    for row in &VALUES {
+        if is_one_of(row.0, word) {
+            return Some((row.1, false));
+        }
     }
+    message_of(word)
 }
 
 // Returns the message that a word with a side in it stands for.

@@ -23,39 +23,35 @@ pub(crate) const COMPARED: u32 = 3;
 // How tight operators bind that are operations with a written number alone.
 pub(crate) const SCALED: u32 = 9;
 
-// Signs between operands: operations, and how tight they bind.
-const SIGNS: [(&[u8], &[u8], u32); 15] = [
-    (b"&&", b"and", 2),
-    (b"||", b"or", 1),
-    (b"<<", b"shl", 7),
-    (b">>", b"shr", 7),
-    (b"&", b"and", 6),
-    (b"|", b"or", 4),
-    (b"^", b"xor", 5),
-    (b"+", b"add", 8),
-    (b"-", b"sub", 8),
-    (b"*", b"shl", SCALED),
-    (b"/", b"shr", SCALED),
-    (b"//", b"shr", SCALED),
-    (b"%", b"and", SCALED),
-    (b"**", b"shl", SCALED),
-    (b"=", b"eq", COMPARED),
-];
-
-// Signs of comparisons, and whether their operands are exchanged.
-const COMPARISONS: [(&[u8], &[u8], bool); 12] = [
-    (b"<=", b"le", false),
-    (b"=<", b"le", false),
-    (b"<", b"lt", false),
-    (b"===", b"eq", false),
-    (b"==", b"eq", false),
-    (b"!=", b"ne", false),
-    (b"/=", b"ne", false),
-    (b"~=", b"ne", false),
-    (b"<>", b"ne", false),
-    (b"=>", b"le", true),
-    (b">=", b"le", true),
-    (b">", b"lt", true),
+// Signs between operands: operations, how tight they bind, and whether the operands are exchanged.
+const SIGNS: [(&[u8], &[u8], u32, bool); 27] = [
+    (b"&&", b"and", 2, false),
+    (b"||", b"or", 1, false),
+    (b"<<", b"shl", 7, false),
+    (b">>", b"shr", 7, false),
+    (b"&", b"and", 6, false),
+    (b"|", b"or", 4, false),
+    (b"^", b"xor", 5, false),
+    (b"+", b"add", 8, false),
+    (b"-", b"sub", 8, false),
+    (b"*", b"shl", SCALED, false),
+    (b"/", b"shr", SCALED, false),
+    (b"//", b"shr", SCALED, false),
+    (b"%", b"and", SCALED, false),
+    (b"**", b"shl", SCALED, false),
+    (b"=", b"eq", COMPARED, false),
+    (b"===", b"eq", COMPARED, false),
+    (b"==", b"eq", COMPARED, false),
+    (b"!=", b"ne", COMPARED, false),
+    (b"/=", b"ne", COMPARED, false),
+    (b"~=", b"ne", COMPARED, false),
+    (b"<>", b"ne", COMPARED, false),
+    (b"<=", b"le", COMPARED, false),
+    (b"=<", b"le", COMPARED, false),
+    (b"<", b"lt", COMPARED, false),
+    (b"=>", b"le", COMPARED, true),
+    (b">=", b"le", COMPARED, true),
+    (b">", b"lt", COMPARED, true),
 ];
 
 // Words between operands, and the signs that they stand for.
@@ -73,14 +69,9 @@ const WORDS: [(&str, &[u8]); 9] = [
 
 // Returns the operation of a sign.
 fn signed(sign: &[u8]) -> Option<(&'static [u8], u32, bool)> {
-    for row in &COMPARISONS {
-        if sign == row.0 {
-            return Some((row.1, COMPARED, row.2));
-        }
-    }
     for row in &SIGNS {
         if sign == row.0 {
-            return Some((row.1, row.2, false));
+            return Some((row.1, row.2, row.3));
         }
     }
     None
@@ -169,8 +160,12 @@ const POWERS: [(&[u8], &[u8], &[u8]); 8] = [
 
 // Returns the exponent of a power of two, and the number below it.
 fn power_of(number: &[u8]) -> Option<(&'static [u8], &'static [u8])> {
-    let row = POWERS.iter().find(|row| row.0 == number)?;
-    Some((row.1, row.2))
+    for row in &POWERS {
+        if number == row.0 {
+            return Some((row.1, row.2));
+        }
+    }
+    None
 }
 
 // Returns the operands of the operation that a product, a quotient, a remainder or a power is, if it is one.

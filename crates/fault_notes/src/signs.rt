@@ -83,8 +83,12 @@ fn plain_byte(number: usize) -> &'static [u8] {
 
 // Returns the sign of a table with which a text begins, and what is written in its place.
 fn sign_in(table: &'static [(&[u8], &[u8])], text: &[u8]) -> Option<(usize, &'static [u8])> {
-    let row = table.iter().find(|row| text.starts_with(row.0))?;
-    Some((row.0.len(), row.1))
+    for row in table {
+        if text.starts_with(row.0) {
+            return Some((row.0.len(), row.1));
+        }
+    }
+    None
 }
 
 // Returns what is written in the place of the sign with which a text begins, and the number of its bytes.

@@ -99,11 +99,12 @@ pub(crate) fn begins_line(tokens: Tokens, number: usize) -> bool {
 
 // Returns whether a token stands before another one.
 pub(crate) fn has_before(tokens: Tokens, number: usize, token: Token) -> bool {
-    tokens
-        .all
-        .iter()
-        .take(number)
-        .any(|placed| placed.token == token)
+    for at in 0..number.min(tokens.all.len()) {
+        if token_of(tokens, at) == Some(token) {
+            return true;
+        }
+    }
+    false
 }
 
 // Returns the number of the first token at or after an offset.
