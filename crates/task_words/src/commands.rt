@@ -61,7 +61,7 @@ A problem is given in one of these two ways, and without --near and --far.
 }
 
 // `check --ids M [--format FORMAT]`
-const CHECK: CommandRow = CommandRow {
+pub(crate) const CHECK: CommandRow = CommandRow {
     name: "check",
     about: "Tells whether a program is accepted for M identifiers",
     details: details!(

@@ -1,7 +1,7 @@
 //! Refused words read as a command and its options by whoever knows what people write. What is read
 //! promises nothing: it is tried before it is told.
 
-use crate::commands::{COMMANDS, CommandRow};
+use crate::commands::{CHECK, CommandRow};
 use crate::given::number_in;
 use crate::meanings::{Fact, Meant, is_own_option, meaning_of, other_command, own_command};
 use crate::option_rows::{FORBID, IDS, OptionRow, RING, Values};
@@ -89,7 +89,7 @@ pub(crate) fn fact_without_command(words: &[String]) -> Option<Fact> {
         return Some(Fact::Text(row.fact));
     }
     match name_in(first) {
-        Some((name, _)) => match meaning_of(&COMMANDS[0], name) {
+        Some((name, _)) => match meaning_of(&CHECK, name) {
             Meant::Left(Some(fact)) => Some(fact),
             _ => Some(FIRST),
         },

@@ -29,7 +29,12 @@ pub(crate) enum Meant {
 
 /// Returns the command with this name.
 pub(crate) fn own_command(name: &str) -> Option<CommandRow> {
-    for row in &COMMANDS {
+    command_in(&COMMANDS, name)
+}
+
+// Returns the row of the command with this name.
+fn command_in(rows: &[CommandRow], name: &str) -> Option<CommandRow> {
+    for row in rows {
         if row.name.eq_ignore_ascii_case(name) {
             return Some(*row);
         }
@@ -39,7 +44,12 @@ pub(crate) fn own_command(name: &str) -> Option<CommandRow> {
 
 /// Returns the row of a name that other programs have for a command.
 pub(crate) fn other_command(name: &str) -> Option<OtherCommand> {
-    for row in &other_names::COMMANDS {
+    other_command_in(&other_names::COMMANDS, name)
+}
+
+// Returns the first row with a name.
+fn other_command_in(rows: &[OtherCommand], name: &str) -> Option<OtherCommand> {
+    for row in rows {
         if is_named(row.names, name) {
             return Some(*row);
         }
@@ -54,7 +64,12 @@ pub(crate) fn is_own_option(name: &str) -> bool {
 
 // Returns the name of the option that a command has by this name.
 fn own_option(name: &str) -> Option<&'static str> {
-    for row in &COMMANDS {
+    own_option_in(&COMMANDS, name)
+}
+
+// Returns the name of the option that one of these commands has by this name.
+fn own_option_in(rows: &[CommandRow], name: &str) -> Option<&'static str> {
+    for row in rows {
         if let Some(option) = option_of(row, name) {
             return Some(option.name);
         }
@@ -94,9 +109,9 @@ fn counts_at(row: &OtherName, command: &CommandRow) -> bool {
 
 // Returns the first row of a name that counts at a command: one with just this name, else one with the
 // name but for capitals.
-fn other_option(command: &CommandRow, name: &str) -> Option<OtherName> {
+fn other_option(rows: &[OtherName], command: &CommandRow, name: &str) -> Option<OtherName> {
     let mut alike = None;
-    for row in &other_names::OPTIONS {
+    for row in rows {
         if counts_at(row, command) {
             if row.names.contains(&name) {
                 return Some(*row);
@@ -114,7 +129,7 @@ pub(crate) fn meaning_of(command: &CommandRow, name: &str) -> Meant {
     if let Some(option) = option_of(command, name) {
         return Meant::Option(option, "", "");
     }
-    if let Some(row) = other_option(command, name) {
+    if let Some(row) = other_option(&other_names::OPTIONS, command, name) {
         return meaning_in(command, &row);
     }
     if let Some(own) = own_option(name) {
@@ -163,9 +178,8 @@ pub(crate) fn write_fact(out: &mut String, fact: &Fact) -> Result<(), AllocError
 }
 
 // Returns the number of commands that have an option.
-fn count_with(name: &str) -> usize {
-    COMMANDS
-        .iter()
+fn count_with(rows: &[CommandRow], name: &str) -> usize {
+    rows.iter()
         .filter(|row| option_of(row, name).is_some())
         .count()
 }
@@ -173,9 +187,14 @@ fn count_with(name: &str) -> usize {
 // Writes of which commands this is an option.
 fn write_option_of(out: &mut String, name: &str) -> Result<(), AllocError> {
     write!(out, "`--{name}` is an option of")?;
-    let count = count_with(name);
+    write_commands(out, &COMMANDS, name)
+}
+
+// Writes the names of the commands that have an option.
+fn write_commands(out: &mut String, rows: &[CommandRow], name: &str) -> Result<(), AllocError> {
+    let count = count_with(rows, name);
     let mut done = 0usize;
-    for row in &COMMANDS {
+    for row in rows {
         if option_of(row, name).is_some() {
             out.push_str(between(done, count))?;
             write_name(out, row.name)?;
