@@ -135,7 +135,7 @@ WRITTEN = [
         "check --ids 8",
         CV1.replace(b"left", b"lift"),
         r'{"kind":"fault","of":"text","code":"N3","at":57,"line":7,"column":6,"note":"nbhd: line 7, column 6: unknown word `lift`; '
-        r'expected `left`\n  send lift 0\n       ^\n"}',
+        r'expected `left`; write `left` in the place of `lift`\n  send lift 0\n       ^\n"}',
     ),
     (
         "table --ids 8",
