@@ -73,25 +73,37 @@ pub(crate) fn reads_as(
     if is_one_of("ite select mux choose cond iff", word) && is_applied {
         return Some((b"if", false));
     }
-    for row in &OPERATIONS {
+    match operation_in(&OPERATIONS, word) {
+        Some(operation) => Some(operation),
+        None if is_applied => None,
+        None => match value_in(&VALUES, word) {
+            Some(value) => Some((value, false)),
+            None => message_of(word),
+        },
+    }
+}
+
+// Returns the operation that a word stands for, and whether operands are exchanged.
+fn operation_in(
+    rows: &[(&str, &'static [u8], bool)],
+    word: &[u8],
+) -> Option<(&'static [u8], bool)> {
+    for row in rows {
         if is_one_of(row.0, word) {
             return Some((row.1, row.2));
         }
     }
-    if is_applied {
-        return None;
-    }
-    value_of(word)
+    None
 }
 
 // Returns the value that a word stands for.
-fn value_of(word: &[u8]) -> Option<(&'static [u8], bool)> {
-    for row in &VALUES {
+fn value_in(rows: &[(&str, &'static [u8])], word: &[u8]) -> Option<&'static [u8]> {
+    for row in rows {
         if is_one_of(row.0, word) {
-            return Some((row.1, false));
+            return Some(row.1);
         }
     }
-    message_of(word)
+    None
 }
 
 // Returns the message that a word with a side in it stands for.

@@ -68,8 +68,11 @@ const WORDS: [(&str, &[u8]); 9] = [
 ];
 
 // Returns the operation of a sign.
-fn signed(sign: &[u8]) -> Option<(&'static [u8], u32, bool)> {
-    for row in &SIGNS {
+fn signed(
+    rows: &[(&[u8], &'static [u8], u32, bool)],
+    sign: &[u8],
+) -> Option<(&'static [u8], u32, bool)> {
+    for row in rows {
         if sign == row.0 {
             return Some((row.1, row.2, row.3));
         }
@@ -77,14 +80,22 @@ fn signed(sign: &[u8]) -> Option<(&'static [u8], u32, bool)> {
     None
 }
 
-// Returns the sign of the tokens from one up to another, or the one that a word stands for.
-fn sign_of<'a>(tokens: Tokens<'a>, number: usize, end: usize) -> &'a [u8] {
-    for row in &WORDS {
-        if is_one_of(row.0, word_of(tokens, number)) {
-            return row.1;
+// Returns the sign that a word stands for.
+fn sign_in(rows: &[(&str, &'static [u8])], word: &[u8]) -> Option<&'static [u8]> {
+    for row in rows {
+        if is_one_of(row.0, word) {
+            return Some(row.1);
         }
     }
-    text_of(tokens, number, end)
+    None
+}
+
+// Returns the sign of the tokens from one up to another, or the one that a word stands for.
+fn sign_of<'a>(tokens: Tokens<'a>, number: usize, end: usize) -> &'a [u8] {
+    match sign_in(&WORDS, word_of(tokens, number)) {
+        Some(sign) => sign,
+        None => text_of(tokens, number, end),
+    }
 }
 
 // Returns the operator at a token.
@@ -101,7 +112,7 @@ pub(crate) fn operator_at<'a>(tokens: Tokens<'a>, number: usize) -> Option<Opera
     }
     let end = after_marks(tokens, number);
     let sign = sign_of(tokens, number, end);
-    let (name, level, is_turned) = signed(sign)?;
+    let (name, level, is_turned) = signed(&SIGNS, sign)?;
     Some(Operator {
         sign,
         name,
@@ -160,7 +171,15 @@ const POWERS: [(&[u8], &[u8], &[u8]); 8] = [
 
 // Returns the exponent of a power of two, and the number below it.
 fn power_of(number: &[u8]) -> Option<(&'static [u8], &'static [u8])> {
-    for row in &POWERS {
+    power_in(&POWERS, number)
+}
+
+// Returns the exponent of the power of two with these digits, and the number below it.
+fn power_in(
+    rows: &[(&[u8], &'static [u8], &'static [u8])],
+    number: &[u8],
+) -> Option<(&'static [u8], &'static [u8])> {
+    for row in rows {
         if number == row.0 {
             return Some((row.1, row.2));
         }
