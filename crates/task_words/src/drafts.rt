@@ -4,13 +4,11 @@
 use crate::commands::{CHECK, CommandRow};
 use crate::given::number_in;
 use crate::meanings::{Fact, Meant, is_own_option, meaning_of, other_command, own_command};
-use crate::option_rows::{FORBID, IDS, OptionRow, RING, Values};
-use crate::other_names::VERSION;
+use crate::option_rows::{FORBID, IDS, NEAR, OptionRow, PLACE, RING, Values};
+use crate::other_names::{LABELLING, VERSION};
 use std::alloc::{AllocError, Global};
 
-const EMPTY_WORD: Fact = Fact::Text(
-    "a word is empty, as of a variable without a value: leave it out",
-);
+const EMPTY_WORD: Fact = Fact::Text("a word is empty, as of a variable without a value");
 
 const ONE_COMMAND: Fact = Fact::Text("one command is given at a time");
 
@@ -94,6 +92,7 @@ pub(crate) fn fact_without_command(words: &[String]) -> Option<Fact> {
             _ => Some(FIRST),
         },
         None if begins_with_digit(first) || first.is_empty() => Some(FIRST),
+        None if first.contains('.') => Some(FILE),
         None => None,
     }
 }
@@ -295,7 +294,7 @@ impl<'a> Draft<'a> {
             self.tell(NEGATIVE);
         }
         match self.next {
-            Next::List if is_entry(text) || self.is_begun() => self.append_list(alloc, text),
+            Next::List if self.takes_entry(text) => self.append_list(alloc, text),
             Next::Value if !has_letter(text) => self.append(text),
             Next::Value => {
                 self.next = Next::Word;
@@ -303,7 +302,7 @@ impl<'a> Draft<'a> {
             }
             Next::Dropped => self.drop_word(),
             Next::Optional if is_entry(text) => self.drop_word(),
-            Next::Input => {
+            Next::Input if !self.takes_ids(text) => {
                 self.input = Some(text);
                 self.drop_word()
             }
@@ -315,12 +314,19 @@ impl<'a> Draft<'a> {
         }
     }
 
-    // Returns whether the last option has no part of its value yet.
-    fn is_begun(&self) -> bool {
-        match self.values.last() {
-            Some(last) => last.text.as_str().is_empty(),
-            None => false,
-        }
+    // Returns whether a word is a part of the list that is the value of the last option: its first one, or
+    // a number, but behind a list with commas none without.
+    fn takes_entry(&self, text: &str) -> bool {
+        let Some(last) = self.values.last() else {
+            return false;
+        };
+        let list = last.text.as_str();
+        list.is_empty() || (is_entry(text) && (has_comma(text) || is_open_list(list)))
+    }
+
+    // Returns whether a word is a number and the number of identifiers is not given.
+    fn takes_ids(&self, text: &str) -> bool {
+        begins_with_digit(text) && self.lacks(&IDS)
     }
 
     // Takes a word and reads the next one as a word of its own.
@@ -344,6 +350,10 @@ impl<'a> Draft<'a> {
     fn read_stray(&mut self, alloc: Global, text: &'a str) -> Result<(), AllocError> {
         if begins_with_digit(without_dashes(text)) {
             return self.read_number(alloc, text);
+        }
+        if text.starts_with("L(") {
+            self.tell(Fact::Text(LABELLING));
+            return self.begin(alloc, NEAR, without_letters(text));
         }
         if !is_file_name(text) {
             self.is_whole = false;
@@ -374,6 +384,9 @@ impl<'a> Draft<'a> {
     fn read_number(&mut self, alloc: Global, text: &str) -> Result<(), AllocError> {
         if !has_comma(text) && self.lacks(&IDS) {
             return self.begin(alloc, IDS, text);
+        }
+        if !has_comma(text) && self.lacks(&PLACE) && !self.lacks(&RING) {
+            return self.begin(alloc, PLACE, text);
         }
         if self.lacks(&RING) {
             self.tell(Fact::Text("a ring is given by `--ring`"));
@@ -481,6 +494,20 @@ fn has_letter(text: &str) -> bool {
         .any(|byte| byte.is_ascii_alphanumeric() || byte == b'*')
 }
 
+// Returns whether a list has no comma yet, or ends with one.
+fn is_open_list(list: &str) -> bool {
+    !has_comma(list) || list.ends_with(',')
+}
+
+// Returns a word without its first letters and the brackets around it.
+fn without_letters(text: &str) -> &str {
+    text.trim_matches(is_letter_or_bracket)
+}
+
+fn is_letter_or_bracket(letter: char) -> bool {
+    letter.is_ascii_alphabetic() || letter == '(' || letter == ')'
+}
+
 // Returns whether a word is a number below 0, or a list that begins with one.
 fn is_negative(text: &str) -> bool {
     match text.strip_prefix('-') {
@@ -527,8 +554,25 @@ fn name_in(text: &str) -> Option<(&str, &str)> {
     if name.is_empty() || begins_with_digit(name) {
         return None;
     }
-    if bare.len() < text.len() || is_own_option(name) {
-        return Some((name, value));
+    if bare.len() < text.len() {
+        return Some(short_name_in(bare).unwrap_or((name, value)));
+    }
+    let own = name.trim_start_matches('/');
+    if is_own_option(own) || is_letter(own) {
+        return Some((own, value));
     }
     None
+}
+
+// Returns a name of one letter and the digits behind it.
+fn short_name_in(text: &str) -> Option<(&str, &str)> {
+    match text.as_bytes() {
+        [b'A'..=b'Z' | b'a'..=b'z', b'0'..=b'9', ..] => text.split_at_checked(1),
+        _ => None,
+    }
+}
+
+// Returns whether a word is one letter.
+fn is_letter(text: &str) -> bool {
+    matches!(text.as_bytes(), [b'A'..=b'Z' | b'a'..=b'z'])
 }

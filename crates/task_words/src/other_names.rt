@@ -71,7 +71,7 @@ pub(crate) const VERSION: &str = "the first line of `nbhd --help` has the versio
 
 const IN_TABLE: &str = "the numbers of a table are in its text";
 
-const LABELLING: &str = "L(2,1) is `--near 2 --far 1`";
+pub(crate) const LABELLING: &str = "L(2,1) is `--near 2 --far 1`";
 
 const PROBLEMS: &str =
     "a problem is given by its name, as in `--problem mis`, or by its patterns, as in `--forbid 1,1`";
@@ -84,11 +84,12 @@ const IN_PROGRAM: &str =
     "a program says its rounds and channels; those of a formula are given by `--rounds` and `--channels`";
 
 /// Names in place of options. The first row that fits counts.
-pub(crate) const OPTIONS: [OtherName; 39] = [
+pub(crate) const OPTIONS: [OtherName; 40] = [
     option!(["version", "v"] at ["migrate"] => Meaning::Nothing, "`nbhd migrate` prints a table in the newest version"),
     option!(["version", "V"] => Meaning::Nothing, VERSION),
     option!(["help", "?"] => Meaning::Nothing, HELP),
     option!(["ids", "rounds", "channels", "near", "far", "n", "m"] at ["audit", "apply", "migrate"] => Meaning::Nothing, IN_TABLE),
+    option!(["node", "id"] at ["explain"] => Meaning::Nothing, "the node that is explained is given by its place in the ring, as in `--place 0`"),
     option!(["n", "m", "size", "max", "num", "count", "id", "number", "identifiers", "nodes"] =>
         Meaning::OneOf(&["ids"]), "the number of identifiers is given by `--ids`"),
     option!(["r", "cycle"] => Meaning::OneOf(&["ring"]), "a ring is given by `--ring`"),
@@ -98,6 +99,7 @@ pub(crate) const OPTIONS: [OtherName; 39] = [
     option!(["w", "j", "threads", "jobs", "parallel", "cores", "cpus", "processes", "nthreads"] =>
         Meaning::OneOf(&["workers"]), "the number of threads is given by `--workers`, of `table`, `judge` and `plan`"),
     option!(["l21"] => Meaning::Value("near", "2,1"), LABELLING),
+    option!(["p"] at ["table", "judge", "formula", "refute"] => Meaning::OneOf(&["near"]), LABELLING),
     option!(["l", "lambda", "distance", "separation"] => Meaning::OneOf(&["near"]), LABELLING),
     option!(["mis", "independent-set", "maximal-independent-set"] => Meaning::Value("problem", "mis"), PROBLEMS),
     option!(["matching", "maximal-matching"] => Meaning::Value("problem", "matching"), PROBLEMS),
@@ -108,8 +110,7 @@ pub(crate) const OPTIONS: [OtherName; 39] = [
     option!(["bits", "binary", "bin"] => Meaning::Value("base", "2"), "numbers are printed in another base by `--base`"),
     option!(["octal"] => Meaning::Value("base", "8"), "numbers are printed in another base by `--base`"),
     option!(["radix", "b"] => Meaning::OneOf(&["base"]), "numbers are printed in another base by `--base`"),
-    option!(["hex", "hexadecimal"] => Meaning::Nothing, "numbers are printed in a base from 2 to 10"),
-    option!(["node"] at ["explain"] => Meaning::Nothing, "the node that is explained is given by its place in the ring, as in `--place 0`"),
+    option!(["hex", "hexadecimal"] => Meaning::Nothing, "numbers are printed in a base from 2 to 10, by `--base`"),
     option!(["pos", "position", "index", "at", "p"] at ["explain"] =>
         Meaning::OneOf(&["place"]), "the node that is explained is given by its place in the ring"),
     option!(["json", "yaml", "csv", "xml", "fmt", "format"] at ["formula"] =>
