@@ -27,8 +27,10 @@ export function noReport(answer) {
   return { kind: "silent", note: ["nbhd printed no report", said].filter(Boolean).join(": ") };
 }
 
-/** The sentences of a note on standard error, without the line of a text that it shows. */
-export const sentencesOf = (note = "") => note.split("\n").flatMap((line) => line.match(/^(?:nbhd|error): (.*)$/)?.[1] ?? []);
+/** The sentences of a note on standard error, without the line of a text that it shows, and without words for a shell. */
+export const sentencesOf = (note = "") => note.split("\n").flatMap((line) => line.match(SENTENCE)?.[1] || []);
+
+const SENTENCE = /^(?:nbhd|error): (.*?)(?:; )?(?:write `nbhd .*`)?$/;
 
 /** The signal that ended nbhd, or 0: its status is negative, or above 128 where a shell has started nbhd. */
 const signalOf = ({ status = 0 }) => (status < 0 ? -status : Math.max(status - 128, 0));

@@ -48,10 +48,11 @@ def kind_of(line):
 
 def note_of(text, *words):
     """The place and the sentence of the note that the program tells on standard error, each empty without one. A note without a
-    place may have more lines, which the page joins."""
+    place may have more lines, which the page joins, but for one with words for a shell."""
     ran = subprocess.run([PROGRAM, *words], input=text.encode(), stdout=subprocess.DEVNULL, stderr=subprocess.PIPE)
     first, *more = ran.stderr.decode(errors="replace").splitlines() or [""]
     found = re.match(r"nbhd: (?:(line \d+, column \d+): )?(.*)", first)
     if not found or found[1]:
         return (found[1], found[2]) if found else ("", "")
-    return "", " – ".join([found[2], *(line.removeprefix("nbhd: ") for line in more)])
+    lines = [found[2], *(line.removeprefix("nbhd: ") for line in more)]
+    return "", " – ".join(line for line in lines if not line.startswith("write `nbhd "))
