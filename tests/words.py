@@ -789,7 +789,7 @@ BAD_DEMANDS = [
         for name in ["none", "mi", "mis,matching", "weak", "1,1"]
     ),
     ("audit --problem MIS", UNKNOWN_PROBLEM + "nbhd: write `nbhd audit --problem mis`\n"),
-    (["judge", "--ids", "8", "--problem", ""], UNKNOWN_PROBLEM + "nbhd: a word is empty, as of a variable without a value: leave it out\n"),
+    (["judge", "--ids", "8", "--problem", ""], UNKNOWN_PROBLEM + "nbhd: a word is empty, as of a variable without a value\n"),
     *(
         (f"judge --ids 8 {line}", TWO_DEMANDS)
         for line in [
@@ -965,7 +965,7 @@ numbers are printed in another base by `--base`
   trace --ids 8 --ring 5,1,3,7 --binary => trace --ids 8 --ring 5,1,3,7 --base 2
   trace --ids 8 --ring 5,1,3,7 --bin => trace --ids 8 --ring 5,1,3,7 --base 2
   trace --ids 8 --ring 5,1,3,7 --radix =>
-numbers are printed in a base from 2 to 10
+numbers are printed in a base from 2 to 10, by `--base`
   trace --ids 8 --ring 5,1,3,7 --hex => trace --ids 8 --ring 5,1,3,7
 the node that is explained is given by its place in the ring, as in `--place 0`
   explain --ids 8 --ring 5,1,3,7 --node 0 =>
@@ -1088,7 +1088,7 @@ a pattern of channels is given by `--forbid`
   judge --ids 8 1,1 => judge --ids 8 --forbid 1,1
   audit 1,1 => audit --forbid 1,1
   refute --ids 4 --rounds 0 --channels 2 1,1 => refute --ids 4 --rounds 0 --channels 2 --forbid 1,1
-a word is empty, as of a variable without a value: leave it out
+a word is empty, as of a variable without a value
   check --ids 8  => check --ids 8
 one command is given at a time
   audit migrate => audit

@@ -351,6 +351,10 @@ impl<'a> Draft<'a> {
         if begins_with_digit(without_dashes(text)) {
             return self.read_number(alloc, text);
         }
+        let (name, value) = parts_of(text);
+        if is_letter(name) {
+            return self.read_name(alloc, name, value);
+        }
         if text.starts_with("L(") {
             self.tell(Fact::Text(LABELLING));
             return self.begin(alloc, NEAR, without_letters(text));
@@ -555,19 +559,20 @@ fn name_in(text: &str) -> Option<(&str, &str)> {
         return None;
     }
     if bare.len() < text.len() {
-        return Some(short_name_in(bare).unwrap_or((name, value)));
+        return Some(short_name_in(text).unwrap_or((name, value)));
     }
     let own = name.trim_start_matches('/');
-    if is_own_option(own) || is_letter(own) {
+    if is_own_option(own) {
         return Some((own, value));
     }
     None
 }
 
-// Returns a name of one letter and the digits behind it.
+// Returns a name of one letter behind one minus sign, and the digits behind it.
 fn short_name_in(text: &str) -> Option<(&str, &str)> {
-    match text.as_bytes() {
-        [b'A'..=b'Z' | b'a'..=b'z', b'0'..=b'9', ..] => text.split_at_checked(1),
+    let bare = text.strip_prefix('-')?;
+    match bare.as_bytes() {
+        [b'A'..=b'Z' | b'a'..=b'z', b'0'..=b'9', ..] => bare.split_at_checked(1),
         _ => None,
     }
 }
