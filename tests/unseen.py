@@ -104,7 +104,7 @@ TABLE_PARTS = [
     (
         "nbhd-table 2\nrounds 0 ids 3 channels 3 near 1 far 0\n0 : 0\n1 : 1\n2 : 2\nend\n",
         "{\"rounds\": 0}",
-        "nbhd-table",
+        "this looks like JSON",
     ),
     (
         "nbhd-table 2\nrounds 0 ids 3 channels 3 near 1 far 0\n0 : 0\n1 : 1\n2 : 2",
@@ -362,12 +362,10 @@ LINES = [
     ("--judge --ids 8", "write `nbhd judge --ids 8`"),
     ("-check --ids 8", "write `nbhd check --ids 8`"),
     ("migrate --to 1", "write `nbhd migrate`"),
-    ("audit --workers 4", "`nbhd audit` has no such option"),
     ("audit -j 4", "write `nbhd audit`"),
     ("judge --ids:8 --near:2", "write `nbhd judge --ids 8 --near 2`"),
     ("run --ids 8 --ring 5,1,3,7 --workers 4", "write `nbhd run --ids 8 --ring 5,1,3,7 --segments 4`"),
     ("table --ids 8 --segments 2", "write `nbhd table --ids 8 --workers 2`"),
-    ("plan --ids 8 --ring 5,1,3,7 --segments 2", "an option of `run`", "`--workers 4`"),
     ("check --ids= 8", "write `nbhd check --ids 8`"),
     ("check --ids =8", "write `nbhd check --ids 8`"),
     ("check --ids = 8", "write `nbhd check --ids 8`"),
