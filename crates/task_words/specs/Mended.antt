@@ -1,4 +1,4 @@
--- Words that were probably meant by refused ones.
+-- Corrected words in place of refused ones.
 use Rattle.std.specs.Prelude.{◌≡◌, ◌||◌, Bool, true, List, [], ◌∷◌, map, not, bytes_eq}
 use Rattle.std.specs.List.{list_any}
 use Rattle.clap.specs.Words.{Text}

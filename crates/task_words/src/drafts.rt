@@ -1,5 +1,5 @@
-//! Refused words read as a command and its options by whoever knows what people write. What is read
-//! promises nothing: it is tried before it is told.
+//! A lenient parser of refused words. It promises nothing: its result is parsed strictly before it is
+//! printed.
 
 use crate::commands::{CHECK, CommandRow};
 use crate::given::number_in;
@@ -67,7 +67,7 @@ pub(crate) struct Draft<'a> {
     pub(crate) values: Vec<Given>,
     pub(crate) input: Option<&'a str>,
     pub(crate) output: Option<&'a str>,
-    /// What there is to know of the first word that is not as it should be.
+    /// The fact on the first wrong word.
     pub(crate) fact: Option<Fact>,
     /// Whether each word was understood.
     pub(crate) is_whole: bool,
@@ -146,14 +146,14 @@ impl<'a> Draft<'a> {
         }
     }
 
-    // Notes what there is to know, unless something is noted.
+    // Sets the fact, unless there is one.
     fn tell(&mut self, fact: Fact) {
         if self.fact.is_none() {
             self.fact = Some(fact);
         }
     }
 
-    // Notes what there is to know of the word that names the command.
+    // Sets the fact on the word that names the command.
     fn tell_of_command(&mut self, word: &str) {
         if let Some(row) = other_command(word) {
             self.tell(Fact::Text(row.fact));
@@ -169,7 +169,7 @@ impl<'a> Draft<'a> {
                 .any(|given| given.option.name == option.name)
     }
 
-    // Returns what there is to know of the first number that is none.
+    // Returns the fact on the first value that has to be a number and is none.
     pub(crate) fn number_fact(&self) -> Option<Fact> {
         for given in &self.values {
             let text = given.text.as_str();

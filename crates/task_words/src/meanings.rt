@@ -6,7 +6,7 @@ use crate::other_names::{self, Meaning, OtherCommand, OtherName};
 use std::alloc::AllocError;
 use std::fmt::Write;
 
-/// What there is to know of refused words.
+/// A fact that explains refused words.
 #[derive(Clone, Copy)]
 pub(crate) enum Fact {
     Text(&'static str),
@@ -16,7 +16,7 @@ pub(crate) enum Fact {
     TakesNumber(OptionRow),
 }
 
-/// What a name in place of an option means. A text tells what there is to know, if it is not empty.
+/// What a name in place of an option means. A text is a fact, or empty.
 #[derive(Clone, Copy)]
 pub(crate) enum Meant {
     /// An option, and its value if the name has one.
@@ -168,7 +168,7 @@ fn first_option(command: &CommandRow, names: &[&str]) -> Option<OptionRow> {
     None
 }
 
-/// Writes what there is to know.
+/// Writes a fact.
 pub(crate) fn write_fact(out: &mut String, fact: &Fact) -> Result<(), AllocError> {
     match fact {
         Fact::Text(text) => out.push_str(text),

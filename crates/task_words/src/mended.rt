@@ -1,4 +1,4 @@
-//! Advice on refused words: what there is to know, and the words that were probably meant.
+//! Advice on refused words: a fact, and corrected words.
 
 ghost use Rattle.std.specs.List.{list_any};
 ghost use Rattle.std.specs.Prelude.{◌≡◌, IfOk, IfSome, bytes_eq, is_ok, map, string_bytes, true};
@@ -17,9 +17,8 @@ use std::fmt::Write;
 // The maximum number of words that are told.
 const MOST_WORDS: usize = 40;
 
-/// Returns words that were probably meant by these, which are refused, or `None` if they are not known:
-/// words that request a task, of the same command where the first word is the name of one. Fails if
-/// memory was refused.
+/// Returns corrected words in place of refused ones, or `None` if none are found: words that request a
+/// task, of the same command where the first word is the name of one. Fails if memory was refused.
 pub fn mended_words(alloc: Global, words: &[String]) -> Result<Option<Vec<String>>, AllocError>
     ensures { IfOk result (λ found. IfSome found (λ mended. IsMended (map string_bytes words.now) (map string_bytes mended.items))) }
 {
@@ -29,7 +28,7 @@ pub fn mended_words(alloc: Global, words: &[String]) -> Result<Option<Vec<String
     }
 }
 
-// Returns the words of a draft of these if they are what was probably meant.
+// Returns the words of a draft of these if they request a task of the same command.
 fn mended_of(
     alloc: Global,
     words: &[String],
@@ -115,14 +114,14 @@ fn words_of(alloc: Global, draft: &Draft<'_>) -> Result<Option<Vec<String>>, All
     Ok(None)
 }
 
-/// Returns the line on words that are refused: what there is to know of them, and the words that were
-/// probably meant, or `None` if neither is known. Fails if memory was refused.
+/// Returns the advice on refused words in a line: a fact, and the corrected words, or `None` if there is
+/// neither. Fails if memory was refused.
 pub(crate) fn advice_line(alloc: Global, words: &[String]) -> Result<Option<String>, AllocError> {
     let Some((command, at)) = command_in(words) else {
         return fact_line(alloc, fact_without_command(words));
     };
     let draft = draft_of(alloc, command, at, words)?;
-    match mended_of(alloc, words, &draft)? {
+    match mended_words(alloc, words)? {
         Some(mended) => Ok(Some(line_of(alloc, &draft, &mended)?)),
         None => fact_line(alloc, draft.fact.or(draft.number_fact())),
     }

@@ -22,7 +22,7 @@ pub(crate) struct OtherName {
     /// The commands at which the row counts, or none if it counts at each.
     pub(crate) commands: &'static [&'static str],
     pub(crate) meaning: Meaning,
-    /// What there is to know, or an empty text.
+    /// A fact, or an empty text.
     pub(crate) fact: &'static str,
 }
 
@@ -32,7 +32,7 @@ pub(crate) struct OtherCommand {
     pub(crate) names: &'static [&'static str],
     /// The command that is meant, or an empty text if none is.
     pub(crate) command: &'static str,
-    /// What there is to know.
+    /// A fact.
     pub(crate) fact: &'static str,
 }
 

@@ -53,8 +53,8 @@ fn after_name(words: &[String]) -> &[String]
     }
 }
 
-/// Prints the fault of the words to standard error, and what there is to know of it: its cause, and the
-/// words that were probably meant if they are known. Control characters of the words are escaped.
+/// Prints the fault of the words to standard error, with its cause, and advice: a fact, and the corrected
+/// words if they are known. Control characters of the words are escaped.
 /// Returns the exit status.
 pub fn print_words_fault<T: AllocGlobal + Env + Eprint>(rt: &T, fault: &WordsFault) -> u8
     ensures { result ≡ words_fault_code fault.now }
@@ -66,7 +66,7 @@ pub fn print_words_fault<T: AllocGlobal + Env + Eprint>(rt: &T, fault: &WordsFau
     fault.code()
 }
 
-// Prints the fault of these words, and what there is to know of it.
+// Prints the fault of these words, with its cause and advice.
 fn print_with_advice<T: AllocGlobal + Eprint>(rt: &T, fault: &WordsFault, words: &[String]) {
     let alloc = rt.alloc();
     let advice = match has_advice(fault) {
