@@ -1,3 +1,4 @@
 pub mod Left
 pub mod OfInput
+pub mod Tasks
 pub mod Workers

@@ -1,7 +1,7 @@
 -- Each task finds something on each input.
-use Rattle.std.proofs.Common.{◌≢◌, ℕ, ◌<◌, ◌≤◌, List, length, Option, Some, None, inl, inr, refl}
+use Rattle.std.proofs.Common.{◌≢◌, ℕ, ◌<◌, ◌≤◌, List, length, inl, inr, refl}
 use Rattle.std.proofs.lemmas.Bool.{cases_lt}
-use Rattle.std.specs.Prelude.{◌⊎◌, map}
+use Rattle.std.specs.Prelude.{◌⊎◌, ⊤, map}
 use Rattle.std.specs.List.{range_with_len}
 use Rattle.node_program.specs.Term.{ProgramTree}
 use Rattle.node_program.specs.GlobalRounds.{channels_of}
@@ -13,18 +13,14 @@ use Rattle.win_index.specs.Ring.{IsRing}
 use Rattle.border_exchange.specs.SegmentCounts.{IsSegmentCount}
 use Rattle.channel_tables.specs.Tables.{ChannelTable}
 use Rattle.channel_tables.specs.declared.separation.Separation.{Separation}
-use Rattle.table_fill.specs.ProgramTables.{table_of}
-use Rattle.task_words.specs.declared.task.Task.TheVariants.{Check, Print, Table, Judge, Run, Trace, Explain, Plan, Audit, Apply, Migrate, Formula, Refute}
 use Rattle.reports.specs.Findings.{Fault, of_text, of_program, of_ring, of_place, of_segments, of_table_text, of_formula, of_refutation, Finding, refused}
 use Rattle.reports.specs.Findings as value
 use Rattle.numerals.specs.declared.base.Base.{Base}
 use Rattle.reports.specs.Laws.{TablesHaveChannels}
 use Rattle.ring_problems.specs.declared.pattern.Pattern.{Pattern}
-use Rattle.ring_problems.specs.declared.problem.Demand.{Demand}
-use Rattle.ring_problems.specs.declared.problem.Demand.TheVariants.{Apart, Solve}
 use Rattle.ring_problems.specs.declared.problem.Problem.{Problem as Posed}
 use Rattle.ring_problems.specs.Demands.{patterns_of}
-use Rattle.reports.specs.Report.{Finds, IsRefusedOr, told, answered, IsJudgement, good, bad, IsProblemJudgement, solved, broken, IsDemandJudgement, IsAudit, IsAnswerOnRing, IsRunAnswer, IsExplainAnswer, IsTextRefusal, IsPrintReport, text_fault, check_fault, IsProgramReport, IsTableReport, IsOnRingByTable}
+use Rattle.reports.specs.Report.{Finds, IsRefusedOr, told, answered, IsJudgement, good, bad, IsProblemJudgement, solved, broken, IsAnswerOnRing, IsRunAnswer, IsExplainAnswer, IsTextRefusal, IsPrintReport, text_fault, check_fault, IsProgramReport, IsTableReport, IsOnRingByTable}
 use Rattle.table_formula.specs.Problems.{Problem}
 use Rattle.table_formula.specs.Refutations.{IsRefutation, IsFault as IsFormulaFault}
 use Rattle.table_formula.specs.declared.fault.RefuteError.{RefuteError}
@@ -32,6 +28,7 @@ use Rattle.table_formula.specs.declared.fault.RefuteError.TheVariants as refute
 use Rattle.table_formula.specs.RefutationLaws.{EachTextHasAVerdict}
 use Rattle.reports.specs.FormulaReports.{IsFormulaRefusal, IsNoRefutation}
 use Rattle.reports.specs.ProblemFaults.{HasFormula, problem as numbered}
+use Rattle.plan_print.proofs.Tasks.{AreFew, by_task}
 use Rattle.report_laws.specs.Laws.{EachTaskHasAReport}
 use Rattle.report_laws.proofs.FormulaAnswers.{FormulaAnswer, formula_answer}
 use Rattle.report_laws.proofs.TextAnswers.{TextAnswer, text_answer}
@@ -74,12 +71,12 @@ module _ (readable : ReadTextsAreReadable) (stops : ReadingStopsAtFirstFault) (n
       go (inl read) = answer _ _ (value.program read.0, (read.0, read.1, refl))
       go (inr met) = tell _ _ (text_refusal input met)
 
-  on_program : (m : ℕ) (is : ProgramTree → Finding → Type 0) → ((p : ProgramTree) → Some-finding (is p)) → (input : List ℕ)
+  on_program : (m : ℕ) (is : ProgramTree → Finding → Type 0) → ((p : ProgramTree) → AreFew (length p.steps) m → Some-finding (is p)) → (input : List ℕ)
       → Some-finding (IsProgramReport m is input)
   on_program m is each input = go (text_answer readable stops input)
     where
       of_program' : (p : ProgramTree) → Reads input p → ProgramAnswer m p → Some-finding (IsProgramReport m is input)
-      of_program' p reads (inl accepted) = let some = each p in answer _ _ (some.0, (p, reads, accepted, some.1))
+      of_program' p reads (inl accepted) = let some = each p (reads.limits.rounds, accepted.shape.ids.few) in answer _ _ (some.0, (p, reads, accepted, some.1))
       of_program' p reads (inr met) = tell _ _ (of_program p m met.0, check_fault p met.0 reads met.1 refl)
 
       go : TextAnswer input → Some-finding (IsProgramReport m is input)
@@ -117,20 +114,14 @@ module _ (readable : ReadTextsAreReadable) (stops : ReadingStopsAtFirstFault) (n
       go (solves is) = (_, solved is refl)
       go (breaks ring place channels pattern is) = (_, broken ring place channels pattern is refl)
 
-  on_demand : (t : ChannelTable) (demand : Demand) → Some-finding (IsDemandJudgement t demand)
-  on_demand t (Apart s) = on_judgement t s
-  on_demand t (Solve problem) = on_problem t problem
-
-  on_audit : (problem : Option Posed) (t : ChannelTable) (s : Separation) → Some-finding (IsAudit problem t s)
-  on_audit None t s = on_judgement t s
-  on_audit (Some problem) t s = on_problem t problem
-
-  on_table : (is : ChannelTable → Separation → Finding → Type 0) → ((t : ChannelTable) (s : Separation) → Some-finding (is t s)) → (input : List ℕ)
+  on_table : (is : ChannelTable → Separation → Finding → Type 0) → ((t : ChannelTable) (s : Separation) → AreFew t.rounds t.ids → Some-finding (is t s)) → (input : List ℕ)
       → Some-finding (IsTableReport is input)
   on_table is each input = go (table_answer input)
     where
       go : TableAnswer input → Some-finding (IsTableReport is input)
-      go (is_text t s text) = let some = each t s in answer _ _ (some.0, (t, s, text, some.1))
+      go (is_text t s text) =
+          let begun = text.1.table.begun in
+          let some = each t s (begun.few_rounds, begun.shape.ids.few) in answer _ _ (some.0, (t, s, text, some.1))
       go (has_fault f known first) = tell _ _ (of_table_text f, record { what = f; known = known; first = first; is = refl })
 
   by_table : (t : ChannelTable) (x : List ℕ) → IsRing t.ids t.rounds x → Some-finding (IsOnRingByTable t x)
@@ -152,20 +143,18 @@ module _ (readable : ReadTextsAreReadable) (stops : ReadingStopsAtFirstFault) (n
   on_refutation p input (inr met) = tell _ _ (of_refutation met.0, record { what = met.0; known = met.1; first = met.2; is = refl })
 
   pub each_task_has_a_report : EachTaskHasAReport
-  each_task_has_a_report (Check m) input = on_program m _ (λ p. the _) input
-  each_task_has_a_report Print input = on_print input
-  each_task_has_a_report (Table m workers near far) input = on_program m _ (λ p. the _) input
-  each_task_has_a_report (Judge m workers demand) input = on_program m _ (λ p. on_demand (table_of p m) demand) input
-  each_task_has_a_report (Run m ring segments) input =
-      let x = ring.items in on_program m _ (λ p. on_list m (length p.steps) x _ (λ _. on_run p x segments (segments_answer segments (length x)))) input
-  each_task_has_a_report (Trace m ring base) input = on_program m _ (λ p. on_list m (length p.steps) ring.items _ (λ _. the _)) input
-  each_task_has_a_report (Explain m ring place base) input =
-      let x = ring.items in on_program m _ (λ p. on_list m (length p.steps) x _ (λ _. on_place base p x place (cases_lt place (length x)))) input
-  each_task_has_a_report (Plan m ring workers) input = on_program m _ (λ p. on_list m (length p.steps) ring.items _ (λ _. the _)) input
-  each_task_has_a_report (Audit problem) input = on_table (IsAudit problem) (on_audit problem) input
-  each_task_has_a_report (Apply ring) input =
-      on_table _ (λ t s. on_list t.ids t.rounds ring.items _ (by_table t ring.items)) input
-  each_task_has_a_report Migrate input = on_table _ (λ t s. the _) input
-  each_task_has_a_report (Formula m t channels demand) input = on_formula (numbered m t channels demand) _ (the _)
-  each_task_has_a_report (Refute m t channels demand) input =
-      let p = numbered m t channels demand in on_formula p _ (on_refutation p input (verdict p input))
+  each_task_has_a_report task input =
+      by_task (λ task. ⊤) input Some-finding
+      (λ value of. the value)
+      (λ t s few. on_judgement t s)
+      on_problem
+      (λ p x segments. on_run p x segments (segments_answer segments (length x)))
+      (λ b p x place. on_place b p x place (cases_lt place (length x)))
+      by_table
+      (λ m t x is few. on_list m t x is)
+      (λ m is each. on_program m is each input)
+      (λ is each. on_table is each input)
+      (on_print input)
+      (λ m t channels demand known. on_formula (numbered m t channels demand) _ (the _))
+      (λ m t channels demand known. let p = numbered m t channels demand in on_formula p _ (on_refutation p input (verdict p input)))
+      task tt

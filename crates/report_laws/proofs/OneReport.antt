@@ -1,7 +1,9 @@
 -- A task finds at most one thing on an input.
-use Rattle.std.proofs.Common.{◌≡◌, ℕ, ◌<◌, ◌≤◌, List, [], length, Option, Some, None, ap, subst, sym, ◌∙◌, refl, append-nil, arith}
+use Rattle.std.specs.Prelude.{⊤}
+use Rattle.std.proofs.Common.{◌≡◌, ℕ, ◌<◌, ◌≤◌, List, [], length, ap, subst, sym, ◌∙◌, refl, append-nil, arith}
 use Rattle.node_program.specs.Term.{ProgramTree}
 use Rattle.node_lang.specs.Laws.{OneReading, OneTextFault}
+use Rattle.win_index.specs.Ring.{IsRing}
 use Rattle.win_index.specs.Laws.{OneRingFault, RingsHaveNoFault}
 use Rattle.node_lang.specs.Grammar.{Reads}
 use Rattle.lang_check.specs.Acceptance.{IsAccepted}
@@ -15,18 +17,14 @@ use Rattle.lang_check.specs.Laws.{OneRefusal, AcceptedProgramsHaveNoRefusal}
 use Rattle.channel_tables.specs.declared.separation.Separation.{Separation}
 use Rattle.channel_tables.specs.Laws.{OneWitness, ApartTablesHaveNoWitness}
 use Rattle.numerals.specs.declared.base.Base.{Base}
-use Rattle.task_words.specs.declared.task.Task.{Task}
-use Rattle.task_words.specs.declared.task.Task.TheVariants.{Check, Print, Table, Judge, Run, Trace, Explain, Plan, Audit, Apply, Migrate, Formula, Refute}
 use Rattle.reports.specs.Findings.{Fault, of_text, of_program, of_ring, of_table_text, of_formula, of_refutation, Finding, refused}
 use Rattle.reports.specs.Findings as value
 use Rattle.reports.specs.Laws.{OneListOfChannels}
-use Rattle.ring_problems.specs.declared.problem.Demand.{Demand}
-use Rattle.ring_problems.specs.declared.problem.Demand.TheVariants.{Apart, Solve}
 use Rattle.ring_problems.specs.declared.problem.Problem.{Problem as Posed}
 use Rattle.ring_problems.specs.Demands.{known_in, patterns_of}
 use Rattle.ring_problems.specs.Idle.{idle_in}
 use Rattle.ring_problems.specs.Laws.{OneWitness as OneProblemWitness, SolvedTablesHaveNoWitness}
-use Rattle.reports.specs.Report.{Finds, IsRefusedOr, told, answered, IsJudgement, good, bad, IsProblemJudgement, solved, broken, IsDemandJudgement, IsAudit, IsAnswerOnRing, IsRunAnswer, IsExplainAnswer, IsTextRefusal, IsPrintReport, IsProgramRefusal, text_fault, check_fault, IsProgramReport, IsOnRingByTable, IsTableRefusal, IsTableReport}
+use Rattle.reports.specs.Report.{Finds, IsRefusedOr, told, answered, IsJudgement, good, bad, IsProblemJudgement, solved, broken, IsAnswerOnRing, IsRunAnswer, IsExplainAnswer, IsTextRefusal, IsPrintReport, IsProgramRefusal, text_fault, check_fault, IsProgramReport, IsOnRingByTable, IsTableRefusal, IsTableReport}
 use Rattle.table_formula.specs.Problems.{Problem}
 use Rattle.table_formula.specs.Refutations.{IsRefutation}
 use Rattle.table_formula.specs.RefutationLaws.{OneRefutationFault, RefutationsAreRight}
@@ -34,7 +32,7 @@ use Rattle.reports.specs.FormulaReports.{IsFormulaRefusal, IsNoRefutation}
 use Rattle.reports.specs.ProblemFaults.{HasFormula, IsProblemFault, problem as numbered}
 use Rattle.reports.specs.declared.problem.ProblemFault.{ProblemFault}
 use Rattle.reports.specs.declared.problem.ProblemFault.TheVariants.{IdsOutOfRange, TooManyWindows, TooManyVariables, TooManyClauses}
-use Rattle.plan_print.specs.TaskReport.{IsReport}
+use Rattle.plan_print.proofs.Tasks.{AreFew, by_task}
 use Rattle.report_laws.specs.Laws.{OneReport}
 
 -- at most one is so
@@ -72,11 +70,11 @@ one_problem_judgement one no_witness t problem f g (broken ring i c p witness is
     is ∙ (λ k. value.broken (same.0 k) (same.1 k) (same.2 k) (same.3 k) (known_in problem) (idle_in (patterns_of problem) t.channels)) ∙ sym is'
 
 -- there is one finding on a list of identifiers, if there is one on a ring
-one_on_ring : OneRingFault → RingsHaveNoFault → (m t : ℕ) (x : List ℕ) (found : Finding → Type 0) → IsOne found
+one_on_ring : OneRingFault → RingsHaveNoFault → (m t : ℕ) (x : List ℕ) (found : Finding → Type 0) → (IsRing m t x → IsOne found)
     → IsOne (IsAnswerOnRing m t x found)
 one_on_ring one no_fault m t x found each =
     one_of_two _ _ (λ a b p q. p.is ∙ ap (of_ring m t x) (one m t x p.what q.what p.first q.first) ∙ sym q.is)
-    (λ fault f none said. no_fault m t x none.what said.0 none.first) (λ f g p q. each f g p.1 q.1)
+    (λ fault f none said. no_fault m t x none.what said.0 none.first) (λ f g p q. each p.0 f g p.1 q.1)
 
 one_run : (p : ProgramTree) (x : List ℕ) (segments : ℕ) → IsOne (IsRunAnswer p x segments)
 one_run p x segments =
@@ -128,12 +126,12 @@ accepted_or_refused one_reading no_refusal m input fault p reads accepted (check
 
 -- there is one finding on a program text, if there is one on each program
 one_program_report : OneReading → OneTextFault → OneRefusal → AcceptedProgramsHaveNoRefusal
-    → (m : ℕ) (answer : ProgramTree → Finding → Type 0) → ((p : ProgramTree) → IsOne (answer p)) → (input : List ℕ)
+    → (m : ℕ) (answer : ProgramTree → Finding → Type 0) → ((p : ProgramTree) → AreFew (length p.steps) m → IsOne (answer p)) → (input : List ℕ)
     → IsOne (IsProgramReport m answer input)
 one_program_report one_reading one_text_fault one_refusal no_refusal m answer each input =
     one_of_two _ _ (one_program_refusal one_text_fault one_reading one_refusal m input)
     (λ fault f none said. accepted_or_refused one_reading no_refusal m input fault said.0 said.1 said.2 none)
-    (λ f g p q. each p.0 f g p.3 (subst (λ h. answer h g) (one_reading input q.0 p.0 q.1 p.1) q.3))
+    (λ f g p q. each p.0 (p.1.limits.rounds, p.2.shape.ids.few) f g p.3 (subst (λ h. answer h g) (one_reading input q.0 p.0 q.1 p.1) q.3))
 
 one_table_refusal : OneTableFault → (input : List ℕ) → IsOne (IsTableRefusal input)
 one_table_refusal one input a b p q =
@@ -157,13 +155,14 @@ one_telling apart input t u d e text text' =
 
 -- there is one finding on a table text, if there is one on each table and separation
 one_table_report : OneTableFault → TableTextsAreApart → TableTextsAreRead
-    → (answer : ChannelTable → Separation → Finding → Type 0) → ((t : ChannelTable) (d : Separation) → IsOne (answer t d))
+    → (answer : ChannelTable → Separation → Finding → Type 0) → ((t : ChannelTable) (d : Separation) → AreFew t.rounds t.ids → IsOne (answer t d))
     → (input : List ℕ) → IsOne (IsTableReport answer input)
 one_table_report one_fault apart read answer each input =
     one_of_two _ _ (one_table_refusal one_fault input)
     (λ fault f none said. told_or_refused read input fault said.0 said.1 said.2 none)
     (λ f g p q. let same = one_telling apart input q.0 p.0 q.1 p.1 q.2 p.2 in
-    each p.0 p.1 f g p.3 (subst (λ x. answer p.0 x g) same.1 (subst (λ x. answer x q.1 g) same.0 q.3)))
+    let begun = p.2.1.table.begun in
+    each p.0 p.1 (begun.few_rounds, begun.shape.ids.few) f g p.3 (subst (λ x. answer p.0 x g) same.1 (subst (λ x. answer x q.1 g) same.0 q.3)))
 
 -- a problem has at most one fault, and none if it has a formula
 one_problem_fault : (p : Problem) (f g : ProblemFault) → IsProblemFault p f → IsProblemFault p g → f ≡ g
@@ -214,45 +213,19 @@ pub one_report : OneReading → OneTextFault → OneRefusal → AcceptedPrograms
     → OneTableFault → TableTextsAreApart → TableTextsAreRead → OneListOfChannels → OneRefutationFault → RefutationsAreRight
     → OneReport
 one_report one_reading one_text_fault one_refusal no_refusal one_fault no_fault one_witness no_witness one_problem no_problem one_table_fault
-    apart read one_list one_refutation_fault right task =
-    go task
-  where
-    of_program' : (m : ℕ) (answer : ProgramTree → Finding → Type 0) → ((p : ProgramTree) → IsOne (answer p))
-        → (input : List ℕ) → IsOne (IsProgramReport m answer input)
-    of_program' = one_program_report one_reading one_text_fault one_refusal no_refusal
-
-    on_ring : (m : ℕ) (p : ProgramTree) (x : List ℕ) (found : Finding → Type 0) → IsOne found
-        → IsOne (IsAnswerOnRing m (length p.steps) x found)
-    on_ring m p x = one_on_ring one_fault no_fault m (length p.steps) x
-
-    judged : (t : ChannelTable) (d : Separation) → IsOne (IsJudgement t d)
-    judged = one_judgement one_witness no_witness
-
-    tried : (t : ChannelTable) (problem : Posed) → IsOne (IsProblemJudgement t problem)
-    tried = one_problem_judgement one_problem no_problem
-
-    demanded : (t : ChannelTable) (demand : Demand) → IsOne (IsDemandJudgement t demand)
-    demanded t (Apart separation) = judged t separation
-    demanded t (Solve problem) = tried t problem
-
-    audited : (problem : Option Posed) (t : ChannelTable) (d : Separation) → IsOne (IsAudit problem t d)
-    audited None t d = judged t d
-    audited (Some problem) t d = tried t problem
-
-    go : (task : Task) (input : List ℕ) → IsOne (IsReport task input)
-    go (Check ids) = of_program' ids _ (λ p. one_value _)
-    go Print = one_print one_reading one_text_fault
-    go (Table ids workers near far) = of_program' ids _ (λ p. one_value _)
-    go (Judge ids workers demand) = of_program' ids _ (λ p. demanded _ demand)
-    go (Run ids ring segments) = of_program' ids _ (λ p. on_ring ids p _ _ (one_run p ring.items segments))
-    go (Trace ids ring base) = of_program' ids _ (λ p. on_ring ids p _ _ (one_value _))
-    go (Explain ids ring place base) = of_program' ids _ (λ p. on_ring ids p _ _ (one_explanation base p ring.items place))
-    go (Plan ids ring workers) = of_program' ids _ (λ p. on_ring ids p _ _ (one_value _))
-    go (Audit problem) = one_table_report one_table_fault apart read (IsAudit problem) (audited problem)
-    go (Apply ring) =
-        one_table_report one_table_fault apart read _
-        (λ t d. one_on_ring one_fault no_fault _ _ _ _ (one_by_table one_list t ring.items))
-    go Migrate = one_table_report one_table_fault apart read _ (λ t d. one_value _)
-    go (Formula m t channels demand) = λ input. one_on_formula (numbered m t channels demand) _ (one_value _)
-    go (Refute m t channels demand) = λ input.
-        let p = numbered m t channels demand in one_on_formula p _ (one_refutation one_refutation_fault right p input)
+    apart read one_list one_refutation_fault right task input =
+    by_task (λ task. ⊤) input (λ (is : Finding → Type 0). IsOne is)
+    (λ value of. one_value value)
+    (λ t s few. one_judgement one_witness no_witness t s)
+    (one_problem_judgement one_problem no_problem)
+    one_run
+    one_explanation
+    (λ t x ring. one_by_table one_list t x)
+    (λ m t x is few. one_on_ring one_fault no_fault m t x is)
+    (λ m is each. one_program_report one_reading one_text_fault one_refusal no_refusal m is each input)
+    (λ is each. one_table_report one_table_fault apart read is each input)
+    (one_print one_reading one_text_fault input)
+    (λ m t channels demand known. one_on_formula (numbered m t channels demand) _ (one_value _))
+    (λ m t channels demand known.
+    let p = numbered m t channels demand in one_on_formula p _ (one_refutation one_refutation_fault right p input))
+    task tt
