@@ -9,7 +9,7 @@ use Rattle.json.proofs.Printed.Trees.{document-print}
 use Rattle.json_reports.specs.Json.{table_fields}
 use Rattle.json_reports.specs.Reports.{IsRead}
 use Rattle.json_reports.specs.Values.{items_of, numeral, object_of}
-use Rattle.json_reports.proofs.Depths.{table_depth}
+use Rattle.json_reports.proofs.Objects.{table_depth}
 
 -- numbers below a bound are numbers of JSON
 are_numbers : (most : ℕ) (ns : List ℕ) → most ≤ 2 ^ 64 → All (λ n. n < most) ns → ItemsHaveNumbers (items_of (map numeral ns))

@@ -1,7 +1,7 @@
 use Rattle.std.proofs.Common.{◌∙◌}
 use Rattle.json_reports.specs.Json.{fault_fields, note_fields}
 use Rattle.json_reports.proofs.Closings.{noted_tokens}
-use Rattle.json_reports.proofs.Depths.{fault_depth}
+use Rattle.json_reports.proofs.Objects.{fault_depth}
 use Rattle.reports.specs.Findings.{fault_of}
 use Rattle.std.specs.Prelude.{option_map}
 use Rattle.json_reports.proofs.writing.fault_text.Goals as goal

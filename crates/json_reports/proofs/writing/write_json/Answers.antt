@@ -5,7 +5,7 @@ use Rattle.reports.specs.Written.{WritesBytes}
 use Rattle.json_reports.specs.Json.{json_bytes}
 use Rattle.json_reports.specs.Reports.{note_of}
 use Rattle.json_reports.proofs.ReadBack.{on_ok}
-use Rattle.json_reports.proofs.Texts.{answer_bytes, answer_read}
+use Rattle.json_reports.proofs.Objects.{answer_bytes, answer_read}
 use Rattle.json_reports.proofs.writing.write_json.Goals as goal
 
 pub returns-in_ok-text-in-Answer-clause-writes : goal.returns-in_ok-text-in-Answer-clause-writes

@@ -1,5 +1,5 @@
--- Findings are shallow JSON values.
-use Rattle.std.proofs.Common.{ℕ, suc, ◌≤◌, List, [], ◌∷◌, ◌++◌, map, take, Option, Some, None, arith}
+-- Reports are shallow objects, so a JSON reader takes them.
+use Rattle.std.proofs.Common.{◌≡◌, ℕ, suc, ◌≤◌, List, [], ◌∷◌, ◌++◌, map, take, Option, Some, None, arith, refl}
 use Rattle.channel_tables.specs.Tables.{ChannelTable}
 use Rattle.channel_tables.specs.declared.separation.Separation.{Separation}
 use Rattle.fault_notes.specs.FaultTokens.{place_of_cause}
@@ -8,8 +8,10 @@ use Rattle.json.specs.Tree.{depth, items_depth, members_depth}
 use Rattle.lang_check.specs.declared.acceptance.CheckFault.{CheckFault}
 use Rattle.lang_check.specs.declared.acceptance.CheckFault.TheVariants as check
 use Rattle.reports.specs.Bytes.{places_from, shown}
-use Rattle.reports.specs.Findings.{Fault, of_text, of_program, of_ring, of_place, of_segments, of_table_text, of_formula, of_refutation, Finding}
-use Rattle.reports.specs.Findings as value
+use Rattle.reports.specs.Findings.{Fault, answer_of, of_text, of_program, of_ring, of_place, of_segments, of_table_text, of_formula, of_refutation}
+use Rattle.reports.specs.ProblemFaults.{problem_of}
+use Rattle.reports.specs.declared.finding.Answer.{Answer}
+use Rattle.reports.specs.declared.finding.Answer.TheVariants as answer
 use Rattle.ring_problems.specs.declared.pattern.Entry.{Entry}
 use Rattle.ring_problems.specs.declared.pattern.Entry.TheVariants as entry
 use Rattle.ring_problems.specs.declared.pattern.Pattern.{Pattern}
@@ -18,8 +20,9 @@ use Rattle.table_text.specs.declared.fault.TableFault.TheVariants as table
 use Rattle.value_trees.specs.Rows.{RoundRows, trace_rows}
 use Rattle.value_trees.specs.ValueTrees.{ValuedPart, ValueTree, value_trees}
 use Rattle.win_index.specs.declared.ring.RingFault.TheVariants as ring
-use Rattle.json_reports.specs.Json.{answer_fields, check_fields, demand_fields, entry_value, fault_fields, note_fields, part_value, pattern_value, place_fields, round_value, table_fields, tree_value}
-use Rattle.json_reports.specs.Values.{Field, array_of, items_of, members_of, numbers, numeral, object_of, rows}
+use Rattle.json_reports.specs.Json.{answer_fields, check_fields, json_bytes, demand_fields, entry_value, fault_fields, note_fields, part_value, pattern_value, place_fields, round_value, table_fields, tree_value}
+use Rattle.json_reports.specs.Reports.{IsRead, IsReadBack}
+use Rattle.json_reports.specs.Values.{Field, array_of, items_of, json_text, members_of, numbers, numeral, object_of, rows}
 
 -- values that are so deep make an array that is one deeper
 mapped_depth : {A : Type 0} (f : A → Json) (most : ℕ) → ((x : A) → depth (f x) ≤ most) → (xs : List A) → items_depth (items_of (map f xs)) ≤ most
@@ -73,35 +76,48 @@ demand_shallow : (s : Separation) (ps : List Pattern) → Shallow (demand_fields
 demand_shallow s [] = omega arith
 demand_shallow s (p ∷ ps) = let patterns = array_depth pattern_value 1 pattern_depth (p ∷ ps) in omega (arith, patterns)
 
-answer_shallow : (f : Finding) → Shallow (answer_fields f)
-answer_shallow (value.accepted ids rounds channels bound windows) = omega arith
-answer_shallow (value.program p) = omega arith
-answer_shallow (value.yes tuples nodes ids) = omega arith
-answer_shallow (value.no s ring places channels) = let r = numbers_depth ring in omega (arith, r)
-answer_shallow (value.solved tuples idle) = omega arith
-answer_shallow (value.broken ring place channels pattern known idle) =
-    let p = pattern_depth pattern in
-    let r = numbers_depth ring in
-    let at = numbers_depth (places_from ring place (shown pattern)) in
-    let of = numbers_depth (take (shown pattern) (channels.0 ∷ channels.1 ∷ channels.2 ∷ [])) in
-    omega (arith, p, r, at, of)
-answer_shallow (value.channels of) = let c = numbers_depth of in omega (arith, c)
-answer_shallow (value.trace b p ring) =
-    let t = trace_rows p ring in
-    let r = numbers_depth ring in
-    let start = rows_depth t.start in
-    let rounds = array_depth round_value 3 round_depth t.rounds in
-    let finish = numbers_depth t.finish in
-    omega (arith, r, start, rounds, finish)
-answer_shallow (value.tree b p ring place) = let trees = array_depth tree_value 3 tree_depth (value_trees p ring place) in omega (arith, trees)
-answer_shallow (value.places ring of) =
-    let r = numbers_depth ring in
-    let c = numbers_depth of in
-    omega (arith, r, c)
-answer_shallow (value.table t s) = let entries = numbers_depth t.entries in omega (arith, entries)
-answer_shallow (value.formula p) = omega arith
-answer_shallow (value.refuted p) = let demand = demand_shallow p.separation p.forbidden in omega (arith, demand)
-answer_shallow (value.refused f) = omega arith
+-- The report of an answer is the text of one object and a line feed; it is read back if the object is, which is shallow.
+record IsObjectOf (a : Answer) : Type 0 where
+  bytes : (text : List ℕ) (note : Option (List ℕ))
+      → json_bytes text (answer_of a) note ≡ json_text (object_of (answer_fields (answer_of a) ++ note_fields note)) ++ 10 ∷ []
+  read : (text : List ℕ) (note : Option (List ℕ))
+      → IsRead (object_of (answer_fields (answer_of a) ++ note_fields note)) → IsReadBack text (answer_of a) note
+  shallow : Shallow (answer_fields (answer_of a))
+
+answer_object : (a : Answer) → IsObjectOf a
+answer_object (answer.Accepted ids rounds most bound windows) =
+    record { bytes = λ text note. refl; read = λ text note is. is; shallow = omega arith }
+answer_object (answer.Program p) = record { bytes = λ text note. refl; read = λ text note is. is; shallow = omega arith }
+answer_object (answer.Yes tuples nodes ids) = record { bytes = λ text note. refl; read = λ text note is. is; shallow = omega arith }
+answer_object (answer.No s w) =
+    let r = numbers_depth w.ring.items in record { bytes = λ text note. refl; read = λ text note is. is; shallow = omega (arith, r) }
+answer_object (answer.Solved tuples idle) = record { bytes = λ text note. refl; read = λ text note is. is; shallow = omega arith }
+answer_object (answer.Broken w known idle) =
+    let p = pattern_depth w.pattern in
+    let r = numbers_depth w.ring.items in
+    let at = numbers_depth (places_from w.ring.items w.place (shown w.pattern)) in
+    let of = numbers_depth (take (shown w.pattern) (w.channels.0 ∷ w.channels.1 ∷ w.channels.2 ∷ [])) in
+    record { bytes = λ text note. refl; read = λ text note is. is; shallow = omega (arith, p, r, at, of) }
+answer_object (answer.Channels cs) =
+    let c = numbers_depth cs.items in record { bytes = λ text note. refl; read = λ text note is. is; shallow = omega (arith, c) }
+answer_object (answer.Trace t) =
+    let t' = trace_rows t.plan.program t.ring.places in
+    let r = numbers_depth t.ring.places in
+    let start = rows_depth t'.start in
+    let rounds = array_depth round_value 3 round_depth t'.rounds in
+    let finish = numbers_depth t'.finish in
+    record { bytes = λ text note. refl; read = λ text note is. is; shallow = omega (arith, r, start, rounds, finish) }
+answer_object (answer.Tree t) =
+    let trees = array_depth tree_value 3 tree_depth (value_trees t.plan.program t.ring.places t.place) in
+    record { bytes = λ text note. refl; read = λ text note is. is; shallow = omega (arith, trees) }
+answer_object (answer.Places ring cs) =
+    let r = numbers_depth ring.places in
+    let c = numbers_depth cs.items in
+    record { bytes = λ text note. refl; read = λ text note is. is; shallow = omega (arith, r, c) }
+answer_object (answer.Refuted n) =
+    let p = problem_of n in
+    let demand = demand_shallow p.separation p.forbidden in
+    record { bytes = λ text note. refl; read = λ text note is. is; shallow = omega (arith, demand) }
 
 place_shallow : (text : List ℕ) (offset : Option ℕ) → Shallow (place_fields text offset)
 place_shallow text None = omega arith
@@ -143,8 +159,16 @@ with_note : (fs : List Field) (note : Option (List ℕ)) → Shallow fs → dept
 with_note fs note shallow = let both = joined_depth 4 fs (note_fields note) shallow (note_shallow note) in omega (arith, both)
 
 -- objects of findings, with a note, can be read
-pub answer_depth : (f : Finding) (note : Option (List ℕ)) → depth (object_of (answer_fields f ++ note_fields note)) ≤ max_depth
-answer_depth f note = with_note (answer_fields f) note (answer_shallow f)
+pub answer_depth : (a : Answer) (note : Option (List ℕ)) → depth (object_of (answer_fields (answer_of a) ++ note_fields note)) ≤ max_depth
+answer_depth a note = let object = answer_object a in with_note (answer_fields (answer_of a)) note object.shallow
+
+pub answer_bytes : (text : List ℕ) (a : Answer) (note : Option (List ℕ))
+    → json_bytes text (answer_of a) note ≡ json_text (object_of (answer_fields (answer_of a) ++ note_fields note)) ++ 10 ∷ []
+answer_bytes text a = let object = answer_object a in object.bytes text
+
+pub answer_read : (text : List ℕ) (a : Answer) (note : Option (List ℕ))
+    → IsRead (object_of (answer_fields (answer_of a) ++ note_fields note)) → IsReadBack text (answer_of a) note
+answer_read text a = let object = answer_object a in object.read text
 
 pub fault_depth : (text : List ℕ) (f : Fault) (note : Option (List ℕ)) → depth (object_of (fault_fields text f ++ note_fields note)) ≤ max_depth
 fault_depth text f note = with_note (fault_fields text f) note (fault_shallow text f)
