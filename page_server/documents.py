@@ -8,7 +8,7 @@ import subprocess
 
 GUIDES = ["TUTORIAL", "EXERCISES", "RECIPES", "GALLERY", "LEAST", "LANGUAGE", "FAULTS", "PROOFS", "ARCHITECTURE", "DECISIONS"]
 NAMES = ["README", *(f"docs/{guide}" for guide in GUIDES), "CHANGELOG"]
-# Lists that `tools/inventory` prints, by its word. A bundle has them.
+# Lists that `checks/inventory` prints, by its word. A bundle has them.
 LISTS = {"docs/CALLS": "calls", "docs/DEFINITIONS": "definitions", "docs/EDITS": "edits"}
 # Where the page is, as the documents' links have it.
 PAGE = "http://127.0.0.1:8765/"

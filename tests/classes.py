@@ -309,7 +309,7 @@ row("foreign-option", ["check", "--ids", "8", "-q"], CV1, "--help", "quiet", "2>
 row("foreign-option", ["check", "--ids", "8", "-o", "out.txt"], CV1, "> out.txt", ">out.txt", "standard output")
 row("foreign-command", ["simulate", "--ids", "8", "--ring", RING], CV1, "`run`", "nbhd run", "'run'")
 row("foreign-command", ["verify", "--ids", "8"], CV1, "`judge`", "'judge'", "nbhd judge", "`check`", "'check'", "nbhd check", "judge")
-row("foreign-command", ["man"], b"", "--help", "tools/manual")
+row("foreign-command", ["man"], b"", "--help", "release/manual")
 row("foreign-command", ["compile", "--ids", "8"], CV1, "`table`", "'table'", "nbhd table")
 row("foreign-command", ["format"], CV1, "`print`", "'print'", "nbhd print")
 row("foreign-command", ["solve", "--ids", "8"], CV1, "formula")

@@ -550,7 +550,7 @@ def kept():
     """The refutations and the tables of examples/problems, by the names of their files."""
     for path in sorted((EXAMPLES / "problems").glob("*")):
         if path.suffix == ".rule":
-            # The table of a rule is judged by tools/problems.
+            # The table of a rule is judged by checks/problems.
             continue
         name, *sizes = re.fullmatch(r"([\w-]+)_rounds(\d+)_ids(\d+)_channels(\d+)\..*", path.name).groups()
         rounds, ids, count = map(int, sizes)
