@@ -1,4 +1,4 @@
-"""What the tools share: the top of the repository, the built program, and the count of what passed."""
+"""What the checks share: the top of the repository, the modules of tools/, the built program, and the count of what passed."""
 
 import os
 import subprocess
@@ -7,7 +7,7 @@ import threading
 from pathlib import Path
 
 ROOT = Path(__file__).resolve().parent.parent
-TOOL = Path(sys.argv[0]).name
+sys.path.append(str(ROOT / "tools"))
 
 
 def program_path(name="nbhd"):
@@ -21,7 +21,7 @@ def built_program(name="nbhd", build=(ROOT / "build",)):
     if not program.exists() and not os.environ.get(name.upper()):
         subprocess.run(build, cwd=ROOT / "crates" / name, stdout=subprocess.DEVNULL)
     if not program.exists():
-        sys.exit(f"tools/{TOOL}: {program} is missing")
+        sys.exit(f"{Path(sys.argv[0]).name}: {program} is missing")
     return program
 
 
