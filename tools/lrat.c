@@ -1,6 +1,4 @@
-/* Prints a trimmed LRAT proof of the formula that a DRAT proof refutes: what tools/lrat does where there is no compiler, step by
- * step in the same order, so with the same bytes.
- */
+/* Prints a trimmed LRAT proof of the formula that a DRAT proof refutes, for tools/lrat. */
 #include <errno.h>
 #include <limits.h>
 #include <stdarg.h>

@@ -1,4 +1,4 @@
-/* Looks for a table by a local search: what tools/search does where there is no compiler, with the same moves and so the same table.
+/* Looks for a table by a local search, for tools/search.
  *
  * Usage: search IDS ROUNDS CHANNELS NEAR FAR SEED SECONDS [PATTERN ..]
  *
