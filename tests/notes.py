@@ -1,6 +1,9 @@
 """Common mistakes of newcomers, each with the note on its cause, which is on the standard error. The notes are the program's own
 output, read by a person."""
 
+from functools import reduce
+from pathlib import Path
+
 from programs import CV1, ID0, ID0_OF_4, LDB, SHIFT4
 
 # Parts of `CV1`, their replacements, and the starts of the notes on the text.
@@ -298,6 +301,89 @@ OTHERS = [
     ),
 ]
 
+# A refutation, damaged texts of it with the options of a formula, and the notes.
+REFUTATION = (Path(__file__).resolve().parent.parent / "examples/least/rounds0_ids3_channels2_near1_far0.lrat").read_bytes()
+REFUTATIONS = [
+    (
+        3,
+        b"-1 0\n0\n",
+        "nbhd: line 1: this line is not a step of LRAT, as `5 -1 2 0 3 4 0`, a deletion, as `5 d 3 4 0`, or a comment"
+        "; this looks like a proof in DRAT: `tools/lrat` adds the hints that it lacks, for `nbhd refute`\n  -1 0\n  ^\n",
+    ),
+    (
+        4,
+        REFUTATION,
+        "nbhd: line 1: the number of this step is not above those of the steps before it, or not above those of the formula's clauses"
+        ": then the options may be those of another formula\n  16 -1 0 4 6 2 3 11 0\n  ^\n",
+    ),
+    (
+        3,
+        REFUTATION.replace(b"16 -1", b"16 7", 1),
+        "nbhd: line 1: this clause has a variable that the formula lacks; the numbers may be those of another formula"
+        "\n  16 7 0 4 6 2 3 11 0\n  ^\n",
+    ),
+    (
+        3,
+        REFUTATION.replace(b"17 2 0 16 1 0\n", b"", 1),
+        "nbhd: line 3: hint 17 names no clause: there is none of its number yet, or it was deleted"
+        "; the options may be those of another formula\n  18 -4 0 17 5 0\n  ^\n",
+    ),
+    (
+        3,
+        REFUTATION.replace(b"4 6 2", b"2 4 6", 1),
+        "nbhd: line 1: several literals of the clause of hint 2, or one twice, are not yet known to be false, where at most one may be"
+        ": a hint is missing before it or stands behind it, or the options may be those of another formula"
+        "\n  16 -1 0 2 4 6 3 11 0\n  ^\n",
+    ),
+    (
+        3,
+        REFUTATION.replace(b"11 0", b"0", 1),
+        "nbhd: line 1: the clause of hint 3, the last one, has a literal that is not known to be false"
+        ": a hint is missing or wrong, or the options may be those of another formula\n  16 -1 0 4 6 2 3 0\n  ^\n",
+    ),
+    (
+        3,
+        b"".join(REFUTATION.splitlines(keepends=True)[:5]),
+        "nbhd: line 6: the text ends here, before the empty clause"
+        "; a refutation ends with a step without literals, as in `22 0 20 21 10 0`\n  \n  ^\n",
+    ),
+    (
+        3,
+        b"16 c 0 5 -1 0 4 6 2 3 11 0\n",
+        "nbhd: line 1: tables need not stay right by this exchange: identifiers are below `--ids` and channels below `--channels`"
+        ", and two channels are exchanged only if near and far are at most 1\n  16 c 0 5 -1 0 4 6 2 3 11 0\n  ^\n",
+    ),
+]
+
+# Programs over a limit, and the notes.
+OVER_LIMITS = [
+    (b"# a comment\n" * 30_000, "nbhd: a program text has at most 65536 bytes\n"),
+    (
+        b"rounds 0 channels 8 registers 1 start r0 =\n" + b"if(id, 0,\n" * 65,
+        "nbhd: line 65, column 4: an expression is at most 64 deep; nest `if` as a tree, or keep a part in a register"
+        ", which the next round or `finish` reads\n  if(id, 0,\n     ^\n",
+    ),
+    (
+        CV1.replace(b"finish r0", b"finish " + reduce(lambda it, _: b"or(" + it + b"," + it + b")", range(12), b"r0")),
+        "nbhd: line 10, column 14286: the expressions of a program have at most 4096 numbers, words and operations"
+        "; a part that is repeated is computed once, in a register that the next round or `finish` reads\n"
+        "  ),or(or(or(or(r0,r0),or(r0,r0)),or(or(r0,r0),or(r0,r0))),or(or(or(r0,r0),or(r0,r0)),or(or(r0,r0),or(r0,r0))))))))))),or(\n"
+        "                                                              ^\n",
+    ),
+]
+
+# Options that have no formula, and the notes.
+FORMULAS = [
+    (
+        "--ids 162 --rounds 1 --channels 2",
+        "nbhd: a formula has a variable for each window and channel, and at most 4194304 of them; take fewer identifiers or channels\n",
+    ),
+    (
+        "--ids 40 --rounds 1 --channels 10",
+        "nbhd: a formula has at most 16777216 clauses, and a table of this size would need more; take fewer identifiers or channels\n",
+    ),
+]
+
 
 def starts():
     """Words, inputs and the starts of the notes."""
@@ -320,6 +406,14 @@ def ends():
     for text, note in WINDOWS_AND_CHANNELS:
         yield "audit", text, note
     yield from OTHERS
+    for text, note in OVER_LIMITS:
+        yield "check --ids 8", text, note
+    for options, note in FORMULAS:
+        yield f"formula {options}", b"", note
+    for ids, text, note in REFUTATIONS:
+        yield f"refute --ids {ids} --rounds 0 --channels 2", text, note
+    said = "nbhd: the text of a refutation has at most 134217728 bytes; `tools/lrat` leaves out what is not needed\n"
+    yield "refute --ids 3 --rounds 0 --channels 2", b"\0" * 134_217_729, said
 
 
 def silent():
