@@ -2,9 +2,9 @@
 
 import re
 
-PACKED = {b"\x1f\x8b": "gunzip", b"\xfd7zXZ": "unxz", b"PK\x03\x04": "unzip", b"\x28\xb5\x2f\xfd": "unzstd", b"BZh": "bunzip2"}
-PICTURES = (b"\x89PNG", b"\xff\xd8\xff", b"GIF8", b"<svg")
-PAGES = (b"<!doctype", b"<html", b"<head", b"<body", b"<pre", b"<div", b"<?xml")
+FILES = (b"\x1f\x8b", b"\xfd7zXZ", b"PK\x03\x04", b"BZh", b"%PDF-", b"{\\rtf", b"\x89PNG", b"\xff\xd8\xff", b"GIF8")
+WIDE = (b"\xff\xfe", b"\xfe\xff", b"\xef\xbb\xbf")
+PAGES = (b"<svg", b"<?xml", b"<!doctype", b"<html", b"<head", b"<body", b"<pre")
 REPORTS = re.compile(
     rb"(accepted ids|yes:|no: ring|(text|check|ring|segments|table|formula|refutation) fault|refuted:|nbhd:) "
 )
@@ -23,22 +23,18 @@ SAID = {
     "proof": "this looks like a proof in DRAT",
     "answer": "this is a solver's answer: `tools/model` makes the table of a model",
     "report": "this is output of nbhd",
-    "picture": "this is a picture, not a text",
-    "page": "this is a page in HTML: save the text alone",
-    "wide": "the file is UTF-16 or UTF-32: save it as ASCII",
-    **{f"packed by {program}": f"the file is packed: `{program}` unpacks it" for program in PACKED.values()},
+    "page": "this is a page in HTML or XML: save the text alone",
+    "wide": "the file is UTF-16, or has a byte order mark: save it as ASCII without one",
+    "file": "this is no text, but a packed file, a picture or a document: save its text alone",
 }
 
 
 def kind_of(data):
     """The kind of a text by its first bytes, None if it is not known."""
-    for beginning, program in PACKED.items():
-        if data.startswith(beginning):
-            return f"packed by {program}"
-    if data.startswith((b"\xff\xfe", b"\xfe\xff")) or re.match(rb"[^\0]\0[^\0]\0|\0[^\0]\0[^\0]", data):
+    if data.startswith(FILES):
+        return "file"
+    if data.startswith(WIDE) or re.match(rb"[^\0]\0[^\0]\0|\0[^\0]\0[^\0]", data):
         return "wide"
-    if data.startswith(PICTURES) or data.lstrip().startswith(PICTURES[-1:]):
-        return "picture"
     if data.lstrip().lower().startswith(PAGES):
         return "page"
     if PLACES.match(data):

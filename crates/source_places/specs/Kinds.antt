@@ -8,6 +8,7 @@ use Rattle.source_places.specs.declared.first_lines.TheConstants.{BEGINNINGS, EN
 use Rattle.source_places.specs.declared.kinds.TextKind.{TextKind}
 use Rattle.source_places.specs.declared.kinds.TextKind.TheVariants as kind
 use Rattle.source_places.specs.Beginnings.{by_beginning}
+use Rattle.source_places.specs.ByteSets.{is_in}
 use Rattle.source_places.specs.Places.{is_feed}
 
 -- a blank, a tab, a carriage return, or a line feed
@@ -39,7 +40,7 @@ is_wide text = false
 
 -- the kind of a file by its first bytes, or by those after its blanks
 unfoldable pub file_kind : List ℕ → Option TextKind
-file_kind text = if is_wide text then Some kind.Utf16
+file_kind text = if is_wide text then Some kind.Wide
     else option_or (by_beginning (map (λ row. (row.0.now, row.1)) FILES) text)
     (by_beginning (map (λ row. (row.0.now, row.1)) MARKUP) (after_blanks text))
 
@@ -81,13 +82,9 @@ is_call line = begins line (codes "nbhd ") && contains_part line (codes "--")
 abbrev pub without_return : List ℕ → List ℕ
 without_return line = if ends line (13 ∷ []) then take (length line - 1) line else line
 
--- a digit, a blank, a minus sign, or a letter of the words `d` (a deletion) and `cim`
-abbrev pub is_number_byte : ℕ → Bool
-is_number_byte b = (nat_le 48 b && nat_le b 57) || (b == 32) || (b == 45) || (b == 99) || (b == 100) || (b == 105) || (b == 109)
-
 -- whether a line is of numbers, of which the last one is 0
 abbrev pub is_list : List ℕ → Bool
-is_list line = list_all is_number_byte line && (ends line (codes " 0") || bytes_eq line (codes "0"))
+is_list line = list_all (is_in (codes "0123456789 -cdim")) line && (ends line (codes " 0") || bytes_eq line (codes "0"))
 
 -- whether a number 0 stands before the last one of a line
 abbrev pub has_zero_within : List ℕ → Bool
@@ -119,12 +116,12 @@ is_name word = nat_le (length word) LONGEST_NAME && list_all is_printable word
 unfoldable pub is_file_name : List ℕ → Bool
 is_file_name text = nat_le (length text) (length (first_line text) + 1) && is_name (without_return (first_line text))
 
-abbrev pub is_digit_or_blank : ℕ → Bool
-is_digit_or_blank b = (nat_le 48 b && nat_le b 57) || (b == 32)
+unfoldable pub are_digits_and_blanks : List ℕ → Bool
+are_digits_and_blanks line = list_all (is_in (codes "0123456789 ")) line
 
 -- whether a text begins with the lines of the places 0 and 1, three numbers that are right-aligned in 4 places each, with blanks between them
 unfoldable pub begins_places : List ℕ → Bool
-begins_places text = (length (first_line text) == 14) && list_all is_digit_or_blank (first_line text)
+begins_places text = (length (first_line text) == 14) && are_digits_and_blanks (first_line text)
     && begins (first_line text) (codes "   0") && begins (after_line text) (codes "   1")
 
 -- the kind of a text with this line, behind the comments, at the start of `rest`

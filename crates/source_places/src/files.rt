@@ -8,40 +8,31 @@ use crate::kinds::TextKind;
 use crate::parts::after_blanks;
 
 // The first bytes of files that are no texts of `nbhd`.
-const FILES: [(&[u8], TextKind); 15] = [
-    (&[0x1f, 0x8b], TextKind::Gzip),
-    (&[0xfd, 0x37, 0x7a, 0x58, 0x5a], TextKind::Xz),
-    (&[0x50, 0x4b, 0x03, 0x04], TextKind::Zip),
-    (&[0x28, 0xb5, 0x2f, 0xfd], TextKind::Zstandard),
-    (b"BZh", TextKind::Bzip2),
-    (b"%PDF-", TextKind::Pdf),
-    (b"{\\rtf", TextKind::RichText),
-    (&[0x89, 0x50, 0x4e, 0x47], TextKind::Picture),
-    (&[0xff, 0xd8, 0xff], TextKind::Picture),
-    (b"GIF8", TextKind::Picture),
-    (&[0x7f, 0x45, 0x4c, 0x46], TextKind::Executable),
-    (&[0xff, 0xfe], TextKind::Utf16),
-    (&[0xfe, 0xff], TextKind::Utf16),
-    (&[0xef, 0xbb, 0xbf], TextKind::ByteOrderMark),
-    (b"SQLite format", TextKind::Database),
+const FILES: [(&[u8], TextKind); 12] = [
+    (&[0x1f, 0x8b], TextKind::NoText),
+    (&[0xfd, 0x37, 0x7a, 0x58, 0x5a], TextKind::NoText),
+    (&[0x50, 0x4b, 0x03, 0x04], TextKind::NoText),
+    (b"BZh", TextKind::NoText),
+    (b"%PDF-", TextKind::NoText),
+    (b"{\\rtf", TextKind::NoText),
+    (&[0x89, 0x50, 0x4e, 0x47], TextKind::NoText),
+    (&[0xff, 0xd8, 0xff], TextKind::NoText),
+    (b"GIF8", TextKind::NoText),
+    (&[0xff, 0xfe], TextKind::Wide),
+    (&[0xfe, 0xff], TextKind::Wide),
+    (&[0xef, 0xbb, 0xbf], TextKind::Wide),
 ];
 
-// The first bytes of files in HTML and its like, perhaps after blanks.
-const MARKUP: [(&[u8], TextKind); 14] = [
-    (b"<svg", TextKind::Svg),
-    (b"<?xml", TextKind::Xml),
+// The first bytes of files in HTML and XML, perhaps after blanks.
+const MARKUP: [(&[u8], TextKind); 8] = [
+    (b"<svg", TextKind::Page),
+    (b"<?xml", TextKind::Page),
     (b"<!DOCTYPE", TextKind::Page),
     (b"<!doctype", TextKind::Page),
     (b"<html", TextKind::Page),
-    (b"<HTML", TextKind::Page),
     (b"<head", TextKind::Page),
     (b"<body", TextKind::Page),
     (b"<pre", TextKind::Page),
-    (b"<code", TextKind::Page),
-    (b"<div", TextKind::Page),
-    (b"<span", TextKind::Page),
-    (b"<p>", TextKind::Page),
-    (b"<br", TextKind::Page),
 ];
 
 // Returns whether a text is of pairs of bytes, one of them 0, as the ASCII of a file in UTF-16 is.
@@ -61,7 +52,7 @@ pub(crate) fn file_kind(text: &[u8]) -> Option<TextKind>
     ensures { result ≡ texts.file_kind text.now }
 {
     if is_wide(text) {
-        return Some(TextKind::Utf16);
+        return Some(TextKind::Wide);
     }
     by_beginning(&FILES, text).or(by_beginning(&MARKUP, after_blanks(text)))
 }

@@ -5,6 +5,7 @@ ghost use Rattle.std.specs.List.{list_all, list_any};
 ghost use Rattle.source_places.specs.Kinds as texts;
 
 use crate::beginnings::by_beginning;
+use crate::byte_sets::is_made_of;
 use crate::kinds::TextKind;
 use crate::parts::{
     after_blanks, begins_with_digit, begins_with_number, contains_part, first_line, without_return,
@@ -18,16 +19,16 @@ const SKIPPED_LINES: usize = 1000;
 const LONGEST_NAME: usize = 255;
 
 // How the first line of a text begins that is no comment.
-const BEGINNINGS: [(&[u8], TextKind); 26] = [
+const BEGINNINGS: [(&[u8], TextKind); 24] = [
     (b"nbhd-table", TextKind::Table),
     (b"p cnf", TextKind::Formula),
-    (b"s SATISFIABLE", TextKind::Model),
-    (b"SAT\n", TextKind::Model),
-    (b"v ", TextKind::Model),
-    (b"s UNSATISFIABLE", TextKind::NoModel),
-    (b"UNSAT\n", TextKind::NoModel),
-    (b"SATISFIABLE", TextKind::Model),
-    (b"UNSATISFIABLE", TextKind::NoModel),
+    (b"s SATISFIABLE", TextKind::Answer),
+    (b"SAT\n", TextKind::Answer),
+    (b"v ", TextKind::Answer),
+    (b"s UNSATISFIABLE", TextKind::Answer),
+    (b"UNSAT\n", TextKind::Answer),
+    (b"SATISFIABLE", TextKind::Answer),
+    (b"UNSATISFIABLE", TextKind::Answer),
     (b"accepted ids ", TextKind::Report),
     (b"yes: ", TextKind::Report),
     (b"no: ring ", TextKind::Report),
@@ -40,11 +41,9 @@ const BEGINNINGS: [(&[u8], TextKind); 26] = [
     (b"refutation fault ", TextKind::Report),
     (b"refuted: ", TextKind::Report),
     (b"nbhd: ", TextKind::Report),
-    (b"digraph ", TextKind::Graph),
     (b"./nbhd ", TextKind::Command),
     (b"$ nbhd ", TextKind::Command),
     (b"$ ./nbhd ", TextKind::Command),
-    (b"crates/nbhd/out/nbhd ", TextKind::Command),
 ];
 
 // How names of files end.
@@ -98,25 +97,11 @@ fn is_call(line: &[u8]) -> bool
     line.starts_with(b"nbhd ") && contains_part(line, b"--")
 }
 
-// Returns whether a byte can stand in a line of numbers.
-fn is_number_byte(byte: u8) -> bool
-    ensures { result ≡ texts.is_number_byte byte }
-{
-    matches!(byte, b'0'..=b'9' | b' ' | b'-' | b'c' | b'd' | b'i' | b'm')
-}
-
-// Returns whether all bytes can stand in a line of numbers.
-fn are_number_bytes(line: &[u8]) -> bool
-    ensures { result ≡ list_all texts.is_number_byte line.now }
-{
-    line.iter().all(|byte| is_number_byte(*byte))
-}
-
 // Returns whether a line is of numbers, of which the last one is 0.
 fn is_list(line: &[u8]) -> bool
     ensures { result ≡ texts.is_list line.now }
 {
-    are_number_bytes(line) && (line.ends_with(b" 0") || line == b"0".as_slice())
+    is_made_of(line, b"0123456789 -cdim") && (line.ends_with(b" 0") || line == b"0".as_slice())
 }
 
 // Returns whether a number 0 stands before the last one of a line.
@@ -198,10 +183,11 @@ fn is_file_name(text: &[u8]) -> bool
 }
 
 // Returns whether all bytes are digits and blanks.
+#[tactic(auto, unfolding(crate::specs::Kinds::are_digits_and_blanks))]
 fn are_digits_and_blanks(line: &[u8]) -> bool
-    ensures { result ≡ list_all texts.is_digit_or_blank line.now }
+    ensures { result ≡ texts.are_digits_and_blanks line.now }
 {
-    line.iter().all(|byte| matches!(*byte, b'0'..=b'9' | b' '))
+    is_made_of(line, b"0123456789 ")
 }
 
 // Returns whether a text begins with the lines of the places 0 and 1 of a ring, as `nbhd plan` and
