@@ -1,8 +1,12 @@
 //! Facts on the language, by the word or the sign that is met and by where it cannot stand.
 
 use crate::misread::Misread;
-use crate::names::is_strange;
+use crate::names::{begins_comment, is_strange};
 use crate::rewrites::{assigns, is_chained, names_operand};
+use crate::rows::{
+    BEHIND, BITWISE, BRACKETS, CHOICE, LEFT, NOTHING, PRODUCT, RIGHT, SETS, SIDES, SIGNS_BEFORE,
+    SIGNS_BEHIND, Told, VALUES, WORDS, row_of,
+};
 use crate::signs::fact_on_sign;
 use crate::tokens::{
     Tokens, after, after_marks, before, begins_line, begins_operand, end_of, ends_operand,
@@ -13,22 +17,17 @@ use node_lang::Expected::{self, This};
 use node_lang::{FaultKind, Token};
 use source_places::is_one_of;
 
-// When a fact is told: in the place of an edit, unless the text is written in another notation; before an edit; or
-// where no edit helps.
-#[derive(Clone, Copy, PartialEq, Eq)]
-pub(crate) enum Told {
-    Alone,
-    Beside,
-    Without,
+// The fact of the first row whose condition holds, or what stands behind `else`.
+macro_rules! first {
+    ($($holds:expr => $fact:expr;)+ else $rest:expr) => {{ $(if $holds { return $fact; })+ $rest }};
 }
 
-// A fact, in which a word is put before the tail if there is one.
+// A fact, where `{}` stands for a word if it has one.
 #[derive(Clone, Copy)]
 pub(crate) struct Fact<'a> {
     pub(crate) told: Told,
-    pub(crate) head: &'static str,
+    pub(crate) text: &'static str,
     pub(crate) word: &'a [u8],
-    pub(crate) tail: &'static str,
 }
 
 // Where a token stands that cannot stand there: where an expression, a number of the header or a line of a program is
@@ -41,534 +40,303 @@ enum Place {
     Behind,
 }
 
-const LOOPS: &str =
-    "; there are no loops: the block of a round is written out as often as `rounds` says";
-
-const WAITS: &str = "; all nodes do each round at once: nothing waits";
-
-const CHOICE: &str = "; a choice is written `if(c, a, b)`";
-
-pub(crate) const PRODUCT: &str = "; there is no product: twice x is `shl(x, 1)`";
-
-pub(crate) const QUOTIENT: &str = "; there is no quotient: half of x is `shr(x, 1)`";
-
-const REMAINDER: &str =
-    "; there is no remainder but by powers of two: by 2 it is `and(x, 1)`, by 16 `and(x, 15)`";
-
-pub(crate) const POWER: &str = "; there is no power: 2 to the power k is `shl(1, k)`";
-
-const ABSOLUTE: &str = "; |a - b| is `sub(max(a, b), min(a, b))`";
-
-const SENT: &str = "; `L` and `R` are what the neighbours sent in this round, one number each";
-
-const SETS: &str = "; there are no sets: compare with each number, as in `or(eq(x, 5), eq(x, 6))`";
-
-const LEFT: &str = "; the message from the left is `L`, which the assignments of a round read";
-
-const RIGHT: &str = "; the message from the right is `R`, which the assignments of a round read";
-
-const OWN: &str = "; the identifier is `id`, which is read in `start` alone: a register keeps it";
-
-const COUNTS: &str = "; there is no word for the number of rounds, of nodes or of identifiers";
-
-const SIZES: &str =
-    "; there is no word for the number of nodes or of bits: compare with powers of 2, as in `le(4, x)`";
-
-const FARTHER: &str = "; what is farther away than the neighbours takes one more round";
-
-const OLD: &str = "; a round reads the registers from before it: the old value of r0 is `r0`";
-
-const NAMES: &str = "; values have no names: an expression is written out wherever it is read";
-
-const NOTHING: &str = "; there is no empty value: each is a number";
-
-const OPTION: &str = "; this is an option of the commands, as in `nbhd judge --ids 8 --near 2`";
-
-const STOPS: &str = "; `sub` stops at 0";
-
-const BITWISE: &str = "; `not` is bit by bit: `eq(x, 0)` exchanges 0 and 1";
-
-const EXAMPLE: &str = "; where this stands in an example, an expression is written";
-
-const BRACKETS: &str = "; brackets are only written after the name of an operation";
-
-const BEHIND: &str = "; an operation is written before its operands, as in `add(a, b)`";
-
-const SIDES: &str = "; each side has a `send` of its own";
-
-const REGISTERS: &str = "; registers are `r0` to `r7`, and values have no other names";
-
-const ONCE: &str = "; each register is assigned once, in order";
-
-const STAYS: &str = "; each register is assigned once, in order, as in `r0 = r0` where it stays";
-
-const SINGLE: &str =
-    "; an assignment has one register, and a branch of `if` has none: `eq(a, b)` compares";
-
-// Words that have nothing of the kind, wherever they are met.
-const WORDS: [(&str, &str); 17] = [
-    ("while for do repeat until loop foreach", LOOPS),
-    ("def fn func function lambda", "; there are no functions"),
-    (
-        "print echo printf puts",
-        "; nothing is printed: the channel is the expression of `finish`",
-    ),
-    ("rand random", "; nothing is random"),
-    ("wait sync synchronize barrier", WAITS),
-    (
-        "receive received receives recv listen get message messages msg",
-        SENT,
-    ),
-    (
-        "neighbor neighbour neighbors neighbours nbr parent child",
-        SENT,
-    ),
-    ("mul times mult multiply product", PRODUCT),
-    ("div divide quotient", QUOTIENT),
-    ("mod rem modulo", REMAINDER),
-    ("pow power exp", POWER),
-    (
-        "then else elif elsif elseif endif fi case switch when match",
-        CHOICE,
-    ),
-    ("in", SETS),
-    (
-        "nand",
-        "; write `not(and(a, b))`, or `eq(and(a, b), 0)` for 0 and 1",
-    ),
-    (
-        "nor",
-        "; write `not(or(a, b))`, or `eq(or(a, b), 0)` for 0 and 1",
-    ),
-    (
-        "neg negate",
-        "; numbers have no sign: `not(a)` is 4294967295 - a",
-    ),
-    ("abs", ABSOLUTE),
-];
-
-// Such words in an expression.
-const VALUES: [(&str, &str); 10] = [
-    ("m n t T M N delta degree deg size count", COUNTS),
-    ("len length log log2 msb clz", SIZES),
-    (
-        "lsb ctz ffs",
-        "; the least index of a bit that is 1 in x is `ldb(x, 0)`",
-    ),
-    (
-        "popcount bitcount",
-        "; there is no such operation: add `bit(x, 0)`, `bit(x, 1)` and so on",
-    ),
-    ("LL RR LR RL", FARTHER),
-    ("old", OLD),
-    ("let where", NAMES),
-    ("input place position pos index", OWN),
-    ("ids near far", OPTION),
-    ("implies", "; for 0 and 1, write `le(a, b)`"),
-];
-
-// Words in whose place another one is written, and what is to be known of it.
-const OTHERS: [(&str, &str); 6] = [
-    ("left Left LEFT l prev pred previous fromLeft msgL", LEFT),
-    ("right Right RIGHT next succ fromRight msgR r", RIGHT),
-    ("self me my uid ident identifier myid node ID Id iD", OWN),
-    ("minus diff subtract", STOPS),
-    (
-        "null nil none None NULL pass skip nop idle empty void nothing",
-        NOTHING,
-    ),
-    ("ro rO", "; `r0` is written with the digit 0"),
-];
-
-// Signs behind an expression.
-const OPERATORS: [(&str, &str); 8] = [
-    ("-", STOPS),
-    (
-        "&&",
-        "; `and` is bit by bit: a number is made 0 or 1 by `ne(a, 0)`",
-    ),
-    (
-        "^",
-        "; `xor` is bit by bit, and 2 to the power k is `shl(1, k)`",
-    ),
-    ("*", PRODUCT),
-    ("/ //", QUOTIENT),
-    ("%", REMAINDER),
-    ("**", POWER),
-    ("` \\", BEHIND),
-];
-
-// Signs before an expression.
-const MARKS: [(&str, &str); 5] = [
-    ("!", BITWISE),
-    ("[ {", BRACKETS),
-    ("+", "; numbers have no sign"),
-    ("--", STOPS),
-    ("\" '", "; programs have no quotation marks"),
-];
-
-// Signs in the place of an expression.
-const EMPTY: [(&str, &str); 3] = [
-    ("-", "; numbers have no sign, and `sub(a, b)` stops at 0"),
-    ("|", ABSOLUTE),
-    ("? .. ... ??", EXAMPLE),
-];
-
-// Returns what stands in a table beside the word.
-fn row_of(rows: &[(&str, &'static str)], word: &[u8]) -> Option<&'static str> {
-    for row in rows {
-        if is_one_of(row.0, word) {
-            return Some(row.1);
-        }
-    }
-    None
+// A token that cannot stand where it does.
+#[derive(Clone, Copy)]
+struct Met<'a> {
+    tokens: Tokens<'a>,
+    number: usize,
+    expected: Expected,
 }
 
 // Returns a fact with a word in it.
-fn about<'a>(
-    told: Told,
-    head: &'static str,
-    word: &'a [u8],
-    tail: &'static str,
-) -> Option<Fact<'a>> {
-    Some(Fact {
-        told,
-        head,
-        word,
-        tail,
-    })
+fn about<'a>(told: Told, text: &'static str, word: &'a [u8]) -> Option<Fact<'a>> {
+    Some(Fact { told, text, word })
 }
 
-fn alone(head: &'static str) -> Option<Fact<'static>> {
-    about(Told::Alone, head, b"", "")
+fn alone(text: &'static str) -> Option<Fact<'static>> {
+    about(Told::Alone, text, b"")
 }
 
-fn beside(head: &'static str) -> Option<Fact<'static>> {
-    about(Told::Beside, head, b"", "")
+fn beside(text: &'static str) -> Option<Fact<'static>> {
+    about(Told::Beside, text, b"")
 }
 
-fn without(head: &'static str) -> Option<Fact<'static>> {
-    about(Told::Without, head, b"", "")
-}
-
-// Returns where a token stands.
-fn place_of(tokens: Tokens, number: usize, expected: Expected) -> Place {
-    match expected {
-        Expected::Expression => Place::Before,
-        Expected::Number => Place::Number,
-        This(Token::Channels | Token::Registers | Token::Start) => Place::Line,
-        _ if ends_operand(tokens, before(number, 1)) && !begins_line(tokens, number) => {
-            Place::Behind
-        }
-        _ => Place::Line,
-    }
+fn without(text: &'static str) -> Option<Fact<'static>> {
+    about(Told::Without, text, b"")
 }
 
 // Returns the fact on a fault, if there is one.
 pub(crate) fn fact_at<'a>(tokens: Tokens<'a>, misread: Misread) -> Option<Fact<'a>> {
     let offset = misread.fault.offset;
-    let number = number_at(tokens, offset);
     if misread.fault.kind == FaultKind::NotAscii {
         return beside(fact_on_sign(part(tokens.text, offset, tokens.text.len())));
     }
-    if misread.fault.kind == FaultKind::HeaderRange && is_mark(tokens, after(number, 1)) {
-        return alone("; one number is written here, not a range");
-    }
-    let expected = misread.expected?;
-    let place = place_of(tokens, number, expected);
+    let number = number_at(tokens, offset);
+    let met = Met {
+        tokens,
+        number,
+        expected: misread.expected?,
+    };
     if is_mark(tokens, number) {
-        return fact_on_marks(tokens, number, place, expected);
+        return met.on_marks();
     }
     if is_strange(tokens, number) {
-        return fact_on_word(tokens, number, place, expected);
+        met.on_word()
+    } else {
+        met.on_known()
     }
-    fact_on_known(tokens, number, place, expected)
 }
 
-// Returns the fact on a word that is not of the language.
-fn fact_on_word<'a>(
-    tokens: Tokens<'a>,
-    number: usize,
-    place: Place,
-    expected: Expected,
-) -> Option<Fact<'a>> {
-    let word = word_of(tokens, number);
-    let next = after(number, 1);
-    let is_before = matches!(token_of(tokens, next), Some(Token::Register(_)));
-    let is_assigned = matches!(expected, This(Token::Register(_)))
-        && matches!(word_of(tokens, next), [b'=' | b'(' | b'[']);
-    if let Some(told) = row_of(&WORDS, word) {
-        return alone(told);
+impl<'a> Met<'a> {
+    // Returns the token, or one so many after it.
+    fn token(self, count: usize) -> Option<Token> {
+        token_of(self.tokens, after(self.number, count))
     }
-    if is_before && place == Place::Line {
-        return None;
+
+    // Returns the token before it.
+    fn last(self) -> Option<Token> {
+        token_of(self.tokens, before(self.number, 1))
     }
-    match place {
-        Place::Before => fact_on_value(tokens, number),
-        Place::Behind => without("; one expression is written here, and a comment begins with `#`"),
-        Place::Number => without("; a number is written in digits"),
-        Place::Line if is_assigned => {
-            beside("; registers are `r0` to `r7`, and have no other names")
+
+    // Returns the bytes of the token, or of one so many after it.
+    fn word(self, count: usize) -> &'a [u8] {
+        word_of(self.tokens, after(self.number, count))
+    }
+
+    // Returns where the token stands.
+    fn place(self) -> Place {
+        let is_behind = ends_operand(self.tokens, before(self.number, 1));
+        match self.expected {
+            Expected::Expression => Place::Before,
+            Expected::Number => Place::Number,
+            This(Token::Channels | Token::Registers | Token::Start) => Place::Line,
+            _ if is_behind && !begins_line(self.tokens, self.number) => Place::Behind,
+            _ => Place::Line,
         }
-        Place::Line => expectation(tokens, number, expected),
     }
-}
 
-// Returns the fact on a word that is no expression.
-fn fact_on_value<'a>(tokens: Tokens<'a>, number: usize) -> Option<Fact<'a>> {
-    let word = word_of(tokens, number);
-    let next = word_of(tokens, after(number, 1));
-    match (word, next) {
-        ([b'r'], [b'0'..=b'9' | b'_' | b'[' | b'(', ..]) => without("; registers are `r0` to `r7`"),
-        ([b'0'..=b'9', .., b'L' | b'R'], _) | ([b'0'..=b'9', .., b'r', b'0'..=b'9'], _) => without(
-            PRODUCT,
-        ),
-        ([b'0'..=b'9', ..], _) => without("; a number has only digits, and is decimal"),
-        _ if names_operand(tokens, number) => beside("; operands have no names"),
-        _ => match (row_of(&OTHERS, word), row_of(&VALUES, word)) {
-            (Some(told), _) => beside(told),
-            (_, Some(told)) => alone(told),
-            _ if next == b"(".as_slice() => {
-                about(
-                    Told::Without,
-                    "; there is no operation `",
-                    word,
-                    "`: LANGUAGE.md lists all",
-                )
+    // Returns the fact on a word that is not of the language.
+    fn on_word(self) -> Option<Fact<'a>> {
+        let place = self.place();
+        let is_assigned = matches!(self.expected, This(Token::Register(_)))
+            && matches!(self.word(1), [b'=' | b'(' | b'[']);
+        let has_register = matches!(self.token(1), Some(Token::Register(_)));
+        if let Some(told) = row_of(&WORDS, self.word(0)) {
+            return alone(told);
+        }
+        first! {
+            place == Place::Line && has_register => None;
+            place == Place::Before => self.on_value();
+            place == Place::Behind => without("; one expression is written here, and a comment begins with `#`");
+            place == Place::Number => without("; a number is written in digits");
+            is_assigned => beside("; registers are `r0` to `r7`, and have no other names");
+            else self.expectation()
+        }
+    }
+
+    // Returns the fact on a word that is no expression.
+    fn on_value(self) -> Option<Fact<'a>> {
+        let (word, next) = (self.word(0), self.word(1));
+        let is_parted = matches!(next, [b'0'..=b'9' | b'_' | b'[' | b'(', ..]);
+        let is_product = matches!(
+            word,
+            [b'0'..=b'9', .., b'L' | b'R'] | [b'0'..=b'9', .., b'r', b'0'..=b'9']
+        );
+        first! {
+            word == b"r".as_slice() && is_parted => without("; registers are `r0` to `r7`");
+            is_product => without(PRODUCT);
+            matches!(word, [b'0'..=b'9', ..]) => without("; a number has only digits, and is decimal");
+            names_operand(self.tokens, self.number) => beside("; operands have no names");
+            else match row_of(&VALUES, word) {
+                Some((told, text)) => about(told, text, b""),
+                None if next == b"(".as_slice() => about(Told::Without, "; there is no operation `{}`: LANGUAGE.md lists all", word),
+                None => without("; registers are `r0` to `r7`, and values have no other names"),
             }
-            _ => without(REGISTERS),
-        },
+        }
     }
-}
 
-// Returns the fact on marks that are not of the language, or on `=`.
-fn fact_on_marks<'a>(
-    tokens: Tokens<'a>,
-    number: usize,
-    place: Place,
-    expected: Expected,
-) -> Option<Fact<'a>> {
-    let end = after_marks(tokens, number);
-    let marks = text_of(tokens, number, end);
-    if matches!(marks, [0..=31 | 127, ..]) {
-        return alone("; this byte does not belong in a text");
-    }
-    if is_one_of("// /* -- ;; % %% <!-- {-", marks) && is_strange(tokens, end) {
-        return beside("; a comment begins with `#`");
-    }
-    if marks == b"_".as_slice() {
-        return without("; words, numbers and registers have no `_`");
-    }
-    if marks == b";".as_slice() && open_operation(tokens, number).is_none() {
-        return beside("; lines end without a mark");
-    }
-    match (place, expected) {
-        (Place::Before, _) => fact_before(tokens, number, marks),
-        (Place::Number, _) if marks == b"-".as_slice() => alone("; numbers have no sign"),
-        (Place::Number, _) | (_, This(Token::Channels | Token::Registers | Token::Start)) => {
-            without("; one number is written here, in digits")
+    // Returns the fact on marks that are not of the language, or on `=`.
+    fn on_marks(self) -> Option<Fact<'a>> {
+        let (tokens, number, place) = (self.tokens, self.number, self.place());
+        let marks = text_of(tokens, number, after_marks(tokens, number));
+        let is_header = matches!(
+            self.expected,
+            This(Token::Channels | Token::Registers | Token::Start)
+        );
+        let is_name = self.expected == This(Token::Equals);
+        let is_end = marks == b";".as_slice() && open_operation(tokens, number).is_none();
+        first! {
+            matches!(marks, [0..=31 | 127, ..]) => alone("; this byte does not belong in a text");
+            begins_comment(tokens, number) => beside("; a comment begins with `#`");
+            marks == b"_".as_slice() => without("; words, numbers and registers have no `_`");
+            is_end => beside("; lines end without a mark");
+            place == Place::Before => self.before_expression(marks);
+            place == Place::Number && marks == b"-".as_slice() => alone("; numbers have no sign");
+            place == Place::Number || is_header => without("; one number is written here, in digits");
+            is_name && marks == b"&=".as_slice() => alone("; an assignment is written `r0 = ..`, as in `r0 = and(r0, ..)`");
+            is_name && marks == b"|".as_slice() => beside(CHOICE);
+            is_name && is_one_of(": ::", marks) => without("; registers have no types");
+            place == Place::Behind => self.behind_expression(marks);
+            is_one_of("{ }", marks) => beside("; a program has no such brackets");
+            else self.expectation()
         }
-        (_, This(Token::Equals)) if marks == b"&=".as_slice() => {
-            alone("; an assignment is written `r0 = ..`, as in `r0 = and(r0, ..)`")
-        }
-        (_, This(Token::Equals)) if is_one_of(": ::", marks) => without(
-            "; registers have no types",
-        ),
-        (Place::Behind, _) => fact_behind(tokens, number, marks),
-        _ if is_one_of("{ }", marks) => beside("; a program has no such brackets"),
-        _ => expectation(tokens, number, expected),
     }
-}
 
-// Returns the fact on marks where an expression is expected.
-fn fact_before<'a>(tokens: Tokens<'a>, number: usize, marks: &[u8]) -> Option<Fact<'a>> {
-    if marks == b"{".as_slice() && has_comma(tokens, number) {
-        return alone(SETS);
+    // Returns the fact on marks where an expression is expected.
+    fn before_expression(self, marks: &[u8]) -> Option<Fact<'a>> {
+        let is_empty = begins_line(self.tokens, after(self.number, 1));
+        first! {
+            marks == b"{".as_slice() && self.has_comma() => alone(SETS);
+            marks == b"-".as_slice() && is_empty => beside(NOTHING);
+            else match row_of(&SIGNS_BEFORE, marks) {
+                Some((told, text)) => about(told, text, b""),
+                None => without("; a mark stands where an expression is written"),
+            }
+        }
     }
-    if marks == b"-".as_slice() && begins_line(tokens, after(number, 1)) {
-        return beside(NOTHING);
-    }
-    match (row_of(&EMPTY, marks), row_of(&MARKS, marks)) {
-        (Some(told), _) => alone(told),
-        (_, Some(told)) => beside(told),
-        _ => without("; a mark stands where an expression is written"),
-    }
-}
 
-// Returns the fact on marks behind an expression.
-fn fact_behind<'a>(tokens: Tokens<'a>, number: usize, marks: &[u8]) -> Option<Fact<'a>> {
-    let last = word_of(tokens, before(number, 1));
-    let is_message = matches!(last, [b'L' | b'R']);
-    let is_number = matches!(last, [b'0'..=b'9', ..]);
-    if assigns(tokens, number) && begins_line(tokens, before(number, 1)) {
-        return beside("; the register before it was read as the expression that is missing");
+    // Returns the fact on marks behind an expression.
+    fn behind_expression(self, marks: &[u8]) -> Option<Fact<'a>> {
+        let (tokens, number) = (self.tokens, self.number);
+        let last = word_of(tokens, before(number, 1));
+        let is_message = matches!(last, [b'L' | b'R']);
+        let is_assigned = assigns(tokens, number);
+        let is_index = marks == b"[".as_slice();
+        let is_dot = marks == b".".as_slice();
+        first! {
+            is_assigned && begins_line(tokens, before(number, 1)) => beside("; the register before it was read as the expression that is missing");
+            is_assigned => alone("; an assignment has one register, and a branch of `if` has none: `eq(a, b)` compares");
+            is_chained(tokens, number) => alone("; a comparison has two sides, as in `and(lt(a, b), lt(b, c))`");
+            is_index && is_message => about(Told::Alone, "; a message is one number: its bit i is `bit({}, i)`", last);
+            is_index => about(Told::Alone, "; bit i of it is `bit({}, i)`", last);
+            is_message && is_one_of(". -> _ ::", marks) => beside("; a message is one number, without parts");
+            is_dot && matches!(last, [b'0'..=b'9', ..]) => without("; numbers are whole");
+            is_dot && !begins_line(tokens, after(number, 1)) => alone("; values have no parts, and an operation is written before its operands, as in `bit(a, i)`");
+            is_one_of("-> =>", marks) => without("; a program has no arrows");
+            else beside(row_of(&SIGNS_BEHIND, marks)?)
+        }
     }
-    if assigns(tokens, number) {
-        return alone(SINGLE);
-    }
-    if is_chained(tokens, number) {
-        return alone("; a comparison has two sides, as in `and(lt(a, b), lt(b, c))`");
-    }
-    match marks {
-        b"[" if is_message => about(
-            Told::Alone,
-            "; a message is one number: its bit i is `bit(",
-            last,
-            ", i)`",
-        ),
-        b"[" => about(Told::Alone, "; bit i of it is `bit(", last, ", i)`"),
-        b"." | b"->" | b"_" | b"::" if is_message => beside(
-            "; a message is one number, without parts",
-        ),
-        b"." if is_number => without("; numbers are whole"),
-        b"." if !begins_line(tokens, after(number, 1)) => alone(
-            "; values have no parts, and an operation is written before its operands, as in `bit(a, i)`",
-        ),
-        b"->" | b"=>" => without("; a program has no arrows"),
-        _ => beside(row_of(&OPERATORS, marks)?),
-    }
-}
 
-// Returns the fact on a token of the language that cannot follow.
-fn fact_on_known<'a>(
-    tokens: Tokens<'a>,
-    number: usize,
-    place: Place,
-    expected: Expected,
-) -> Option<Fact<'a>> {
-    let met = token_of(tokens, number);
-    let last = token_of(tokens, before(number, 1));
-    let next = token_of(tokens, after(number, 1));
-    let is_expression = expected == Expected::Expression;
-    let is_behind = place == Place::Behind && begins_operand(tokens, number);
-    match (expected, met?) {
-        (_, Token::Comma) if last == Some(Token::Left) || next == Some(Token::Right) => beside(
-            SIDES,
-        ),
-        (_, Token::Right) if last == Some(Token::Left) || expected == This(Token::Open) => alone(
-            SIDES,
-        ),
-        (_, Token::Left) if is_expression => beside(LEFT),
-        (_, Token::Right) if is_expression => beside(RIGHT),
-        (_, Token::Open) if is_expression && has_comma(tokens, number) => {
-            without("; the name of an operation is missing before it")
+    // Returns the fact on a token of the language that cannot follow.
+    fn on_known(self) -> Option<Fact<'a>> {
+        let (tokens, expected, last) = (self.tokens, self.expected, self.last());
+        let met = self.token(0)?;
+        let is_behind = self.place() == Place::Behind;
+        let is_expression = expected == Expected::Expression;
+        let is_open = met == Token::Open;
+        let is_side = met == Token::Comma
+            && (last == Some(Token::Left) || self.token(1) == Some(Token::Right));
+        let is_right = met == Token::Right
+            && (last == Some(Token::Left) || expected == This(Token::Open));
+        let has_arity = match met {
+            Token::Comma => is_expression || expected == This(Token::Close),
+            Token::Close => is_expression || expected == This(Token::Comma),
+            _ => false,
+        };
+        first! {
+            is_side => beside(SIDES);
+            is_right => alone(SIDES);
+            is_expression && met == Token::Left => beside(LEFT);
+            is_expression && met == Token::Right => beside(RIGHT);
+            is_expression && is_open && self.has_comma() => without("; the name of an operation is missing before it");
+            is_expression && is_open => beside(BRACKETS);
+            is_open && self.place() == Place::Line => without("; no brackets are allowed here");
+            is_open && is_behind && last == Some(Token::Id) => alone("; `id` is the identifier of the node, and no operation");
+            is_open && is_behind => beside("; no bracket follows a number, a register, `id`, `L` or `R`");
+            has_arity => self.arity();
+            is_behind && begins_operand(tokens, self.number) => without(BEHIND);
+            is_expression && self.hides_comment() => beside("; what follows `#` on a line is a comment");
+            is_expression && !begins_line(tokens, self.number) => about(Told::Without, "; `{}` has no value", self.word(0));
+            else self.expectation()
         }
-        (_, Token::Open) if is_expression => beside(BRACKETS),
-        (_, Token::Open) if place == Place::Line => without("; no brackets are allowed here"),
-        (_, Token::Open) if place == Place::Behind => {
-            beside("; no bracket follows a number, a register, `id`, `L` or `R`")
+    }
+
+    // Returns whether a comma stands between the bracket at the token and the one that closes it.
+    fn has_comma(self) -> bool {
+        let end = operand_end(self.tokens, after(self.number, 1));
+        token_of(self.tokens, end) == Some(Token::Comma)
+    }
+
+    // Returns whether a comment stands between the token and the one before it.
+    fn hides_comment(self) -> bool {
+        let from = end_of(self.tokens, before(self.number, 1));
+        let to = start_of(self.tokens, self.number);
+        self.number > 0 && part(self.tokens.text, from, to).contains(&b'#')
+    }
+
+    // Returns how many operands the operation takes whose bracket is open before the token.
+    fn arity(self) -> Option<Fact<'a>> {
+        let operation = open_operation(self.tokens, self.number)?;
+        let text = match operands_of(self.tokens, operation) {
+            1 => "; `{}` takes 1 operand",
+            2 => "; `{}` takes 2 operands",
+            3 => "; `{}` takes 3 operands",
+            _ => return None,
+        };
+        about(Told::Beside, text, word_of(self.tokens, operation))
+    }
+
+    // Returns what is true of a program where this is expected.
+    fn expectation(self) -> Option<Fact<'a>> {
+        let met = self.token(0);
+        match self.expected {
+            This(Token::Open) => self.brackets(),
+            This(Token::Comma | Token::Close) if met.is_none() => self.arity(),
+            This(Token::Comma) if begins_operand(self.tokens, self.number) => without(BEHIND),
+            This(Token::Comma | Token::Close) => without("; a bracket is open"),
+            This(Token::Equals) => without("; an assignment is written `r0 = ..`"),
+            Expected::End => without("; the expression of `finish` ends the program"),
+            Expected::Number => without("; a number is written in digits"),
+            This(Token::Rounds) if matches!(met, Some(Token::Number(_))) => {
+                without("; the lines have no numbers")
+            }
+            This(Token::Rounds | Token::Channels | Token::Registers | Token::Start) => {
+                without("; a program begins with `rounds`, `channels`, `registers` and `start`")
+            }
+            _ => self.line_expected(),
         }
-        (Expected::Expression | This(Token::Close), Token::Comma)
-        | (Expected::Expression | This(Token::Comma), Token::Close) => arity(tokens, number),
-        _ if is_behind => without(BEHIND),
-        _ if is_expression && hides_comment(tokens, number) => {
-            beside("; what follows `#` on a line is a comment")
-        }
-        _ if is_expression && !begins_line(tokens, number) => {
-            about(
+    }
+
+    // Returns the fact on an operation without brackets.
+    fn brackets(self) -> Option<Fact<'a>> {
+        let name = word_of(self.tokens, before(self.number, 1));
+        match self.last() {
+            Some(Token::One(_)) => beside(BITWISE),
+            Some(Token::If) => beside(CHOICE),
+            _ => about(
                 Told::Without,
-                "; `",
-                word_of(tokens, number),
-                "` has no value",
-            )
+                "; the operands of `{}` are written in brackets",
+                name,
+            ),
         }
-        _ => expectation(tokens, number, expected),
     }
-}
 
-// Returns whether a comma stands between the bracket at a token and the one that closes it.
-fn has_comma(tokens: Tokens, number: usize) -> bool {
-    let end = operand_end(tokens, after(number, 1));
-    token_of(tokens, end) == Some(Token::Comma)
-}
-
-// Returns whether a comment stands between a token and the one before it.
-fn hides_comment(tokens: Tokens, number: usize) -> bool {
-    let from = end_of(tokens, before(number, 1));
-    number > 0 && part(tokens.text, from, start_of(tokens, number)).contains(&b'#')
-}
-
-// Returns how many operands the operation takes whose bracket is open before a token.
-fn arity<'a>(tokens: Tokens<'a>, number: usize) -> Option<Fact<'a>> {
-    let operation = open_operation(tokens, number)?;
-    let tail = match operands_of(tokens, operation) {
-        1 => "` takes 1 operand",
-        2 => "` takes 2 operands",
-        3 => "` takes 3 operands",
-        _ => return None,
-    };
-    about(Told::Beside, "; `", word_of(tokens, operation), tail)
-}
-
-// Returns what is true of a program where this is expected.
-fn expectation<'a>(tokens: Tokens<'a>, number: usize, expected: Expected) -> Option<Fact<'a>> {
-    let met = token_of(tokens, number);
-    let is_operand = begins_operand(tokens, number);
-    match expected {
-        This(Token::Open) => brackets(tokens, before(number, 1)),
-        This(Token::Comma | Token::Close) if met.is_none() => arity(tokens, number),
-        This(Token::Comma) if is_operand => without(BEHIND),
-        This(Token::Comma | Token::Close) => without("; a bracket is open"),
-        This(Token::Equals) => without("; an assignment is written `r0 = ..`"),
-        Expected::End => without("; the expression of `finish` ends the program"),
-        Expected::Number => without("; a number is written in digits"),
-        This(Token::Rounds) if matches!(met, Some(Token::Number(_))) => {
-            without("; the lines have no numbers")
+    // Returns what is true of a program where what begins a line of a round or an assignment is expected.
+    fn line_expected(self) -> Option<Fact<'a>> {
+        let (expected, met) = (self.expected, self.token(0));
+        let is_round = has_before(self.tokens, self.number, Token::Round);
+        let is_register = matches!(expected, This(Token::Register(_)));
+        let is_value = matches!(met, Some(Token::FromLeft | Token::FromRight | Token::Id));
+        let is_choice = matches!(met, Some(Token::One(_) | Token::Two(_) | Token::If));
+        let is_counted = matches!(met, Some(Token::Finish | Token::Round | Token::Send))
+            && matches!(expected, This(Token::Round | Token::Finish));
+        let is_sent = matches!(met, Some(Token::Register(_) | Token::Number(_)));
+        let is_early = met == Some(Token::Send) && (is_register || expected == This(Token::Round));
+        let is_side = expected == This(Token::Left);
+        let sends = matches!(expected, This(Token::Send | Token::Left | Token::Right));
+        first! {
+            is_early && !is_round => beside("; messages are sent only in rounds");
+            is_counted => beside("; there are as many rounds as `rounds` says");
+            is_side && met == Some(Token::Right) => beside("; `send left` comes first, then `send right`");
+            is_side && is_sent => beside(SIDES);
+            sends => without("; a round begins with `send left ..` and `send right ..`");
+            is_value && self.token(1) == Some(Token::Equals) => alone("; only registers are assigned: a value is sent by `send left` and `send right`");
+            is_choice => beside("; one expression is assigned to each register, as in `r0 = if(c, a, b)`");
+            is_register && is_round => beside("; each register is assigned once, in order, as in `r0 = r0` where it stays");
+            is_register => beside("; each register is assigned once, in order");
+            matches!(met, Some(Token::Register(_))) => beside("; each register is assigned once, and `registers` says how many there are");
+            expected == This(Token::Finish) => without("; each register is assigned once, then comes `finish`");
+            else None
         }
-        This(Token::Rounds | Token::Channels | Token::Registers | Token::Start) => {
-            without("; a program begins with `rounds`, `channels`, `registers` and `start`")
-        }
-        _ => line_expected(tokens, number, expected),
-    }
-}
-
-// Returns the fact on an operation without brackets.
-fn brackets<'a>(tokens: Tokens<'a>, operation: usize) -> Option<Fact<'a>> {
-    let name = word_of(tokens, operation);
-    match token_of(tokens, operation) {
-        Some(Token::One(_)) => beside(BITWISE),
-        Some(Token::If) => beside(CHOICE),
-        _ => about(
-            Told::Without,
-            "; the operands of `",
-            name,
-            "` are written in brackets",
-        ),
-    }
-}
-
-// Returns what is true of a program where what begins a line of a round or an assignment is expected.
-fn line_expected<'a>(tokens: Tokens<'a>, number: usize, expected: Expected) -> Option<Fact<'a>> {
-    let is_assigned = token_of(tokens, after(number, 1)) == Some(Token::Equals);
-    let is_round = has_before(tokens, number, Token::Round);
-    match (expected, token_of(tokens, number)) {
-        (This(Token::Round | Token::Register(_)), Some(Token::Send)) if !is_round => {
-            beside("; messages are sent only in rounds")
-        }
-        (This(Token::Round | Token::Finish), Some(Token::Finish | Token::Round | Token::Send)) => {
-            beside("; there are as many rounds as `rounds` says")
-        }
-        (This(Token::Left), Some(Token::Right)) => {
-            beside("; `send left` comes first, then `send right`")
-        }
-        (This(Token::Left), Some(Token::Register(_) | Token::Number(_))) => beside(SIDES),
-        (This(Token::Send | Token::Left | Token::Right), _) => {
-            without("; a round begins with `send left ..` and `send right ..`")
-        }
-        (_, Some(Token::FromLeft | Token::FromRight | Token::Id)) if is_assigned => {
-            alone("; only registers are assigned: a value is sent by `send left` and `send right`")
-        }
-        (_, Some(Token::One(_) | Token::Two(_) | Token::If)) => {
-            beside("; one expression is assigned to each register, as in `r0 = if(c, a, b)`")
-        }
-        (This(Token::Register(_)), _) if is_round => beside(STAYS),
-        (This(Token::Register(_)), _) => beside(ONCE),
-        (_, Some(Token::Register(_))) => {
-            beside("; each register is assigned once, and `registers` says how many there are")
-        }
-        (This(Token::Finish), _) => {
-            without("; each register is assigned once, then comes `finish`")
-        }
-        _ => None,
     }
 }

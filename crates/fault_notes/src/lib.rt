@@ -14,6 +14,7 @@ mod placed;
 mod program_notes;
 mod repair;
 mod rewrites;
+mod rows;
 mod signs;
 mod text_notes;
 mod tokens;

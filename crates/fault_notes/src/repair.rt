@@ -5,10 +5,11 @@ ghost use Rattle.fault_notes.specs.Repairs as repair;
 
 use crate::candidates::candidates;
 use crate::edits::{Edit, fault_in, left_after};
-use crate::facts::{Fact, Told, fact_at};
+use crate::facts::{Fact, fact_at};
 use crate::misread::Misread;
 use crate::names::is_known;
 use crate::rewrites::{edit_of, rewrite};
+use crate::rows::Told;
 use crate::tokens::{Tokens, before, number_at, part, tokens_in};
 use node_lang::{Expected, FaultKind, TextFault, expected_in};
 use node_program::OutOfMemory;
@@ -55,18 +56,13 @@ fn repair_of(
     if repair.is_some() {
         return Ok(repair);
     }
-    let Some(expected) = tried_at(misread, fact) else {
-        return Ok(None);
-    };
-    let edits = candidates(alloc, tokens, number_at(tokens, offset), expected)?;
-    best_of(alloc, tokens.text, offset, edits)
-}
-
-// Returns what is expected at a fault, if edits are tried there.
-fn tried_at(misread: Misread, fact: Option<Fact>) -> Option<Expected> {
-    match fact {
-        Some(fact) if fact.told == Told::Alone => None,
-        _ => misread.expected,
+    match (fact, misread.expected) {
+        (Some(fact), _) if fact.told == Told::Alone => Ok(None),
+        (_, Some(expected)) => {
+            let edits = candidates(alloc, tokens, number_at(tokens, offset), expected)?;
+            best_of(alloc, tokens.text, offset, edits)
+        }
+        (_, None) => Ok(None),
     }
 }
 
@@ -75,11 +71,10 @@ fn told(alloc: Global, fact: Option<Fact>, is_mended: bool) -> Result<String, Al
     let mut out = String::new(alloc);
     match fact {
         Some(fact) if !is_mended || fact.told != Told::Without => {
-            out.push_str(fact.head)?;
-            if !fact.tail.is_empty() {
-                write_shown(&mut out, fact.word)?;
-                out.push_str(fact.tail)?;
-            }
+            let (head, tail) = fact.text.split_once("{}").unwrap_or((fact.text, ""));
+            out.push_str(head)?;
+            write_shown(&mut out, fact.word)?;
+            out.push_str(tail)?;
         }
         _ => {}
     }
@@ -135,25 +130,16 @@ fn best_of(
 // stand twice.
 fn most_left(text: &[u8], edit: &Edit) -> usize {
     let old = part(text, edit.from, edit.to);
-    let is_line = matches!(last_of(text, edit.from), b"" | b"\n")
-        && matches!(part(text, edit.to, edit.to.saturating_add(1)), b"" | b"\n")
+    let last = part(text, before(edit.from, 1), edit.from);
+    let next = part(text, edit.to, edit.to.saturating_add(1));
+    let is_line = matches!((last, next), (b"" | b"\n", b"" | b"\n"))
         && matches!(old, [b'A'..=b'Z' | b'a'..=b'z', ..]);
     let is_long = old.contains(&b' ') || old.contains(&b'\n') || is_line;
-    if !edit.put.is_empty() || !is_long && !is_known(old) {
+    let front = part(text, 0, edit.from).trim_ascii_end();
+    if !edit.put.is_empty() || !is_long && !is_known(old) || front.ends_with(old) {
         return usize::MAX;
     }
-    let blanks = part(text, 0, edit.from)
-        .iter()
-        .rev()
-        .take_while(|byte| b" \n\t\r".contains(*byte))
-        .count();
-    let is_twice = part(text, 0, edit.from.saturating_sub(blanks)).ends_with(old);
-    if is_twice { usize::MAX } else { 0 }
-}
-
-// Returns the byte before a place of a text, an empty text if there is none.
-fn last_of(text: &[u8], place: usize) -> &[u8] {
-    part(text, before(place, 1), place)
+    0
 }
 
 // Returns a text after an edit, without blanks around what is put.

@@ -3,7 +3,8 @@
 use crate::edits::Edit;
 use crate::misread::Misread;
 use crate::names::{is_known, is_strange, reads_as};
-use crate::operators::{COMPARED, SCALED, chain_end, operator_at, scaled, tightest};
+use crate::operators::{chain_end, operator_at, scaled, tightest};
+use crate::rows::{COMPARED, SCALED};
 use crate::signs::plain_sign;
 use crate::tokens::{
     Tokens, after, after_marks, before, begins_line, begins_operand, end_of, ends_operand, is_mark,
@@ -13,6 +14,9 @@ use crate::tokens::{
 use node_lang::{Expected, Token};
 use source_places::is_one_of;
 use std::alloc::{AllocError, Global};
+
+// An edit, if there is one.
+pub(crate) type Found = Result<Option<Edit>, AllocError>;
 
 // Returns the edit of a part of a text that puts these pieces there.
 pub(crate) fn edit_of(
@@ -28,26 +32,9 @@ pub(crate) fn edit_of(
     Ok(Edit { from, to, put })
 }
 
-// Returns the edit of the tokens from one up to another that puts these pieces there, as an answer.
-fn step(
-    alloc: Global,
-    tokens: Tokens,
-    first: usize,
-    end: usize,
-    pieces: &[&[u8]],
-) -> Result<Option<Edit>, AllocError> {
-    let to = end_of(tokens, before(end, 1));
-    Ok(Some(edit_of(alloc, start_of(tokens, first), to, pieces)?))
-}
-
 // Returns an edit that is a step towards a text of a program, if there is one.
-pub(crate) fn rewrite(
-    alloc: Global,
-    text: &[u8],
-    misread: Misread,
-) -> Result<Option<Edit>, AllocError> {
-    let offset = misread.fault.offset;
-    let signs = sign_written(alloc, text, offset)?;
+pub(crate) fn rewrite(alloc: Global, text: &[u8], misread: Misread) -> Found {
+    let signs = sign_written(alloc, text, misread.fault.offset)?;
     if signs.is_some() {
         return Ok(signs);
     }
@@ -56,114 +43,16 @@ pub(crate) fn rewrite(
     };
     let all = tokens_in(alloc, text)?;
     let tokens = Tokens { text, all: &all };
-    let number = number_at(tokens, offset);
-    let is_twice = word_of(tokens, number) == word_of(tokens, before(number, 1));
-    if is_twice && !is_mark(tokens, number) && token_of(tokens, number) != Some(Token::Open) {
-        return Ok(None);
-    }
-    if let Some(edit) = word_written(alloc, tokens, number, expected)? {
-        return Ok(Some(edit));
-    }
-    match expected {
-        Expected::Expression => expression_written(alloc, tokens, number),
-        Expected::This(Token::Equals) => assigned(alloc, tokens, number),
-        Expected::This(Token::Open) => wrapped(alloc, tokens, number),
-        Expected::Number => Ok(None),
-        _ => joined(alloc, tokens, number),
-    }
+    let number = number_at(tokens, misread.fault.offset);
+    Step { alloc, tokens }.at_token(number, expected)
 }
 
 // Writes what stands for a sign.
-fn sign_written(alloc: Global, text: &[u8], offset: usize) -> Result<Option<Edit>, AllocError> {
+fn sign_written(alloc: Global, text: &[u8], offset: usize) -> Found {
     let Some((len, plain)) = plain_sign(part(text, offset, text.len())) else {
         return Ok(None);
     };
     Ok(Some(edit_of(alloc, offset, after(offset, len), &[plain])?))
-}
-
-// Writes a word with small letters, or the word that stands for it.
-fn word_written(
-    alloc: Global,
-    tokens: Tokens,
-    number: usize,
-    expected: Expected,
-) -> Result<Option<Edit>, AllocError> {
-    let next = after(number, 1);
-    match reads_as(tokens, number, expected) {
-        Some((plain, true)) => return turned(alloc, tokens, number, plain),
-        Some((plain, false)) => return step(alloc, tokens, number, next, &[plain]),
-        None => {}
-    }
-    let mut small = step(alloc, tokens, number, next, &[word_of(tokens, number)])?;
-    if let Some(edit) = &mut small {
-        edit.put.make_ascii_lowercase();
-        if is_strange(tokens, number) && is_known(&edit.put) {
-            return Ok(small);
-        }
-    }
-    Ok(None)
-}
-
-// Writes an operation with its two operands exchanged.
-fn turned(
-    alloc: Global,
-    tokens: Tokens,
-    number: usize,
-    name: &[u8],
-) -> Result<Option<Edit>, AllocError> {
-    let first = after(number, 2);
-    let comma = operand_end(tokens, first);
-    let second = after(comma, 1);
-    let close = operand_end(tokens, second);
-    if token_of(tokens, comma) != Some(Token::Comma)
-        || token_of(tokens, close) != Some(Token::Close)
-    {
-        return Ok(None);
-    }
-    let a = text_of(tokens, first, comma);
-    let b = text_of(tokens, second, close);
-    step(
-        alloc,
-        tokens,
-        number,
-        after(close, 1),
-        &[name, b"(", b, b", ", a, b")"],
-    )
-}
-
-// Writes an operator between operands, or a choice by `?` or `if`, before its operands; and leaves out the
-// marks around an operation, and what stands behind a message.
-fn joined(alloc: Global, tokens: Tokens, number: usize) -> Result<Option<Edit>, AllocError> {
-    let previous = before(number, 1);
-    if !ends_operand(tokens, previous) || begins_line(tokens, number) {
-        return Ok(None);
-    }
-    let last = word_of(tokens, previous);
-    let end = after_marks(tokens, number);
-    let marks = text_of(tokens, number, end);
-    match marks {
-        b"++" => return step(alloc, tokens, previous, end, &[b"add(", last, b", 1)"]),
-        b"--" => return step(alloc, tokens, previous, end, &[b"sub(", last, b", 1)"]),
-        b"`" => return step(
-            alloc,
-            tokens,
-            number,
-            after(end, 2),
-            &[word_of(tokens, end)],
-        ),
-        _ => {}
-    }
-    if matches!(last, [b'L' | b'R']) && is_one_of(". -> _ ::", marks) && is_word(tokens, end) {
-        return step(alloc, tokens, number, after(end, 1), &[]);
-    }
-    match word_of(tokens, number) {
-        [b'?'] => chosen(alloc, tokens, number, b":"),
-        [b'i', b'f'] => chosen(alloc, tokens, number, b"else"),
-        [b'='] if assigns(tokens, number) => Ok(None),
-        [b'.' | b'&' | b'\\'] if plain_sign(text_of(tokens, number, tokens.all.len())).is_some() =>
-            { sign_written(alloc, tokens.text, start_of(tokens, number)) }
-        _ => infix(alloc, tokens, tightest(tokens, number)),
-    }
 }
 
 // Returns whether a token is a word.
@@ -180,9 +69,11 @@ pub(crate) fn assigns(tokens: Tokens, number: usize) -> bool {
     if !is_single || !is_register || token_of(tokens, number) != Some(Token::Equals) {
         return false;
     }
-    begins_line(tokens, register)
-        || token_of(tokens, before(number, 2)) == Some(Token::Equals)
-        || token_of(tokens, before(number, 2)) == Some(Token::Comma) && is_in_choice(tokens, number)
+    match token_of(tokens, before(number, 2)) {
+        _ if begins_line(tokens, register) => true,
+        Some(Token::Comma) => is_in_choice(tokens, number),
+        last => last == Some(Token::Equals),
+    }
 }
 
 // Returns whether a token stands between the brackets of `if`.
@@ -191,38 +82,6 @@ fn is_in_choice(tokens: Tokens, number: usize) -> bool {
         Some(operation) => token_of(tokens, operation) == Some(Token::If),
         None => false,
     }
-}
-
-// Writes an operator between two operands before them. A chain of comparisons is none.
-fn infix(alloc: Global, tokens: Tokens, number: usize) -> Result<Option<Edit>, AllocError> {
-    let Some(operator) = operator_at(tokens, number) else {
-        return Ok(None);
-    };
-    let Some(first) = operand_start(tokens, before(number, 1)) else {
-        return Ok(None);
-    };
-    if !begins_operand(tokens, operator.end) || is_chained(tokens, number) {
-        return Ok(None);
-    }
-    let end = operand_end(tokens, operator.end);
-    let mut a = text_of(tokens, first, number);
-    let mut b = text_of(tokens, operator.end, end);
-    if operator.level == SCALED {
-        let Some(operands) = scaled(operator.sign, a, b) else {
-            return Ok(None);
-        };
-        (a, b) = operands;
-    }
-    if operator.is_turned {
-        (a, b) = (b, a);
-    }
-    step(
-        alloc,
-        tokens,
-        first,
-        end,
-        &[operator.name, b"(", a, b", ", b, b")"],
-    )
 }
 
 // Returns whether another comparison follows the second operand of one.
@@ -240,38 +99,6 @@ pub(crate) fn is_chained(tokens: Tokens, number: usize) -> bool {
     }
 }
 
-// Writes a choice between two values before them: `c ? a : b`, or `a if c else b`.
-fn chosen(
-    alloc: Global,
-    tokens: Tokens,
-    number: usize,
-    other: &[u8],
-) -> Result<Option<Edit>, AllocError> {
-    let Some(first) = operand_start(tokens, before(number, 1)) else {
-        return Ok(None);
-    };
-    let second = after(number, 1);
-    let middle = chain_end(tokens, second);
-    if word_of(tokens, middle) != other {
-        return Ok(None);
-    }
-    let third = after(middle, 1);
-    let end = chain_end(tokens, third);
-    let mut front = text_of(tokens, first, number);
-    let mut mid = text_of(tokens, second, middle);
-    if other != b":".as_slice() {
-        (front, mid) = (mid, front);
-    }
-    let last = text_of(tokens, third, end);
-    step(
-        alloc,
-        tokens,
-        first,
-        end,
-        &[b"if(", front, b", ", mid, b", ", last, b")"],
-    )
-}
-
 // Returns whether a word is the name of an operand, as in `max(a = r0, b = L)`.
 pub(crate) fn names_operand(tokens: Tokens, number: usize) -> bool {
     let mark = after(number, 1);
@@ -281,86 +108,219 @@ pub(crate) fn names_operand(tokens: Tokens, number: usize) -> bool {
         && open_operation(tokens, number).is_some()
 }
 
-// Writes what stands where an expression can begin: an operand behind a mark, or in brackets.
-fn expression_written(
-    alloc: Global,
-    tokens: Tokens,
-    number: usize,
-) -> Result<Option<Edit>, AllocError> {
-    if names_operand(tokens, number) {
-        return step(alloc, tokens, number, after(number, 2), &[]);
-    }
-    let next = after_marks(tokens, number);
-    let end = operand_end(tokens, next);
-    let operand = text_of(tokens, next, end);
-    let marks = text_of(tokens, number, next);
-    if marks == b"(".as_slice() {
-        return unwrapped(alloc, tokens, number, end);
-    }
-    if !begins_operand(tokens, next) {
-        return Ok(None);
-    }
-    match marks {
-        b"!" => step(alloc, tokens, number, end, &[b"eq(", operand, b", 0)"]),
-        b"~" => step(alloc, tokens, number, end, &[b"not(", operand, b")"]),
-        b"--" => step(alloc, tokens, number, end, &[b"sub(", operand, b", 1)"]),
-        b"++" => step(alloc, tokens, number, end, &[b"add(", operand, b", 1)"]),
-        b"$" => step(alloc, tokens, number, next, &[]),
-        b"[" | b"{" => unwrapped(alloc, tokens, number, end),
-        _ => Ok(None),
-    }
+// Steps on the tokens of a text.
+#[derive(Clone, Copy)]
+pub(crate) struct Step<'a> {
+    pub(crate) alloc: Global,
+    pub(crate) tokens: Tokens<'a>,
 }
 
-// Writes what stands in brackets, where `end` follows its first operand.
-fn unwrapped(
-    alloc: Global,
-    tokens: Tokens,
-    number: usize,
-    end: usize,
-) -> Result<Option<Edit>, AllocError> {
-    let inner = text_of(tokens, after(number, 1), end);
-    match word_of(tokens, end) {
-        [b')' | b']' | b'}'] => step(alloc, tokens, number, after(end, 1), &[inner]),
-        _ => joined(alloc, tokens, end),
+impl Step<'_> {
+    // Returns the edit of the tokens from one up to another that puts these pieces there.
+    fn put(self, first: usize, end: usize, pieces: &[&[u8]]) -> Found {
+        let to = end_of(self.tokens, before(end, 1));
+        Ok(Some(edit_of(self.alloc, start_of(self.tokens, first), to, pieces)?))
     }
-}
 
-// Writes an assignment with an operator, as `r0 += 1` or `r0++`. `&=` is also a sign of TeX.
-fn assigned(alloc: Global, tokens: Tokens, number: usize) -> Result<Option<Edit>, AllocError> {
-    let register = word_of(tokens, before(number, 1));
-    let end = after_marks(tokens, number);
-    match text_of(tokens, number, end) {
-        b"++" => step(alloc, tokens, number, end, &[b"= add(", register, b", 1)"]),
-        b"--" => step(alloc, tokens, number, end, &[b"= sub(", register, b", 1)"]),
-        b"&=" | b":=" | b"==" => Ok(None),
-        [sign @ .., b'='] => step(alloc, tokens, number, end, &[b"= ", register, b" ", sign]),
-        _ => Ok(None),
-    }
-}
-
-// Writes brackets around the operands of an operation, and commas between them.
-pub(crate) fn wrapped(
-    alloc: Global,
-    tokens: Tokens,
-    number: usize,
-) -> Result<Option<Edit>, AllocError> {
-    let start = start_of(tokens, number);
-    let mut edit = edit_of(alloc, start, start, &[b"("])?;
-    let mut at = number;
-    for operand in 0..operands_of(tokens, before(number, 1)) {
-        if operand > 0 && token_of(tokens, at) == Some(Token::Comma) {
-            at = after(at, 1);
-        }
-        if !begins_operand(tokens, at) {
+    // Returns a step at the token at which a text cannot go on.
+    fn at_token(self, number: usize, expected: Expected) -> Found {
+        let tokens = self.tokens;
+        let is_twice = word_of(tokens, number) == word_of(tokens, before(number, 1));
+        if is_twice && !is_mark(tokens, number) && token_of(tokens, number) != Some(Token::Open) {
             return Ok(None);
         }
-        let end = operand_end(tokens, at);
-        edit.put
-            .extend_from_slice(if operand > 0 { b", " } else { b"" })?;
-        edit.put.extend_from_slice(text_of(tokens, at, end))?;
-        edit.to = end_of(tokens, before(end, 1));
-        at = end;
+        if let Some(edit) = self.word_written(number, expected)? {
+            return Ok(Some(edit));
+        }
+        match expected {
+            Expected::Expression => self.expression_written(number),
+            Expected::This(Token::Equals) => self.assigned(number),
+            Expected::This(Token::Open) => self.wrapped(number),
+            Expected::Number => Ok(None),
+            _ => self.joined(number),
+        }
     }
-    edit.put.extend_from_slice(b")")?;
-    Ok(Some(edit))
+
+    // Writes a word with small letters, or the word that stands for it.
+    fn word_written(self, number: usize, expected: Expected) -> Found {
+        let next = after(number, 1);
+        match reads_as(self.tokens, number, expected) {
+            Some((plain, true)) => return self.turned(number, plain),
+            Some((plain, false)) => return self.put(number, next, &[plain]),
+            None => {}
+        }
+        let mut small = self.put(number, next, &[word_of(self.tokens, number)])?;
+        if let Some(edit) = &mut small {
+            edit.put.make_ascii_lowercase();
+            if is_strange(self.tokens, number) && is_known(&edit.put) {
+                return Ok(small);
+            }
+        }
+        Ok(None)
+    }
+
+    // Writes an operation with its two operands exchanged.
+    fn turned(self, number: usize, name: &[u8]) -> Found {
+        let tokens = self.tokens;
+        let first = after(number, 2);
+        let comma = operand_end(tokens, first);
+        let second = after(comma, 1);
+        let close = operand_end(tokens, second);
+        let (a, b) = (
+            text_of(tokens, first, comma),
+            text_of(tokens, second, close),
+        );
+        match (token_of(tokens, comma), token_of(tokens, close)) {
+            (Some(Token::Comma), Some(Token::Close)) => {
+                self.put(number, after(close, 1), &[name, b"(", b, b", ", a, b")"])
+            }
+            _ => Ok(None),
+        }
+    }
+
+    // Writes an operator between operands, or a choice by `?` or `if`, before its operands; and leaves out the
+    // marks around an operation, and what stands behind a message.
+    fn joined(self, number: usize) -> Found {
+        let tokens = self.tokens;
+        let previous = before(number, 1);
+        if !ends_operand(tokens, previous) || begins_line(tokens, number) {
+            return Ok(None);
+        }
+        let last = word_of(tokens, previous);
+        let end = after_marks(tokens, number);
+        let marks = text_of(tokens, number, end);
+        let is_message = matches!(last, [b'L' | b'R']) && is_word(tokens, end);
+        match marks {
+            b"++" => return self.put(previous, end, &[b"add(", last, b", 1)"]),
+            b"--" => return self.put(previous, end, &[b"sub(", last, b", 1)"]),
+            b"`" => return self.put(number, after(end, 2), &[word_of(tokens, end)]),
+            _ if is_message && is_one_of(". -> _ ::", marks) => {
+                return self.put(number, after(end, 1), &[]);
+            }
+            _ => {}
+        }
+        let sign = sign_written(self.alloc, tokens.text, start_of(tokens, number))?;
+        match word_of(tokens, number) {
+            _ if sign.is_some() => Ok(sign),
+            [b'?'] => self.chosen(number, b":"),
+            [b'i', b'f'] => self.chosen(number, b"else"),
+            [b'='] if assigns(tokens, number) => Ok(None),
+            _ => self.infix(tightest(tokens, number)),
+        }
+    }
+
+    // Writes an operator between two operands before them. A chain of comparisons is none.
+    fn infix(self, number: usize) -> Found {
+        let tokens = self.tokens;
+        let first = operand_start(tokens, before(number, 1));
+        let (Some(operator), Some(first)) = (operator_at(tokens, number), first) else {
+            return Ok(None);
+        };
+        if !begins_operand(tokens, operator.end) || is_chained(tokens, number) {
+            return Ok(None);
+        }
+        let end = operand_end(tokens, operator.end);
+        let mut a = text_of(tokens, first, number);
+        let mut b = text_of(tokens, operator.end, end);
+        if operator.level >= SCALED {
+            let Some(operands) = scaled(operator.name, operator.level, a, b) else {
+                return Ok(None);
+            };
+            (a, b) = operands;
+        }
+        if operator.is_turned {
+            (a, b) = (b, a);
+        }
+        self.put(first, end, &[operator.name, b"(", a, b", ", b, b")"])
+    }
+
+    // Writes a choice between two values before them: `c ? a : b`, or `a if c else b`.
+    fn chosen(self, number: usize, other: &[u8]) -> Found {
+        let tokens = self.tokens;
+        let Some(first) = operand_start(tokens, before(number, 1)) else {
+            return Ok(None);
+        };
+        let second = after(number, 1);
+        let middle = chain_end(tokens, second);
+        let third = after(middle, 1);
+        let end = chain_end(tokens, third);
+        if word_of(tokens, middle) != other {
+            return Ok(None);
+        }
+        let mut front = text_of(tokens, first, number);
+        let mut mid = text_of(tokens, second, middle);
+        if other != b":".as_slice() {
+            (front, mid) = (mid, front);
+        }
+        let last = text_of(tokens, third, end);
+        self.put(first, end, &[b"if(", front, b", ", mid, b", ", last, b")"])
+    }
+
+    // Writes what stands where an expression can begin: an operand behind a mark, or in brackets.
+    fn expression_written(self, number: usize) -> Found {
+        let tokens = self.tokens;
+        if names_operand(tokens, number) {
+            return self.put(number, after(number, 2), &[]);
+        }
+        let next = after_marks(tokens, number);
+        let end = operand_end(tokens, next);
+        let operand = text_of(tokens, next, end);
+        match text_of(tokens, number, next) {
+            b"(" => self.unwrapped(number, end),
+            _ if !begins_operand(tokens, next) => Ok(None),
+            b"!" => self.put(number, end, &[b"eq(", operand, b", 0)"]),
+            b"~" => self.put(number, end, &[b"not(", operand, b")"]),
+            b"--" => self.put(number, end, &[b"sub(", operand, b", 1)"]),
+            b"++" => self.put(number, end, &[b"add(", operand, b", 1)"]),
+            b"$" => self.put(number, next, &[]),
+            b"[" | b"{" => self.unwrapped(number, end),
+            _ => Ok(None),
+        }
+    }
+
+    // Writes what stands in brackets, where `end` follows its first operand.
+    fn unwrapped(self, number: usize, end: usize) -> Found {
+        let inner = text_of(self.tokens, after(number, 1), end);
+        match word_of(self.tokens, end) {
+            [b')' | b']' | b'}'] => self.put(number, after(end, 1), &[inner]),
+            _ => self.joined(end),
+        }
+    }
+
+    // Writes an assignment with an operator, as `r0 += 1` or `r0++`. `&=` is also a sign of TeX.
+    fn assigned(self, number: usize) -> Found {
+        let register = word_of(self.tokens, before(number, 1));
+        let end = after_marks(self.tokens, number);
+        match text_of(self.tokens, number, end) {
+            b"++" => self.put(number, end, &[b"= add(", register, b", 1)"]),
+            b"--" => self.put(number, end, &[b"= sub(", register, b", 1)"]),
+            b"&=" | b":=" | b"==" => Ok(None),
+            [sign @ .., b'='] => self.put(number, end, &[b"= ", register, b" ", sign]),
+            _ => Ok(None),
+        }
+    }
+
+    // Writes brackets around the operands of an operation, and commas between them.
+    pub(crate) fn wrapped(self, number: usize) -> Found {
+        let tokens = self.tokens;
+        let start = start_of(tokens, number);
+        let mut edit = edit_of(self.alloc, start, start, &[b"("])?;
+        let mut at = number;
+        for operand in 0..operands_of(tokens, before(number, 1)) {
+            if operand > 0 && token_of(tokens, at) == Some(Token::Comma) {
+                at = after(at, 1);
+            }
+            if !begins_operand(tokens, at) {
+                return Ok(None);
+            }
+            let end = operand_end(tokens, at);
+            edit.put
+                .extend_from_slice(if operand > 0 { b", " } else { b"" })?;
+            edit.put.extend_from_slice(text_of(tokens, at, end))?;
+            edit.to = end_of(tokens, before(end, 1));
+            at = end;
+        }
+        edit.put.extend_from_slice(b")")?;
+        Ok(Some(edit))
+    }
 }

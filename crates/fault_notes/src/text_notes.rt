@@ -20,12 +20,6 @@ use source_places::{TextKind, kind_advice, write_marked_line, write_place_head, 
 use std::alloc::{AllocError, Global};
 use std::fmt::Write;
 
-const TOO_DEEP: &str =
-    "; nest `if` as a tree, or keep a part in a register, which the next round or `finish` reads";
-
-const TOO_MANY: &str =
-    "; a part that is repeated is computed once, in a register that the next round or `finish` reads";
-
 /// Returns the note on a fault of a program text: its line and its column, the cause and what can
 /// follow there, advice, and the line with a mark below the place. The note on a text that is too
 /// long has no place, and advice only if the text looks like one of another kind. Fails if memory was
@@ -113,8 +107,16 @@ fn fixed_advice(text: &[u8], fault: FaultKind) -> Option<&'static str> {
         return Some(advice);
     }
     match fault {
-        FaultKind::TooDeep => Some(TOO_DEEP),
-        FaultKind::TooManyNodes => Some(TOO_MANY),
+        FaultKind::TooDeep => {
+            Some(
+                "; nest `if` as a tree, or keep a part in a register, which the next round or `finish` reads",
+            )
+        }
+        FaultKind::TooManyNodes => {
+            Some(
+                "; a part that is repeated is computed once, in a register that the next round or `finish` reads",
+            )
+        }
         FaultKind::HeaderRange | FaultKind::NumberTooLarge => Some(""),
         FaultKind::EndOfText => hidden_advice(text),
         _ => None,

@@ -71,40 +71,24 @@ pub(crate) fn end_of(tokens: Tokens, number: usize) -> usize {
 
 // Returns the bytes of a token, an empty text if there is none.
 pub(crate) fn word_of<'a>(tokens: Tokens<'a>, number: usize) -> &'a [u8] {
-    part(
-        tokens.text,
-        start_of(tokens, number),
-        end_of(tokens, number),
-    )
+    text_of(tokens, number, after(number, 1))
 }
 
 // Returns the text of the tokens from one up to another.
 pub(crate) fn text_of<'a>(tokens: Tokens<'a>, from: usize, to: usize) -> &'a [u8] {
-    part(
-        tokens.text,
-        start_of(tokens, from),
-        end_of(tokens, before(to, 1)),
-    )
+    let end = end_of(tokens, before(to, 1));
+    part(tokens.text, start_of(tokens, from), end)
 }
 
 // Returns whether a token begins a line.
 pub(crate) fn begins_line(tokens: Tokens, number: usize) -> bool {
-    let end = if number == 0 {
-        0
-    } else {
-        end_of(tokens, before(number, 1))
-    };
+    let end = end_of(tokens, before(number, 1));
     number == 0 || part(tokens.text, end, start_of(tokens, number)).contains(&b'\n')
 }
 
 // Returns whether a token stands before another one.
 pub(crate) fn has_before(tokens: Tokens, number: usize, token: Token) -> bool {
-    for at in 0..number.min(tokens.all.len()) {
-        if token_of(tokens, at) == Some(token) {
-            return true;
-        }
-    }
-    false
+    (0..number.min(tokens.all.len())).any(|at| token_of(tokens, at) == Some(token))
 }
 
 // Returns the number of the first token at or after an offset.
@@ -144,29 +128,38 @@ pub(crate) fn after_marks(tokens: Tokens, number: usize) -> usize {
     tokens.all.len()
 }
 
+// Returns whether a token is a number, or a name of one.
+fn is_value(token: Option<Token>) -> bool {
+    use Token::{FromLeft, FromRight, Id, Number, Register};
+    matches!(
+        token,
+        Some(Number(_) | Register(_) | Id | FromLeft | FromRight)
+    )
+}
+
+// Returns whether a token is a word that can stand before operands in brackets.
+fn names_operation(tokens: Tokens, number: usize) -> bool {
+    match token_of(tokens, number) {
+        Some(Token::One(_) | Token::Two(_) | Token::If) => true,
+        token => token == Some(Token::Unknown) && !is_mark(tokens, number),
+    }
+}
+
 // Returns whether an operand can begin with a token.
 pub(crate) fn begins_operand(tokens: Tokens, number: usize) -> bool {
-    match token_of(tokens, number) {
-        Some(
-            Token::Number(_) | Token::Register(_) | Token::Id | Token::FromLeft | Token::FromRight,
-        ) => true,
-        Some(Token::One(_) | Token::Two(_) | Token::If | Token::Open) => true,
-        Some(Token::Unknown) => !is_mark(tokens, number)
-            || word_of(tokens, number) == b"!".as_slice(),
-        _ => false,
-    }
+    let token = token_of(tokens, number);
+    is_value(token)
+        || names_operation(tokens, number)
+        || token == Some(Token::Open)
+        || word_of(tokens, number) == b"!".as_slice()
 }
 
 // Returns whether an operand can end with a token.
 pub(crate) fn ends_operand(tokens: Tokens, number: usize) -> bool {
-    match token_of(tokens, number) {
-        Some(
-            Token::Number(_) | Token::Register(_) | Token::Id | Token::FromLeft | Token::FromRight,
-        ) => true,
-        Some(Token::Close) => true,
-        Some(Token::Unknown) => !is_mark(tokens, number),
-        _ => false,
-    }
+    let token = token_of(tokens, number);
+    is_value(token)
+        || token == Some(Token::Close)
+        || token == Some(Token::Unknown) && !is_mark(tokens, number)
 }
 
 // Returns the number of the first token after the operand that begins here.
@@ -183,15 +176,6 @@ pub(crate) fn operand_end(tokens: Tokens, number: usize) -> usize {
         }
     }
     tokens.all.len()
-}
-
-// Returns whether a token is a word that can stand before operands in brackets.
-fn names_operation(tokens: Tokens, number: usize) -> bool {
-    match token_of(tokens, number) {
-        Some(Token::One(_) | Token::Two(_) | Token::If) => true,
-        Some(Token::Unknown) => !is_mark(tokens, number),
-        _ => false,
-    }
 }
 
 // Returns the number of the token with which the operand begins that ends with this token.
