@@ -48,23 +48,39 @@ IsFaultNote input (of_table_text f) note = IsTableNote input f note
 IsFaultNote input (of_formula m t f) note = IsFormulaNote m t f note
 IsFaultNote input (of_refutation f) note = IsRefutationNote input f note
 
--- the note on a finding: a refusal, a no, and a yes over no tuples or with a pattern that never matches have one, and no other finding
+-- what is told on a finding: nothing, the note on a refusal, or this text
+pub data Told : Type 0 where
+  nothing : Told
+  on_fault : (f : Fault) → Told
+  this : (text : List ℕ) → Told
+
+-- a refusal, a no, and a yes over no tuples or with a pattern that never matches have a note, and no other finding
+abbrev pub told_on : Finding → Told
+told_on (refused f) = on_fault f
+told_on (value.no s ring places channels) = this (verdict_note ring places channels)
+told_on (value.yes zero nodes ids) = this (no_tuples_note nodes ids)
+told_on (value.broken ring place channels pattern known idle) = this (broken_note ring place channels pattern known idle)
+told_on (value.solved tuples (Some idle)) = this (idle_note idle)
+told_on _ = nothing
+
+-- the note is what is told
+abbrev pub IsNoteAs : List ℕ → Told → List ℕ → Type 0
+IsNoteAs input nothing note = ⊥
+IsNoteAs input (on_fault f) note = IsFaultNote input f note
+IsNoteAs input (this text) note = note ≡ text
+
+-- the note on a finding
 abbrev pub IsNote : List ℕ → Finding → List ℕ → Type 0
-IsNote input (refused f) note = IsFaultNote input f note
-IsNote input (value.no s ring places channels) note = note ≡ verdict_note ring places channels
-IsNote input (value.yes zero nodes ids) note = note ≡ no_tuples_note nodes ids
-IsNote input (value.broken ring place channels pattern known idle) note = note ≡ broken_note ring place channels pattern known idle
-IsNote input (value.solved tuples (Some idle)) note = note ≡ idle_note idle
-IsNote input _ note = ⊥
+IsNote input f note = IsNoteAs input (told_on f) note
+
+-- whether something is told
+abbrev pub is_told : Told → Bool
+is_told nothing = false
+is_told _ = true
 
 -- whether a finding has a note
 abbrev pub has_note : Finding → Bool
-has_note (refused f) = true
-has_note (value.no s ring places channels) = true
-has_note (value.yes zero nodes ids) = true
-has_note (value.broken ring place channels pattern known idle) = true
-has_note (value.solved tuples (Some idle)) = true
-has_note _ = false
+has_note f = is_told (told_on f)
 
 -- there is such a note, unless memory for it was refused, or none
 abbrev pub IsToldIf : Bool → (List ℕ → Type 0) → Option (Result (String Global) OutOfMemory) → Type 0

@@ -39,7 +39,7 @@ use Rattle.table_formula.specs.RefutationNotes.{MayHaveAdvice}
 use Rattle.reports.specs.Bytes.{bytes_of}
 use Rattle.reports.specs.Findings.{Fault, of_ring, of_place, of_segments, of_refutation, Finding, refused, status_of}
 use Rattle.reports.specs.Findings as value
-use Rattle.plan_print.specs.Notes.{IsNote}
+use Rattle.plan_print.specs.Notes.{IsNote, Told, on_fault, told_on}
 use Rattle.plan_print.specs.TaskReport.{IsReport}
 
 -- two reports of a task on an input are equal
@@ -224,10 +224,14 @@ IsPlain (of_refutation (refute.At line f)) = ¬ MayHaveAdvice f
 IsPlain (of_refutation refute.OutOfMemory) = ⊤
 IsPlain _ = ⊥
 
--- the note on a finding has no advice, except that on another refusal
+-- what is told has no advice, except on another refusal
+abbrev pub IsToldPlainly : Told → Type 0
+IsToldPlainly (on_fault fault) = IsPlain fault
+IsToldPlainly _ = ⊤
+
+-- the note on a finding has no advice
 abbrev pub HasNoAdvice : Finding → Type 0
-HasNoAdvice (refused fault) = IsPlain fault
-HasNoAdvice _ = ⊤
+HasNoAdvice f = IsToldPlainly (told_on f)
 
 -- a finding without advice has at most one note
 abbrev pub OneNote : Type 0
