@@ -1,361 +1,425 @@
-"""Common mistakes of newcomers, each with the note on its cause, which is on the standard error. The notes are the program's own
-output, read by a person."""
+"""Mistakes in programs, each with words that the note on it has. Where these are several alternatives, one is enough, in any case: they were
+fixed by a person who had read no note. Words that end with a line feed are all that stands behind the cause and a fact. All other ones were
+read by a person in the notes."""
 
 from functools import reduce
-from pathlib import Path
 
-from programs import CV1, ID0, ID0_OF_4, LDB, SHIFT4
+from programs import CV1
 
-# Parts of `CV1`, their replacements, and the starts of the notes on the text.
-MARKS_AND_ORDER = [
-    ("L), 1)", "L) 1)", "nbhd: line 9, column 25: unexpected `1`; expected `,`"),
-    ("L)))", "L))", "nbhd: line 10, column 1: unexpected `finish`; expected `)`"),
-    ("L)))", "L))))", "nbhd: line 9, column 50: unexpected `)`; expected `finish`"),
-    ("left 0\nsend right r0", "right r0\nsend left 0", "nbhd: line 7, column 6: unexpected `right`; expected `left`"),
-    ("send left 0\n", "", "nbhd: line 7, column 6: unexpected `right`; expected `left`"),
+# Programs without a round, and with a round of one operation.
+ID = b"rounds 0\nchannels 64\nregisters 1\nstart\nr0 = id\nfinish r0\n"
+ONE = b"rounds 1\nchannels 8\nregisters 1\nstart\nr0 = id\nround\nsend left r0\nsend right r0\nr0 = max(r0, L)\nfinish r0\n"
+LAST = "add(shl(ldb(r0, L), 1), bit(r0, ldb(r0, L)))"
+
+
+def edited(text, old, new):
+    """A text with the first `old` replaced by `new`."""
+    return text.replace(old.encode(), new if isinstance(new, bytes) else new.encode(), 1)
+
+
+# Expressions in the place of the last one of a round of `CV1`, perhaps with lines behind them, and the words.
+EXPRESSIONS = [
+    ("add(shl(ldb(r0, L) 1), bit(r0, ldb(r0, L)))", "nbhd: line 9, column 25: unexpected `1`; expected `,`"),
+    ("add(shl(ldb(r0, L), 1), bit(r0, ldb(r0, L))", "nbhd: line 10, column 1: unexpected `finish`; expected `)`"),
+    ("add(shl(ldb(r0, L), 1), bit(r0, ldb(r0, L))))", "nbhd: line 9, column 50: unexpected `)`; expected `finish`"),
+    ("add(shl(ldb(r0, L), 1), bit(r0, ldb(r0, L)))\nround\nsend left 0\nsend right r0\nr0 = r0", "nbhd: line 10, column 1: unexpected `round`; expected `finish`; there are as many rounds as `rounds` says"),
+    ("add(shl(ldb(r0, L), 1), bit(r0, ldb(r0, L)))\nr0 = r0", "nbhd: line 10, column 1: unexpected `r0`; expected `finish`; each register is assigned once"),
+    ("max(r0, L)\nr0 = max(r0, R)", "each register is assigned once, and `registers` says how many there are; leave out `r0 = max(r0, R)`\n"),
+    ("if eq(r0, 5) then 0 else r0", "a choice is written `if(c, a, b)`\n"),
+    ("add(shl(ldb(r0, L), 1))", "nbhd: line 9, column 28: unexpected `)`; expected `,`; `add` takes 2 operands"),
+    ("add(shl(ldb(r0, l), 1), bit(r0, ldb(r0, L)))", "nbhd: line 9, column 22: unknown word `l`; expected an expression; the message from the left is `L`"),
+    ("ldb(r0, left)", "the message from the left is `L`, which the assignments of a round read; write `L` in the place of `left`\n"),
+    ("left.r0", "the message from the left is `L`, which the assignments of a round read; write `L` in the place of `left.r0`\n"),
+    ("r 0", "write `r0` in the place of `r 0`\n"),
+    ("r_0", "write `r0` in the place of `r_0`\n"),
+    ("r0 + 1", "write `add(r0, 1)` in the place of `r0 + 1`\n"),
+    ("mul(r0, 2)", "there is no product: twice x is `shl(x, 1)`\n"),
+    ("add(shl(gt(r0, L), 1), bit(r0, ldb(r0, L)))", "nbhd: line 9, column 14: unknown word `gt`; expected an expression"),
+    ("min(L, 1_000)", "write `1000` in the place of `1_000`\n"),
+    ("if(true, 0, 1)", "write `1` in the place of `true`\n"),
+    ("ldb(r0; L)", "write `,` in the place of `;`\n"),
+    ("false", "write `0` in the place of `false`\n"),
+    ("add(shl(ldb(r0, L), 1), bit(r0, ldb(r0, L)))\nend", "leave out `end`\n"),
+    ("add(shl(ldb(r0, r), 1), bit(r0, ldb(r0, L)))", "the message from the right is `R`, which the assignments of a round read; write `R` in the place of `r`\n"),
+    ("right", "the message from the right is `R`, which the assignments of a round read; write `R` in the place of `right`\n"),
+    ("2*ldb(r0, L) + bit(r0, ldb(r0, L))", "there is no product: twice x is `shl(x, 1)`; write `add(shl(ldb(r0, L), 1), bit(r0, ldb(r0, L)))` in the place of `2*ldb(r0, L) + bit(r0, ldb(r0, L))`\n"),
+    ("r0 ^ L", "`xor` is bit by bit, and 2 to the power k is `shl(1, k)`; write `xor(r0, L)` in the place of `r0 ^ L`\n"),
+    ("r0 & 1", "write `and(r0, 1)` in the place of `r0 & 1`\n"),
+    ("r0 | L", "write `or(r0, L)` in the place of `r0 | L`\n"),
+    ("r0 << 1", "write `shl(r0, 1)` in the place of `r0 << 1`\n"),
+    ("r0 >> 1", "write `shr(r0, 1)` in the place of `r0 >> 1`\n"),
+    ("r0 - 1", "`sub` stops at 0; write `sub(r0, 1)` in the place of `r0 - 1`\n"),
+    ("if(r0 != L, 0, 1)", "write `ne(r0, L)` in the place of `r0 != L`\n"),
+    ("if(r0 >= L, 0, 1)", "write `le(L, r0)` in the place of `r0 >= L`\n"),
+    ("r0 % 2", "there is no remainder but by powers of two: by 2 it is `and(x, 1)`, by 16 `and(x, 15)`; write `and(r0, 1)` in the place of `r0 % 2`\n"),
+    ("~r0", "write `not(r0)` in the place of `~r0`\n"),
+    ("if(!eq(r0, L), 0, 1)", "`not` is bit by bit: `eq(x, 0)` exchanges 0 and 1; write `eq(eq(r0, L), 0)` in the place of `!eq(r0, L)`\n"),
+    ("if(r0 ≤ L, 0, 1)", "write `le(r0, L)` in the place of `r0 \\xe2\\x89\\xa4 L`\n"),
+    ("max(r0, L, R)", "`max` takes 2 operands; write `max(r0, L)` in the place of `r0, L`\n"),
+    ("min(r0)", "`min` takes 2 operands; write `, ..` before it\n"),
+    ("add r0 L", "write `(r0, L)` in the place of `r0 L`\n"),
+    ("ldb[r0, L]", "the operands of `ldb` are written in brackets\n"),
+    ("sum(r0, 1)", "write `add` in the place of `sum`\n"),
+    ("add(shl(lbd(r0, L), 1), 1)", "write `ldb` in the place of `lbd`\n"),
+    ("‘r0’", "this is a typographic quotation mark, and programs have no quotation marks\n"),
+    ("lsb(xor(r0, L))", "the least index of a bit that is 1 in x is `ldb(x, 0)`\n"),
+    ("r1 = 5", "an assignment has one register, and a branch of `if` has none: `eq(a, b)` compares\n"),
+    ("if(L, r0 = 1, r0 = 2)", "an assignment has one register, and a branch of `if` has none: `eq(a, b)` compares\n"),
+    ("r0 = L", "an assignment has one register, and a branch of `if` has none: `eq(a, b)` compares\n"),
+    ("r0 xor L", "write `xor(r0, L)` in the place of `r0 xor L`\n"),
+    ("not r0", "`not` is bit by bit: `eq(x, 0)` exchanges 0 and 1; write `(r0)` in the place of `r0`\n"),
+    ("if(eq(r0, L) && eq(r0, R), 0, 1)", "`and` is bit by bit: a number is made 0 or 1 by `ne(a, 0)`; write `and(eq(r0, L), eq(r0, R))` in the place of `eq(r0, L) && eq(r0, R)`\n"),
+    ("(add r0 1)", "brackets are only written after the name of an operation\n"),
+    ("L()", "no bracket follows a number, a register, `id`, `L` or `R`; leave out `()`\n"),
+    ("ldb(r0,, L)", "`ldb` takes 2 operands; leave out `,`\n"),
+    ("ldb()", "`ldb` takes 2 operands; write `.., ..` before it\n"),
+    ("ldb r0, L)", "write `(` before it\n"),
+    ("ldb((r0, L))", "the name of an operation is missing before it\n"),
+    ("r0.bit(1)", "values have no parts, and an operation is written before its operands, as in `bit(a, i)`\n"),
+    ("r0.0", "values have no parts, and an operation is written before its operands, as in `bit(a, i)`\n"),
+    ("r0 . L", "values have no parts, and an operation is written before its operands, as in `bit(a, i)`\n"),
+    ("r-1", "the message from the right is `R`, which the assignments of a round read\n"),
+    ("r00", "registers are `r0` to `r7`, and values have no other names\n"),
+    ("r10", "registers are `r0` to `r7`, and values have no other names\n"),
+    ("+1", "numbers have no sign; leave out `+`\n"),
+    ("r0 / 2", "there is no quotient: half of x is `shr(x, 1)`; write `shr(r0, 1)` in the place of `r0 / 2`\n"),
+    ("neq(r0, L)", "write `ne` in the place of `neq`\n"),
+    ("abs(sub(r0, L))", "|a - b| is `sub(max(a, b), min(a, b))`\n"),
+    ("inc(r0)", "there is no operation `inc`: LANGUAGE.md lists all\n"),
+    ("ite(eq(r0, L), 0, 1)", "write `if` in the place of `ite`\n"),
+    ("random()", "nothing is random\n"),
+    ("L ≠ 1", "write `ne(L, 1)` in the place of `L \\xe2\\x89\\xa0 1`\n"),
+    ("L × 2", "there is no product: twice x is `shl(x, 1)`; write `shl(L, 1)` in the place of `L \\xc3\\x97 2`\n"),
+    ("¬L", "write `eq(L, 0)` in the place of `\\xc2\\xacL`\n"),
+    ("L ∧ 1", "write `and(L, 1)` in the place of `L \\xe2\\x88\\xa7 1`\n"),
+    ("r₀", "letters and marks are those of ASCII\n"),
+    ("L\xa0", "this is a blank that does not break: write a plain one; write ` ` in the place of `\\xc2\\xa0`\n"),
+    ("L\u200b", "this is a dash or a blank that is not ASCII; leave out `\\xe2\\x80\\x8b`\n"),
+    ("\u041b", "this is a letter of another alphabet, which may look like a plain one\n"),
+    ("..", "where this stands in an example, an expression is written\n"),
+    ("if(eq(r0, L)) 0 else 1", "`if` takes 3 operands\n"),
+    ("", "write an expression before it\n"),
+    ("{L}", "brackets are only written after the name of an operation; write `L` in the place of `{L}`\n"),
+    ("r0 == 5 ? 0 : r0", "write `if(eq(r0, 5), 0, r0)` in the place of `r0 == 5 ? 0 : r0`\n"),
+    ("r0 L", "an operation is written before its operands, as in `add(a, b)`\n"),
+    ("min(r0, 3) min(L, 2)", "an operation is written before its operands, as in `add(a, b)`\n"),
+    ("left(r0)", "the message from the left is `L`, which the assignments of a round read\n"),
+    ("r0--", "write `sub(r0, 1)` in the place of `r0--`\n"),
+    ("if(r0 &lt; L, 0, 1)", "write `lt(r0, L)` in the place of `r0 &lt; L`\n"),
+    ("max<r0, L>", "the operands of `max` are written in brackets\n"),
+    ("iff(r0, L)", "there is no operation `iff`: LANGUAGE.md lists all\n"),
+    ("r0\nif r0 then 1", "one expression is assigned to each register, as in `r0 = if(c, a, b)`; leave out `if r0 then 1`\n"),
+    ("r0 \\ne L", "an operation is written before its operands, as in `add(a, b)`; write `ne(r0, L)` in the place of `r0 \\ne L`\n"),
+    ("\\min(r0, L)", "write `min` in the place of `\\min`\n"),
+    ("r0 \\oplus L", "an operation is written before its operands, as in `add(a, b)`; write `xor(r0, L)` in the place of `r0 \\oplus L`\n"),
+    ("r0 \\leq L", "an operation is written before its operands, as in `add(a, b)`; write `le(r0, L)` in the place of `r0 \\leq L`\n"),
+    ("leftMsg", "write `L` in the place of `leftMsg`\n"),
+    ("L0", "write `L` in the place of `L0`\n"),
+    ("m", "there is no word for the number of rounds, of nodes or of identifiers\n"),
+    ("min(r0, delta)", "there is no word for the number of rounds, of nodes or of identifiers\n"),
+    ("r0 -> L", "a program has no arrows\n"),
+    ("L->color", "a message is one number, without parts; leave out `->color`\n"),
+    ("−1", "this is a minus sign that is not ASCII\n"),
+    ("r0 · L", "there is no product: twice x is `shl(x, 1)`\n"),
+    ("min(r0², 5)", "there is no power: 2 to the power k is `shl(1, k)`\n"),
+    ("min(r0, channels)", "`channels` has no value\n"),
+    ("{r0, L}", "there are no sets: compare with each number, as in `or(eq(x, 5), eq(x, 6))`\n"),
+    ("bit_0(r0)", "words, numbers and registers have no `_`\n"),
+    ("if(nand(eq(r0, L), 1), 0, 1)", "write `not(and(a, b))`, or `eq(and(a, b), 0)` for 0 and 1\n"),
+    ("round(L)", "`round` has no value\n"),
+    ("rounds", "`rounds` has no value\n"),
+    ("self", "the identifier is `id`, which is read in `start` alone: a register keeps it; write `id` in the place of `self`\n"),
+    ("ID", "the identifier is `id`, which is read in `start` alone: a register keeps it; write `id` in the place of `ID`\n"),
+    ("ids", "this is an option of the commands, as in `nbhd judge --ids 8 --near 2`\n"),
+    ("return max(L, R)", "leave out `return`\n"),
+    ("let i = ldb(r0, L) in add(shl(i, 1), bit(r0, i))", "values have no names: an expression is written out wherever it is read\n"),
+    ("min(old, 6)", "a round reads the registers from before it: the old value of r0 is `r0`\n"),
+    ("min(add, 1)", "the operands of `add` are written in brackets\n"),
+    ("add(shl(ldb(r0, L), 1), bit(r0, ldb(r0, L)))\n}", "a program has no such brackets; leave out `}`\n"),
+    ("eq(L, NULL)", "there is no empty value: each is a number; write `0` in the place of `NULL`\n"),
+    ("LL", "what is farther away than the neighbours takes one more round\n"),
+    ("receive(left)", "`L` and `R` are what the neighbours sent in this round, one number each\n"),
+    ("add(shl(ldb(r0, L), 1), bit(r0, ldb(r0, L)))\nfinish r0", "leave out `finish r0`\n"),
+    ("add(shl(ldb(r0, L), 1), bit(r0, ldb(r0, L)))\nstart\nr0 = 0", "each register is assigned once, then comes `finish`\n"),
+    ("minimum [r0, L, R]", "`min` and `max` take two operands: `min(a, min(b, c))`"),
+    ("if(eq(r0, 7), mex(L, R), 0)", "there is no operation for the least number that is missing: compare with `eq`\n"),
+    ("add(1,000, 2)", "write `1000` in the place of `1,000`\n"),
+    ("id(r0)", "`id` is the identifier of the node, and no operation\n"),
+    ("\\lfloor min(L, r0) / 2 \\rfloor", "shr(min(L, r0), 1)"),
+]
+
+# Expressions in the place of the channel of `CV1`.
+CHANNELS = [
+    ("r0 = r0", "nbhd: line 10, column 11: unexpected `=`; expected the end of the text"),
+    ("if(r0 == 1, 0, 1)", "nbhd: line 10, column 14: unexpected `=`; expected `,`"),
+    ("if r0 then 1 else 2", "nbhd: line 10, column 11: unexpected `r0`; expected `(`"),
+    ("if(r0, 1)", "nbhd: line 10, column 16: unexpected `)`; expected `,`; `if` takes 3 operands"),
+    ("not(r0, 1)", "nbhd: line 10, column 14: unexpected `,`; expected `)`; `not` takes 1 operand"),
+    ("R0", "nbhd: line 10, column 8: unknown word `R0`; expected an expression"),
+    ("r0 + 1", "nbhd: line 10, column 11: unknown word `+`; expected the end of the text"),
+    ("-1", "nbhd: line 10, column 8: unknown word `-`; expected an expression"),
+    ("0x5", "nbhd: line 10, column 8: unknown word `0x5`; expected an expression"),
+    ('"r0"', 'nbhd: line 10, column 8: unknown word `"`; expected an expression'),
+    ("5000", "nbhd: the bound of `finish` is 5000, which its values need not reach, and `channels` is at most 4096: with `channels 6` write `finish min(.., 5)` if none exceeds 5\n"),
+    ("(r0)", "brackets are only written after the name of an operation; write `r0` in the place of `(r0)`\n"),
+    ("((r0))", "brackets are only written after the name of an operation; write `r0` in the place of `((r0))`\n"),
+    ("not()", "`not` takes 1 operand; write an expression before it\n"),
+    ("if(r0, , 1)", "`if` takes 3 operands; write an expression before it\n"),
+    ("min(, r0)", "`min` takes 2 operands; write an expression before it\n"),
+    ("r0 min 5", "write `min(r0, 5)` in the place of `r0 min 5`\n"),
+    ("r0, r0", "the expression of `finish` ends the program\n"),
+    ("add(r0 # )", "write `, ..)` at the end\n"),
+    ("r0 r0", "leave out `r0`\n"),
+    ("r0 -- the channel", "a comment begins with `#`; write `#` in the place of `--`\n"),
+    ("r0 // the channel", "a comment begins with `#`; write `#` in the place of `//`\n"),
+    ("r0 % the channel", "a comment begins with `#`; write `#` in the place of `%`\n"),
+    ("channel r0", "leave out `channel`\n"),
+    ("add(shl(r0, 1), 2^{10})", "there is no power: 2 to the power k is `shl(1, k)`"),
+]
+
+# Parts of `CV1`, and what stands in their place.
+PARTS = [
+    ("rounds 1", "$ cat programs/cv1.txt\nrounds 1", ("command", "prompt", "rounds")),
+    ("\nsend left 0", " 1\nsend left 0", "nbhd: line 6, column 7: unexpected `1`; expected `send`"),
+    ("send left 0", "send left = 0", "nbhd: line 7, column 11: unexpected `=`; expected an expression"),
+    ("send left 0\nsend right r0", "send right r0\nsend left 0", ("order", "first", "before")),
+    ("send left 0\nsend right r0", "send right r0", "send left"),
+    ("send right r0\n", "", "send right"),
     ("send right r0\n", "", "nbhd: line 8, column 1: unexpected `r0`; expected `send`"),
-    ("registers 1\n", "", "nbhd: line 3, column 1: unexpected `start`; expected `registers`"),
-    ("start\n", "", "nbhd: line 4, column 1: unexpected `r0`; expected `start`"),
+    ("registers 1\n", "", "registers"),
+    ("start\n", "", "start"),
+    ("finish r0\n", "", "finish"),
     ("finish r0\n", "", "nbhd: line 10, column 1: unexpected end of the text; expected `finish`"),
     ("rounds 1\nchannels 6", "channels 6\nrounds 1", "nbhd: line 1, column 1: unexpected `channels`; expected `rounds`"),
-    ("round\n", "round 1\n", "nbhd: line 6, column 7: unexpected `1`; expected `send`"),
-    ("finish r0", "finish r0 = r0", "nbhd: line 10, column 11: unexpected `=`; expected the end of the text"),
-    ("left 0", "left = 0", "nbhd: line 7, column 11: unexpected `=`; expected an expression"),
-    ("rounds 1", "rounds = 1", "nbhd: line 1, column 8: unexpected `=`; expected a number"),
-]
-
-REGISTERS_AND_ROUNDS = [
-    (
-        "registers 1\nstart\nr0 = id",
-        "registers 2\nstart\nr0 = id r1 = 0",
-        "nbhd: line 10, column 1: unexpected `finish`; expected the assignment of r1",
-    ),
-    (
-        "rounds 1",
-        "rounds 2",
-        "nbhd: line 10, column 1: unexpected `finish`; expected `round`; there are as many rounds as `rounds` says",
-    ),
-    (
-        "finish r0",
-        "round\nsend left 0\nsend right r0\nr0 = r0\nfinish r0",
-        "nbhd: line 10, column 1: unexpected `round`; expected `finish`; there are as many rounds as `rounds` says",
-    ),
-    (
-        "finish r0",
-        "r0 = r0\nfinish r0",
-        "nbhd: line 10, column 1: unexpected `r0`; expected `finish`; each register is assigned once",
-    ),
+    ("rounds 1", "Rounds 1", "nbhd: line 1, column 1: unknown word `Rounds`; expected `rounds`"),
+    ("rounds 1\nchannels 6", "channels 6\nrounds 1", "write `rounds 1 channels 6` in the place of `channels 6 rounds 1`\n"),
+    ("r0 = add(shl(ldb(r0, L), 1), bit(r0, ldb(r0, L)))\n", "", ("r0 =", "assign")),
+    ("registers 1\nstart\nr0 = id", "registers 2\nstart\nr0 = id r1 = 0", "nbhd: line 10, column 1: unexpected `finish`; expected the assignment of r1"),
+    ("rounds 1", "rounds 2", "nbhd: line 10, column 1: unexpected `finish`; expected `round`; there are as many rounds as `rounds` says"),
     ("r0 = id", "r1 = id", "nbhd: line 5, column 1: unexpected `r1`; expected the assignment of r0"),
+    ("r0 = id", "r1 = id", "each register is assigned once, in order\n"),
     ("rounds 1", "rounds 5", "nbhd: line 1, column 8: a number out of its range: `rounds` is 0 to 4"),
-    (
-        "channels 6",
-        "channels 0",
-        "nbhd: line 2, column 10: a number out of its range: `rounds` is 0 to 4, `channels` 1 to 4096",
-    ),
-    (
-        "channels 6",
-        "channels 5000",
-        "nbhd: line 2, column 10: a number out of its range: `rounds` is 0 to 4, `channels` 1 to 4096",
-    ),
-    (
-        "registers 1",
-        "registers 9",
-        "nbhd: line 3, column 11: a number out of its range: `rounds` is 0 to 4, `channels` 1 to 4096, `registers` 1 to 8",
-    ),
-    ("finish r0", "finish 4294967296", "nbhd: line 10, column 8: a number is at most 4294967295"),
-]
-
-OPERANDS = [
-    (
-        "finish r0",
-        "finish if r0 then 1 else 2",
-        "nbhd: line 10, column 11: unexpected `r0`; expected `(`"
-        "",
-    ),
-    ("finish r0", "finish if(r0, 1)", "nbhd: line 10, column 16: unexpected `)`; expected `,`; `if` takes 3 operands"),
-    ("finish r0", "finish not(r0, 1)", "nbhd: line 10, column 14: unexpected `,`; expected `)`; `not` takes 1 operand"),
-    (", bit(r0, ldb(r0, L)))", ")", "nbhd: line 9, column 28: unexpected `)`; expected `,`; `add` takes 2 operands"),
-    ("finish r0", "finish min(r0, 1, 2)", "nbhd: line 10, column 17: unexpected `,`; expected `)`; `min` takes 2 operands"),
-    (
-        "finish r0",
-        "finish if(r0 == 1, 0, 1)",
-        "nbhd: line 10, column 14: unexpected `=`; expected `,`",
-    ),
-]
-
-WORDS_OF_OTHER_LANGUAGES = [
-    (
-        "rounds",
-        "Rounds",
-        "nbhd: line 1, column 1: unknown word `Rounds`; expected `rounds`",
-    ),
-    ("L)", "l)", "nbhd: line 9, column 22: unknown word `l`; expected an expression; the message from the left is `L`"),
-    (
-        "r0 = id",
-        "r10 = id",
-        "nbhd: line 5, column 1: unknown word `r10`; expected the assignment of r0; registers are `r0` to `r7`",
-    ),
-    (
-        "finish r0",
-        "finish R0",
-        "nbhd: line 10, column 8: unknown word `R0`; expected an expression",
-    ),
-    (
-        "finish r0",
-        "finish r0 + 1",
-        "nbhd: line 10, column 11: unknown word `+`; expected the end of the text",
-    ),
+    ("r0 = id", "r10 = id", "nbhd: line 5, column 1: unknown word `r10`; expected the assignment of r0; registers are `r0` to `r7`"),
+    ("r0 = id", "colour = id", "nbhd: line 5, column 1: unknown word `colour`; expected the assignment of r0; registers are `r0` to `r7`, and have no other names"),
+    ("r0 = id", "r10 = id", "registers are `r0` to `r7`, and have no other names; write `r0` in the place of `r10`\n"),
     ("r0 = id", "r0 = 2*id", "nbhd: line 5, column 7: unknown word `*`; expected `round`; there is no product"),
     ("r0 = id", "r0 = mul(2, id)", "nbhd: line 5, column 6: unknown word `mul`; expected an expression; there is no product"),
-    (
-        "r0 = id",
-        "r0 = mod(id, 2)",
-        "nbhd: line 5, column 6: unknown word `mod`; expected an expression",
-    ),
-    (
-        "ldb(r0, L), 1",
-        "gt(r0, L), 1",
-        "nbhd: line 9, column 14: unknown word `gt`; expected an expression",
-    ),
-    (
-        "finish r0",
-        "finish -1",
-        "nbhd: line 10, column 8: unknown word `-`; expected an expression",
-    ),
-    ("finish r0", "finish 0x5", "nbhd: line 10, column 8: unknown word `0x5`; expected an expression"),
+    ("r0 = id", "r0 = mod(id, 2)", "nbhd: line 5, column 6: unknown word `mod`; expected an expression"),
     ("r0 = id", "r0 := id", "nbhd: line 5, column 4: unknown word `:`; expected `=`"),
-    ("rounds 1", "rounds 1;", "nbhd: line 1, column 9: unknown word `;`; expected `channels`; lines end without a mark"),
-    (
-        "r0 = id",
-        "colour = id",
-        "nbhd: line 5, column 1: unknown word `colour`; expected the assignment of r0"
-        "; registers are `r0` to `r7`, and have no other names",
-    ),
+    ("\nround", ";\nround", ("semicolon", "`;`", "';'")),
+    ("\nchannels 6", ";\nchannels 6", "nbhd: line 1, column 9: unknown word `;`; expected `channels`; lines end without a mark"),
     ("finish r0", "return r0", "nbhd: line 10, column 1: unknown word `return`; expected `finish`"),
-    (
-        "left 0\nsend right r0",
-        "both r0",
-        "nbhd: line 7, column 6: unknown word `both`; expected `left`",
-    ),
-    (
-        "finish r0",
-        "finish \"r0\"",
-        "nbhd: line 10, column 8: unknown word `\"`; expected an expression",
-    ),
-    (
-        "finish r0\n",
-        "finish r0\nend\n",
-        "nbhd: line 11, column 1: unknown word `end`; expected the end of the text",
-    ),
+    ("finish r0", "return r0", "write `finish` in the place of `return`\n"),
+    ("finish r0", "end r0", "write `finish` in the place of `end`\n"),
+    ("send left 0\nsend right r0", "send both r0", "nbhd: line 7, column 6: unknown word `both`; expected `left`"),
+    ("send left 0\nsend right r0", "send both r0", "write `left` in the place of `both`\n"),
+    ("send left 0", "send l 0", "write `left` in the place of `l`\n"),
+    ("finish r0\n", "finish r0\nend\n", "nbhd: line 11, column 1: unknown word `end`; expected the end of the text"),
+    ("channels 6", "rounds 1\nchannels 6", ("channels", "twice", "second", "doubl", "again", "already", "once", "only one", "superfluous", "too many", "delete", "remove")),
     ("finish r0\n", "finish r0\nrounds 1\n", "nbhd: line 11, column 1: unexpected `rounds`; expected the end of the text"),
+    ("rounds 1", "\ufeffrounds 1", ("byte order mark", "bom")),
+    ("send right r0", "send right id", "nbhd: line 8, column 12: `id` can be read in `start` alone; keep it in a register"),
+    ("send right r0", "send right L", "nbhd: line 8, column 12: `L` and `R` can be read in the assignments of a round alone"),
+    ("channels 6", "channels 5", ("channels 6", "6 channels")),
+    ("r0 = id", "r0\xa0=\xa0id", ("non-breaking", "no-break", "nonbreaking", "space", "blank")),
+    ("r0 = id", "r0 = \u0456d", "this is a letter of another alphabet, which may look like a plain one\n"),
+    ("\nr0 = id", " {\nr0 = id", "a program has no such brackets; leave out `{`\n"),
+    ("start", "// the start\nstart", "#"),
+    ("start", "/* the start */\nstart", "#"),
+    ("start", "-- the start\nstart", "#"),
+    ("finish r0\n", "finish r0\n\ufeff# x\n", "this is a byte order mark: save the file without one; leave out `\\xef\\xbb\\xbf`\n"),
+    ("finish r0\n", "finish r0\npass\n", "leave out `pass`\n"),
+    ("r0 = add(shl(ldb(r0, L), 1), bit(r0, ldb(r0, L))", "return xor(r0, L", "each register is assigned once, in order, as in `r0 = r0` where it stays\n"),
+    ("r0 = add(shl(ldb(r0, L), 1), bit(r0, ldb(r0, L)))", "L = r0", "only registers are assigned: a value is sent by `send left` and `send right`\n"),
+    ("r0 = id", "id = r0", "only registers are assigned: a value is sent by `send left` and `send right`\n"),
+    ("r0 = add(shl(ldb(r0, L), 1), bit(r0, ldb(r0, L)))", "add r0, r0, L", "one expression is assigned to each register, as in `r0 = if(c, a, b)`\n"),
+    ("r0 = add(shl(ldb(r0, L), 1), bit(r0, ldb(r0, L))", "if(lt(r0, L), 0, 1", "one expression is assigned to each register, as in `r0 = if(c, a, b)`; write `r0 =` before it\n"),
+    ("r0 = id", "r0 = (id)", "brackets are only written after the name of an operation; write `id` in the place of `(id)`\n"),
+    ("send left 0", "send left(0)", "brackets are only written after the name of an operation; write `0` in the place of `(0)`\n"),
+    ("send left 0", "send(left, 0)", "no brackets are allowed here\n"),
+    ("\nr0 = id", "()\nr0 = id", "leave out `()`\n"),
+    ("\nsend left 0", "()\nsend left 0", "leave out `()`\n"),
+    ("channels 6", "channel 6", "write `channels` in the place of `channel`\n"),
+    ("channels 6", "colours 6", "write `channels` in the place of `colours`\n"),
+    ("registers 1", "register 1", "write `registers` in the place of `register`\n"),
+    ("channels 6", "channels six", "a number is written in digits\n"),
+    ("rounds 1", "rounds T", "a number is written in digits\n"),
+    ("rounds 1", "rounds -1", "numbers have no sign\n"),
+    ("\nchannels 6", ".0\nchannels 6", "one number is written here, in digits\n"),
+    ("channels 6", "channels 2^3", "one number is written here, in digits\n"),
+    ("rounds 1", "rounds", "write a number before it\n"),
+    ("channels 6", "channels", "write a number before it\n"),
+    ("channels 6\n", "", "channels"),
+    ("start", "begin", "write `start` in the place of `begin`\n"),
+    ("\nround", "\nloop", "there are no loops: the block of a round is written out as often as `rounds` says\n"),
+    ("\nround", "\nfor i in 1..1:", "there are no loops: the block of a round is written out as often as `rounds` says\n"),
+    ("\nround", "\nstep", "write `round` in the place of `step`\n"),
+    ("send left 0", "transmit left 0", "write `send` in the place of `transmit`\n"),
+    ("send right r0", "send R r0", "write `right` in the place of `R`\n"),
+    ("r0 = id", "set r0 = id", "leave out `set`\n"),
+    ("r0 = id", "let r0 = id", "leave out `let`\n"),
+    ("r0 = id", "int r0 = id", "leave out `int`\n"),
+    ("\nround", " # 2 × 2\nround", "there is no product: twice x is `shl(x, 1)`; write `*` in the place of `\\xc3\\x97`\n"),
+    ("send right r0", "send left 0\nsend right r0", "leave out `send left 0`\n"),
+    ("start", "; the start\nstart", "#"),
+    ("\nround", " ; identifier\nround", "lines end without a mark; write `#` in the place of `;`\n"),
+    ("send right r0", "send right ro", "`r0` is written with the digit 0; write `r0` in the place of `ro`\n"),
+    ("send left 0\nsend right r0", "send left, right r0", "each side has a `send` of its own\n"),
+    ("send left 0\nsend right r0", "send left r0, right r0", "each side has a `send` of its own; write `send` in the place of `,`\n"),
+    ("round\n", "", ("`round`", "'round'", "round is missing", ("missing", "round "), "line round", "word round", "round before")),
+    ("\nsend left 0", " 1:\nsend left 0", "a round begins with `send left ..` and `send right ..`\n"),
+    ("r0 = id", "= id", "each register is assigned once, in order; write `r0` before it\n"),
+    ("r0 = id\nround", "round", ("r0 =", "assign")),
+    ("r0 = id", "r0 ← id", "write `=` in the place of `\\xe2\\x86\\x90`\n"),
+    ("r0 = id", "register r0 = id", "leave out `register`\n"),
+    ("\nsend left 0", " one\nsend left 0", "leave out `one`\n"),
+    ("send left 0", "round\nsend left 0", "leave out `round`\n"),
+    ("send left 0", "send to left 0", "leave out `to`\n"),
+    ("send right r0\nr0 =", "send right r0\nsend right r0\nr0 =", "each register is assigned once, in order, as in `r0 = r0` where it stays; leave out `send right r0`\n"),
+    ("finish r0", "finish", "write an expression at the end\n"),
+    ("finish r0", "print r0", "nothing is printed: the channel is the expression of `finish`\n"),
+    ("rounds 1\n", "", "rounds"),
+    ("\nregisters 1", " colors\nregisters 1", "leave out `colors`\n"),
+    ("rounds 1", "1. rounds 1", "the lines have no numbers\n"),
+    ("send left 0", "send left -> 0", "a mark stands where an expression is written\n"),
+    ("send right r0", "send right", "the register before it was read as the expression that is missing; write `.. r0` in the place of `r0`\n"),
+    ("finish r0", "finish\nr0 = r0", "the register before it was read as the expression that is missing\n"),
+    ("r0 = id", 'r0 = "red"', "programs have no quotation marks\n"),
+    ("round\n", "• round\n", "this is a bullet; leave out `\\xe2\\x80\\xa2`\n"),
+    ("\nsend right r0", "  nothing to the left\nsend right r0", "one expression is written here, and a comment begins with `#`\n"),
+    ("send left 0", "send left #0", "what follows `#` on a line is a comment; write an expression before it\n"),
+    ("r0 = id", "r0, r1 = id, 0", "an assignment is written `r0 = ..`\n"),
+    ("rounds 1", "def node(id):\nrounds 1", "there are no functions\n"),
+    ("rounds 1", "Subject: exercise 3\n\nrounds 1", "leave out `Subject: exercise 3`\n"),
+    ("rounds 1", "Cole and Vishkin\nrounds 1", ("#", "rounds")),
+    ("\nsend left 0", " x3\nsend left 0", "leave out `x3`\n"),
+    ("send left 0", "again\nsend left 0", "leave out `again`\n"),
+    ("send left 0", "skip\nsend left 0", "leave out `skip`\n"),
+    ("send right r0\nr0 =", "send right r0\n| r0 =", "each register is assigned once, in order, as in `r0 = r0` where it stays; leave out `|`\n"),
+    ("send right r0\nr0 =", "send right r0\nkeep r0\nr0 =", "leave out `keep r0`\n"),
+    ("send right r0\nr0 =", "send right r0\ni = ldb(r0, L)\nr0 =", "registers are `r0` to `r7`, and have no other names; leave out `i = ldb(r0, L)`\n"),
+    ("start", "const K = 6\nstart", "leave out `const K = 6`\n"),
+    ("r0 = id", "r0 = input", "the identifier is `id`, which is read in `start` alone: a register keeps it\n"),
+    ("round\n", "send left r0\nround\n", "messages are sent only in rounds; leave out `send left r0`\n"),
+    ("rounds 1", "— my program\nrounds 1", ("dash", "#", "ascii")),
+    ("rounds 1", "program cv1\nrounds 1", "leave out `program cv1`\n"),
+    ("rounds 1", "cv1.txt:\nrounds 1", "leave out `cv1.txt:`\n"),
+    ("rounds 1", "user@host:~$ cat cv1.txt\nrounds 1", "leave out `user@host:~$ cat cv1.txt`\n"),
+    ("rounds 1", "cat: cv1.txt: No such file\nrounds 1", "leave out `cat: cv1.txt: No such file`\n"),
+    ("rounds 1", "\x00rounds 1", "byte"),
+    ("rounds 1", "\x00rounds 1", "this byte does not belong in a text\n"),
+    ("channels 6", "channels 4", ("channels 6", "6 channels")),
+    ("round\n", "round // 16 to 8\n", "a comment begins with `#`; write `#` in the place of `//`\n"),
+    ("send left 0\nsend right r0", "broadcast r0", "each side has a `send` of its own\n"),
+    (f"r0 = {LAST}", "r0 | lt(r0, L) = 1\n   | lt(L, R) = 2", "a choice is written `if(c, a, b)`"),
 ]
 
-# Texts that are no programs, and the starts of the notes.
-OTHER_FILES = [
-    (b"// a program", "nbhd: line 1, column 1: unknown word `/`; expected `rounds`; a comment begins with `#`"),
-    (b"/* a program */", "nbhd: line 1, column 1: unknown word `/`; expected `rounds`; a comment begins with `#`"),
-    (
-        b"# the node\xe2\x80\x99s\nrounds 1",
-        "nbhd: line 1, column 11: a byte over 127; a program text is ASCII, in its comments too",
-    ),
-    (
-        b"\xef\xbb\xbfrounds 1",
-        "nbhd: line 1, column 1: a byte over 127; a program text is ASCII, in its comments too; this is a byte order mark",
-    ),
-    (
-        b"\xff\xfer\x00o\x00",
-        "nbhd: line 1, column 1: a byte over 127; a program text is ASCII, in its comments too; the file is UTF-16",
-    ),
-    (
-        b"rounds\xc2\xa01",
-        "nbhd: line 1, column 7: a byte over 127; a program text is ASCII, in its comments too"
-        "; this is a blank that does not break",
-    ),
-    (b"", "nbhd: line 1, column 1: unexpected end of the text; expected `rounds`; the text is empty, so no file was given, or an empty one"),
-    (b" " * 65_530 + b"start", "nbhd: line 1, column 65531: unexpected `start`; expected `rounds`"),
-    (
-        b"# Pighvani\n\nPighvani compiles",
-        "nbhd: line 3, column 1: unknown word `Pighvani`; expected `rounds`",
-    ),
-    (
-        b"nbhd-table 2\n",
-        "nbhd: line 1, column 1: unknown word `nbhd`; expected `rounds`; the text of a table is for `nbhd audit`",
-    ),
-    (
-        b"text fault N3 at 0\n",
-        "nbhd: line 1, column 1: unknown word `text`; expected `rounds`; this is output of `nbhd`, not a text that it reads",
-    ),
-    (b"rounds 1\r\n\tchanels 6", "nbhd: line 2, column 2: unknown word `chanels`"),
-    (
-        b"rounds 0 channels 8 registers 2 start r1 = id r0 = 0 finish r1",
-        "nbhd: line 1, column 39: unexpected `r1`; expected the assignment of r0",
-    ),
+# Parts of other programs.
+OTHER_PARTS = [
+    (ID, "r0 = id", "r0 id", ("`=`", "'='", "r0 =")),
+    (ID, "channels 64", "channels = 64", ("channels 64", "without", "superfluous", "no `=`", "leave out", "remove")),
+    (ID, "finish r0\n", "finish r0 == 1\n", "eq("),
+    (ONE, "finish r0", "r0 = max(r0, R)\nfinish r0", ("registers", "twice", "second", "doubl", "again", "already", "once", "only one", "superfluous", "too many", "delete", "remove")),
+    (ID, "registers 1", "registers 9", ("at most 8", "1 to 8", "8 registers", "up to 8")),
+    (ID, "channels 64", "channels 5000", ("4096", "4,096")),
+    (ID, "finish r0", "finish min(r0, 4294967296)", ("4294967295", "4,294,967,295", "2^32", "32 bit")),
+    (ID, "finish r0", "finish if(r0, 1)", ("three", "else", " 3 ", "comma")),
+    (ID, "finish r0", "finish not(r0, 1)", ("one", "xor(", " 1 ")),
+    (ID, "finish r0", "finish min(r0, 1, 2)", ("two", " 2 ", "min(min", "min(r0, min")),
+    (ONE, "r0 = max(r0, L)", "r0 = max(r0, left)", ("`L`", "'L'", "write L", "L is", "L for", "means L")),
+    (ONE, "r0 = max(r0, L)", "r0 = left", ("`L`", "'L'", "write L", "L is", "L for", "means L")),
+    (ONE, "r0 = max(r0, L)", "r0 = if(lt(left, right), 1, 2)", ("`L`", "'L'", "write L", "L is", "L for", "means L")),
+    (ID, "finish r0\n", "finish r0 + 1\n", "add("),
+    (ID, "finish r0\n", "finish r0 * 2\n", "shl("),
+    (ID, "finish r0", "finish mul(r0, 2)", "shl("),
+    (ID, "finish r0", "finish mod(r0, 2)", ("and(", "bit(")),
+    (ID, "finish r0\n", "finish r0 < 1\n", "lt("),
+    (ID, "finish r0\n", "finish r0 > 1\n", "lt("),
+    (ID, "finish r0", "finish max(r0, -1)", ("negative", "below 0", "sub(", "from 0", "minus")),
+    (ID, "finish r0", "finish and(r0, 0x10)", ("decimal", "16", "digits")),
+    (ID, "finish r0", "finish and(r0, 0b101)", ("decimal", "binary", "digits")),
+    (ID, "channels 64", "channels 1,000", ("1000", "comma")),
+    (ID, "finish r0", "finish r9", ("r7", "at most 8", "0 to 7", "8 registers", "1 to 8")),
+    (ONE, "r0 = max(r0, L)", "r0 = xor(id, L)", "start"),
+    (ID, "r0 = id", "r0 = L", "round"),
+    (ONE, "r0 = max(r0, L)", "r0 = max(r0, right)", ("`R`", "'R'", "write R", "R is", "R for", "means R")),
+    (ID, "finish r0\n", "finish r0 ^ 1\n", "xor("),
+    (ID, "finish r0\n", "finish r0 & 1\n", "and("),
+    (ONE, "r0 = max(r0, L)", "r0 = if(lt(r0, L) || lt(r0, R), 1, 2)", "or("),
+    (ID, "finish r0\n", "finish r0 | 1\n", "or("),
+    (ID, "finish r0\n", "finish r0 << 1\n", "shl("),
+    (ID, "finish r0\n", "finish r0 >> 1\n", "shr("),
+    (ID, "finish r0\n", "finish r0 - 1\n", "sub("),
+    (ID, "finish r0\n", "finish r0 != 1\n", "ne("),
+    (ID, "finish r0\n", "finish r0 <= 1\n", "le("),
+    (ID, "finish r0\n", "finish r0 >= 1\n", ("le(", "not(lt")),
+    (ID, "finish r0\n", "finish r0 % 2\n", ("and(", "bit(")),
+    (ID, "finish r0", "finish ~r0", "not("),
+    (ID, "finish r0", "finish if(!r0, 1, 2)", "eq("),
+    (ID, "finish r0", "finish min(r0, 1.5)", ("whole", "point", "fraction", "integer", "digits")),
+    (ONE, "r0 = max(r0, L)", "r0 = if(lt(r0, L) && lt(r0, R), 1, 2)", "and("),
+    (ONE, "r0 = max(r0, L)", "r0 = (r0, L)", ("operation", ("word", "before"), "max(", "min(")),
+    (ONE, "r0 = max(r0, L)", "r0 = max(r0, (L, R))", ("operation", ("word", "before"), "min(")),
+    (ID, "finish r0", "finish r10", ("r7", "at most 8", "0 to 7", "8 registers", "one digit")),
+    (ID, "finish r0\n", "finish r0 / 2\n", "shr("),
+    (ID, "finish r0", "finish pow(2, r0)", "shl("),
+    (ID, "finish r0", "finish div(r0, 2)", "shr("),
+    (ID, "finish r0\n", "finish r0 ? 1 : 2\n", "if("),
+    (ONE, "r0 = max(r0, L)", "r0 = if(r0 &lt; L, 1, 2)", ("html", "lt(", "entity")),
+    (ONE, "r0 = max(r0, L)", "r0 = minimum(r0, L)", ("min(", "`min`")),
+    (ONE, "r0 = max(r0, L)", "r0 = receive(left)", ("`L`", "'L'", "write L", "L is", "L for", "means L", "L and R")),
+    (ONE, "r0 = max(r0, L)", "receive left\nr0 = max(r0, L)", ("`L`", "'L'", "write L", "L is", "L for", "means L", "L and R")),
+    (ONE, "r0 = max(r0, L)", "r0 = r0 &amp; 3", ("html", "and(", "entity")),
+    (ID, "finish r0", "finish (r0)", ("operation", "without brackets", "without the bracket", "no bracket", "bracket")),
+    (ID, "finish r0", "finish foo(r0, 1)", "operation"),
+    (ID, "finish r0", "finish max3(r0, 1, 2)", ("max(", "`max`", "operation")),
+    (ID, "finish r0\n", "finish r0 – 1\n", ("sub(", "dash")),
+    (ID, "finish r0", "finish neg(r0)", ("not(", "sub(")),
+    (ONE, "r0 = max(r0, L)", "if lt(r0, L) r0 = L", "r0 = if("),
+    (ONE, "r0 = max(r0, L)", "if(lt(r0, L), 0, 1)", ("r0 =", "assign")),
+    (ID, "channels 64", "channels six", ("digits", "number")),
+    (ID, "r0 = id", "id", ("r0 =", "assign")),
+    (ID, "channels 64", "channels 2", ("channels 8", "8 channels")),
+    (ID, "finish r0", "finish not(r0)", ("min(", "and(", "4096", "4,096")),
+    (ID, "finish r0", "finish add(r0, 57)", ("channels 65", "65 channels")),
 ]
 
-# Texts and their whole notes, or the ends of these.
-MARKED_LINES = [
-    (
-        CV1.replace(b"left 0", b"lift 0"),
-        "nbhd: line 7, column 6: unknown word `lift`; expected `left`; write `left` in the place of `lift`\n  send lift 0\n       ^\n",
-    ),
-    (b"\xef\xbb\xbfrounds 1\n", "\n  \\xef\\xbb\\xbfrounds 1\n  ^\n"),
-    (b"rounds\t1\xff", "\n  rounds 1\\xff\n          ^\n"),
+# Texts that are no programs.
+TEXTS = [
+    ("```\nrounds 1\nchannels 6\nregisters 1\nstart\nr0 = id\nround\nsend left 0\nsend right r0\nr0 = add(shl(ldb(r0, L), 1), bit(r0, ldb(r0, L)))\nfinish r0\n```\n", "leave out"),
+    ("rounds 0 channels 8 registers 2 start r1 = id r0 = 0 finish r1", "nbhd: line 1, column 39: unexpected `r1`; expected the assignment of r0"),
+    ("// a program", "nbhd: line 1, column 1: unknown word `/`; expected `rounds`; a comment begins with `#`"),
+    ("/* a program */", "nbhd: line 1, column 1: unknown word `/`; expected `rounds`; a comment begins with `#`"),
+    ("# the node’s\nrounds 1", "nbhd: line 1, column 11: a byte over 127; a program text is ASCII, in its comments too"),
+    ("\ufeffrounds 1", "nbhd: line 1, column 1: a byte over 127; a program text is ASCII, in its comments too; the file is UTF-16, or has a byte order mark"),
+    (b'\xff\xfer\x00o\x00u\x00n\x00d\x00s\x00 \x001\x00\n\x00c\x00h\x00a\x00n\x00n\x00e\x00l\x00s\x00 \x006\x00\n\x00r\x00e\x00g\x00i\x00s\x00t\x00e\x00r\x00s\x00 \x001\x00\n\x00s\x00t\x00a\x00r\x00t\x00\n\x00r\x000\x00 \x00=\x00 \x00i\x00d\x00\n\x00r\x00o\x00u\x00n\x00d\x00\n\x00s\x00e\x00n\x00d\x00 \x00l\x00e\x00f\x00t\x00 \x000\x00\n\x00s\x00e\x00n\x00d\x00 \x00r\x00i\x00g\x00h\x00t\x00 \x00r\x000\x00\n\x00r\x000\x00 \x00=\x00 \x00a\x00d\x00d\x00(\x00s\x00h\x00l\x00(\x00l\x00d\x00b\x00(\x00r\x000\x00,\x00 \x00L\x00)\x00,\x00 \x001\x00)\x00,\x00 \x00b\x00i\x00t\x00(\x00r\x000\x00,\x00 \x00l\x00d\x00b\x00(\x00r\x000\x00,\x00 \x00L\x00)\x00)\x00)\x00\n\x00f\x00i\x00n\x00i\x00s\x00h\x00 \x00r\x000\x00\n\x00', "UTF-16"),
+    ("rounds\xa01", "nbhd: line 1, column 7: a byte over 127; a program text is ASCII, in its comments too; this is a blank that does not break"),
+    ("", ("empty", "no bytes", "nothing")),
+    ("", "nbhd: line 1, column 1: unexpected end of the text; expected `rounds`; the text is empty, so no file was given, or an empty one"),
+    ("# Pighvani\n\nPighvani compiles", "nbhd: line 3, column 1: unknown word `Pighvani`; expected `rounds`"),
+    ("rounds 1\r\n\tchanels 6", "nbhd: line 2, column 2: unknown word `chanels`"),
+    ("nbhd-table 2\nrounds 0 ids 3 channels 3 near 1 far 0\n0 : 0\n1 : 1\n2 : 2\nend\n", "audit"),
+    ("nbhd-table 2\n", "nbhd: line 1, column 1: unknown word `nbhd`; expected `rounds`; the text of a table is for `nbhd audit`"),
+    ("accepted ids 8 rounds 1 channels 6 bound 5 windows 336\n", ("rounds", "report", "answer")),
+    ("“rounds 1\nchannels 6\nregisters 1\nstart\nr0 = id\nround\nsend left 0\nsend right r0\nr0 = add(shl(ldb(r0, L), 1), bit(r0, ldb(r0, L)))\nfinish r0\n”", "quot"),
+    ("<!DOCTYPE html>\n<html><head><title>x</title></head><body>cv1</body></html>\n", ("page", "html")),
+    ("rounds 1\nchannels 6\nregisters 1\nstart\nr0 = id\nfinish r0\nround\nsend left 0\nsend right r0\nr0 = L\n", "there are as many rounds as `rounds` says\n"),
+    ("# only a comment\n", "rounds"),
+    ("# only a comment\n", "a comment goes up to the end of its line, which is a line feed\n"),
+    ("# cv1\rrounds 1\rchannels 6\rregisters 1\rstart\rr0 = id\rround\rsend left 0\rsend right r0\rr0 = add(shl(ldb(r0, L), 1), bit(r0, ldb(r0, L)))\rfinish r0\r", ("carriage return", "line feed", "byte 13")),
+    (b'# na\xefve\nrounds 1\n', "the file may be Latin-1: save it as ASCII\n"),
+    ("rounds 1\nchannels 16\nregisters 2\nstart\nr1 = 0\nr0 = id\nround\nsend left 0\nsend right r0\nr0 = L\nr1 = r0\nfinish r0\n", "r0", "order"),
+    ("rounds 1\nchannels 16\nregisters 1\nstart\nr0 = id\nr1 = 0\nround\nsend left 0\nsend right r0\nr0 = L\nr1 = r0\nfinish r0\n", "registers"),
+    ("16 -1 0 4 6 2 3 11 0\n17 0 16 1 5 7 2 3 10 0\n", "refute"),
+    ("p cnf 6 15\n1 2 0\n3 4 0\n5 6 0\n-1 -3 0\n", ("formula", "dimacs")),
+    ("r\x00o\x00u\x00n\x00d\x00s\x00 \x001\x00\n\x00c\x00h\x00a\x00n\x00n\x00e\x00l\x00s\x00 \x006\x00\n\x00r\x00e\x00g\x00i\x00s\x00t\x00e\x00r\x00s\x00 \x001\x00\n\x00s\x00t\x00a\x00r\x00t\x00\n\x00r\x000\x00 \x00=\x00 \x00i\x00d\x00\n\x00r\x00o\x00u\x00n\x00d\x00\n\x00s\x00e\x00n\x00d\x00 \x00l\x00e\x00f\x00t\x00 \x000\x00\n\x00s\x00e\x00n\x00d\x00 \x00r\x00i\x00g\x00h\x00t\x00 \x00r\x000\x00\n\x00r\x000\x00 \x00=\x00 \x00a\x00d\x00d\x00(\x00s\x00h\x00l\x00(\x00l\x00d\x00b\x00(\x00r\x000\x00,\x00 \x00L\x00)\x00,\x00 \x001\x00)\x00,\x00 \x00b\x00i\x00t\x00(\x00r\x000\x00,\x00 \x00l\x00d\x00b\x00(\x00r\x000\x00,\x00 \x00L\x00)\x00)\x00)\x00\n\x00f\x00i\x00n\x00i\x00s\x00h\x00 \x00r\x000\x00\n\x00", "UTF-16"),
+    ("s SATISFIABLE\nv 1 -2 0\n", ("tools/model", "solver", "model")),
+    ('<svg xmlns="http://www.w3.org/2000/svg" width="9" height="9"></svg>\n', ("picture", "image", "svg")),
+    (b'\x1f\x8b\x08\x00\x00\x00\x00\x00\x00\x03+\xca/\xcdK)V0\xe4\x02\x00\x11"3D\t\x00\x00\x00', ("gzip", "gunzip", "compress", "packed")),
+    (b'\xfd7zXZ\x00\x00\x04\xe6\xd6\xb4F\x02\x00!\x01\x16\x00\x00\x00t/\xe5\xa3\x01\x00\x08rounds 1\n\x00', ("xz", "compress", "packed")),
 ]
 
-# Parts of `CV1`, their replacements, numbers of identifiers, and the starts of the notes on the program.
-PROGRAMS = [
-    ("finish r0", "finish r1", 8, "nbhd: line 10, column 8: there is no register r1; `registers` says how many there are"),
-    ("right r0", "right id", 8, "nbhd: line 8, column 12: `id` can be read in `start` alone; keep it in a register"),
-    ("right r0", "right L", 8, "nbhd: line 8, column 12: `L` and `R` can be read in the assignments of a round alone"),
-    ("finish r0", "finish L", 8, "nbhd: line 10, column 8: `L` and `R` can be read in the assignments of a round alone"),
-    ("r0 = id", "r0 = L", 8, "nbhd: line 5, column 6: `L` and `R` can be read in the assignments of a round alone"),
-    (
-        "channels 6",
-        "channels 5",
-        8,
-        "nbhd: the bound of `finish` is 5, which its values need not reach"
-        ": write `channels 6` or more, or `finish min(.., 4)` if none exceeds 4\n",
-    ),
-    (
-        "finish r0",
-        "finish 5000",
-        8,
-        "nbhd: the bound of `finish` is 5000, which its values need not reach, and `channels` is at most 4096"
-        ": with `channels 6` write `finish min(.., 5)` if none exceeds 5\n",
-    ),
-    ("finish r0", "finish r0", 3, "nbhd: 1 round takes 4 to 162 identifiers, not 3\n"),
-    ("finish r0", "finish r0", 163, "nbhd: 1 round takes 4 to 162 identifiers, not 163\n"),
-    ("finish r0", "finish r0", 2000, "nbhd: 1 round takes 4 to 162 identifiers, not 2000\n"),
-]
-
-# Lists that are no rings of `CV1` for eight identifiers, and the notes.
-RINGS = [
-    ("5,1,3", "nbhd: a ring has at least 4 places here, and this one has 3\n"),
-    ("0,1,2,3,4,5,6,7,0", "nbhd: a ring has at most as many places as there are identifiers, 8, and this one has 9\n"),
-    ("5,1,3,8", "nbhd: place 3 has the identifier 8; of 8 identifiers the largest is 7\n"),
-    ("1,2,3,4,1", "nbhd: places 0 and 4 have the same identifier 1; a ring closes by itself\n"),
-]
-
-# Texts that are no tables, the lines at fault, and the advice.
-TABLE_TEXTS = [
-    (b"rounds 1\n", "1", "; this looks like a program: `nbhd judge`, `nbhd table` and `nbhd run` take one"),
-    (b"check fault C4 bound 7\n", "1", "; this is output of `nbhd`, not a text that it reads"),
-    (b"yes: 1680 tuples\n", "1", "; this is output of `nbhd`, not a text that it reads"),
-    (b"", "1", "; the text is empty, so no file was given, or an empty one"),
-    (b"\xef\xbb\xbfnbhd-table 1\n", "1", "; this is a byte order mark: save the file without one"),
-    (b"nbhd-table 1\r\n", "1", "; lines end with a carriage return"),
-    (b"nbhd-table\t1\n", "1", "; words are parted by single blanks, and this line has a tab"),
-    (b"nbhd-table 1\nrounds 2 ids 4 channels 6\n", "2", "; the numbers of this line do not fit one another"),
-    (b"nbhd-table 1\nrounds 0 ids 2 channels 2\n# mine\n", "3", "; a table has no comments"),
-    (b"nbhd-table 1\nrounds 0 ids 2 channels 2\n0 : 0 \n", "3", "; it ends with a blank"),
-    (b"nbhd-table 1\nrounds 0 ids 2 channels 2\n0,:,0\n", "3", "; numbers are parted by single blanks"),
-    (b"nbhd-table 1\nrounds 0 ids 2 channels 2\n0 : -1\n", "3", "; a number has only digits"),
-    (b"nbhd-table 1\nrounds 0 ids 2 channels 2\n0 : 0\n1 : 1\n", "5", "; the text stops before its end"),
-    (b"nbhd-table 1\nrounds 0 ids 2 channels 2\n0 : 0\n1 : 1\nend", "5", "; the last line has no line end"),
-    (b"nbhd-table 1\nrounds 0 ids 2 channels 2\n0 : 0\n1 : 1\nend\n\n", "6", "; the line is blank"),
-]
-
-# Texts that are no tables, and the notes.
-WINDOWS_AND_CHANNELS = [
-    (b"nbhd-table 1\nrounds 0 ids 2 channels 2\n1 : 1\n0 : 0\nend\n", "nbhd: line 3 is not the line of window 0, which comes there by line 2; windows stand in lexicographic order\n"),
-    (b"nbhd-table 1\nrounds 1 ids 4 channels 6\n0 1 2 : 0\n0 2 1 : 3\n", "nbhd: line 4 is not the line of window 0 1 3, which comes there by line 2; windows stand in lexicographic order\n"),
-    (b"nbhd-table 1\nrounds 1 ids 4 channels 6\n0 0 1 : 2\n", "nbhd: line 3 is not the line of window 0 1 2, which comes there by line 2; windows stand in lexicographic order\n"),
-    (
-        b"nbhd-table 1\nrounds 1 ids 5 channels 6\n0 1 2 : 0\n0 1 3 : 3\n0 2 1 : 3\n",
-        "nbhd: line 5 is not the line of window 0 1 4, which comes there by line 2; windows stand in lexicographic order\n",
-    ),
-    (
-        b"nbhd-table 1\nrounds 0 ids 2 channels 2\n0 : 2\n",
-        "nbhd: line 3 has a channel that is not below the number of channels of line 2\n",
-    ),
-]
-
-# The note on a yes over no tuples: rings that count have three nodes or more, and there are two identifiers.
-NO_RING = "nbhd: no ring was judged: 2 identifiers are too few for a ring of at least 3 nodes\n"
-TABLE_OF_2 = b"nbhd-table 2\nrounds 0 ids 2 channels 2 near 1 far %d\n0 : 0\n1 : 1\nend\n"
-
-# Words, inputs and the notes.
-OTHERS = [
-    ("explain --ids 8 --ring 5,1,3,7 --place 4", CV1, "nbhd: the ring has no place 4; its places are 0 to 3\n"),
-    ("run --ids 8 --ring 5,1,3,7 --segments 5", CV1, "nbhd: 5 segments are more than the 4 places of the ring\n"),
-    (
-        "judge --ids 8",
-        LDB,
-        "nbhd: on the ring 0,1,2,3 the neighbours 1 and 2 (places 1 and 2) have channel 0; their windows are 0 1 2 and 1 2 3\n",
-    ),
-    (
-        "judge --ids 4 --far 2",
-        ID0_OF_4,
-        "nbhd: on the ring 0,2,1 the nodes at distance two 0 and 1 (places 0 and 2) have channels 0 and 1"
-        "; their windows are 0 and 1\n",
-    ),
-    ("judge --ids 2 --far 1", ID0, NO_RING),
-    ("judge --ids 2 --far 1 --workers 3", ID0, NO_RING),
-    ("judge --ids 4 --far 1", CV1, "nbhd: no ring was judged: 4 identifiers are too few for a ring of at least 5 nodes\n"),
-    ("audit", TABLE_OF_2 % 1, NO_RING),
-    (
-        "judge --ids 10",
-        SHIFT4.replace(b"finish r0", b"finish 0"),
-        "nbhd: on the ring 0,1,2,3,4,5,6,7,8,9 the neighbours 4 and 5 (places 4 and 5) have channel 0; "
-        "their windows are 0 1 2 3 4 5 6 7 8 and 1 2 3 4 5 6 7 8 9\n",
-    ),
-]
-
-# A refutation, damaged texts of it with the options of a formula, and the notes.
-REFUTATION = (Path(__file__).resolve().parent.parent / "examples/least/rounds0_ids3_channels2_near1_far0.lrat").read_bytes()
-REFUTATIONS = [
-    (
-        3,
-        b"-1 0\n0\n",
-        "nbhd: line 1: this line is not a step of LRAT, as `5 -1 2 0 3 4 0`, a deletion, as `5 d 3 4 0`, or a comment"
-        "; this looks like a proof in DRAT: `tools/lrat` adds the hints that it lacks, for `nbhd refute`\n  -1 0\n  ^\n",
-    ),
-    (
-        4,
-        REFUTATION,
-        "nbhd: line 1: the number of this step is not above those of the steps before it, or not above those of the formula's clauses"
-        ": then the options may be those of another formula\n  16 -1 0 4 6 2 3 11 0\n  ^\n",
-    ),
-    (
-        3,
-        REFUTATION.replace(b"16 -1", b"16 7", 1),
-        "nbhd: line 1: this clause has a variable that the formula lacks; the numbers may be those of another formula"
-        "\n  16 7 0 4 6 2 3 11 0\n  ^\n",
-    ),
-    (
-        3,
-        REFUTATION.replace(b"17 2 0 16 1 0\n", b"", 1),
-        "nbhd: line 3: hint 17 names no clause: there is none of its number yet, or it was deleted"
-        "; the options may be those of another formula\n  18 -4 0 17 5 0\n  ^\n",
-    ),
-    (
-        3,
-        REFUTATION.replace(b"4 6 2", b"2 4 6", 1),
-        "nbhd: line 1: several literals of the clause of hint 2, or one twice, are not yet known to be false, where at most one may be"
-        ": a hint is missing before it or stands behind it, or the options may be those of another formula"
-        "\n  16 -1 0 2 4 6 3 11 0\n  ^\n",
-    ),
-    (
-        3,
-        REFUTATION.replace(b"11 0", b"0", 1),
-        "nbhd: line 1: the clause of hint 3, the last one, has a literal that is not known to be false"
-        ": a hint is missing or wrong, or the options may be those of another formula\n  16 -1 0 4 6 2 3 0\n  ^\n",
-    ),
-    (
-        3,
-        b"".join(REFUTATION.splitlines(keepends=True)[:5]),
-        "nbhd: line 6: the text ends here, before the empty clause"
-        "; a refutation ends with a step without literals, as in `22 0 20 21 10 0`\n  \n  ^\n",
-    ),
-    (
-        3,
-        b"16 c 0 5 -1 0 4 6 2 3 11 0\n",
-        "nbhd: line 1: tables need not stay right by this exchange: identifiers are below `--ids` and channels below `--channels`"
-        ", and two channels are exchanged only if near and far are at most 1\n  16 c 0 5 -1 0 4 6 2 3 11 0\n  ^\n",
-    ),
-]
-
-# Programs over a limit, and the notes.
+# Programs over a limit, and the whole notes.
 OVER_LIMITS = [
     (b"# a comment\n" * 30_000, "nbhd: a program text has at most 65536 bytes\n"),
     (
@@ -372,57 +436,46 @@ OVER_LIMITS = [
     ),
 ]
 
-# Options that have no formula, and the notes.
-FORMULAS = [
-    (
-        "--ids 162 --rounds 1 --channels 2",
-        "nbhd: a formula has a variable for each window and channel, and at most 4194304 of them; take fewer identifiers or channels\n",
-    ),
-    (
-        "--ids 40 --rounds 1 --channels 10",
-        "nbhd: a formula has at most 16777216 clauses, and a table of this size would need more; take fewer identifiers or channels\n",
-    ),
+# Words of the command line, and their input.
+CALLS = [
+    ("check --ids 3", CV1, ("4 to 162", "at least 4", "--ids 4")),
+    ("check --ids 163", CV1, "162"),
+    ("check --ids 2000", CV1, "162"),
+    ("judge --ids 8", "rounds 1\nchannels 3\nregisters 1\nstart\nr0 = id\nround\nsend left 0\nsend right r0\nr0 = ldb(r0, L)\nfinish r0\n", "nbhd: on the ring 0,1,2,3 the neighbours 1 and 2 (places 1 and 2) have channel 0; their windows are 0 1 2 and 1 2 3\n"),
+    ("judge --ids 4 --far 2", edited(ID, "channels 64", "channels 4"), "nbhd: on the ring 0,2,1 the nodes at distance two 0 and 1 (places 0 and 2) have channels 0 and 1; their windows are 0 and 1\n"),
+    ("judge --ids 2 --far 1", edited(ID, "channels 64", "channels 2"), "nbhd: no ring was judged: 2 identifiers are too few for a ring of at least 3 nodes\n"),
+    ("judge --ids 4 --far 1", CV1, "nbhd: no ring was judged: 4 identifiers are too few for a ring of at least 5 nodes\n"),
+    ("judge --ids 10", "rounds 4\nchannels 10\nregisters 1\nstart\nr0 = id\nround\nsend left 0\nsend right r0\nr0 = L\nround\nsend left 0\nsend right r0\nr0 = L\nround\nsend left 0\nsend right r0\nr0 = L\nround\nsend left 0\nsend right r0\nr0 = L\nfinish 0\n", "nbhd: on the ring 0,1,2,3,4,5,6,7,8,9 the neighbours 4 and 5 (places 4 and 5) have channel 0; their windows are 0 1 2 3 4 5 6 7 8 and 1 2 3 4 5 6 7 8 9\n"),
+    ("judge --ids 2", edited(ID, "channels 64", "channels 2")),
+    ("check --ids 1", CV1, "4"),
+    ("check --ids 9", CV1, "channels 8"),
+    ("check --ids 200", CV1, "162"),
 ]
 
 
-def starts():
-    """Words, inputs and the starts of the notes."""
-    for old, new, note in MARKS_AND_ORDER + REGISTERS_AND_ROUNDS + OPERANDS + WORDS_OF_OTHER_LANGUAGES:
-        yield "check --ids 8", edited(old, new), note
-    for text, note in OTHER_FILES:
-        yield "check --ids 8", text, note
-    for old, new, ids, note in PROGRAMS:
-        yield f"check --ids {ids}", edited(old, new), note
-    for text, number, advice in TABLE_TEXTS:
-        yield "audit", text, f"nbhd: line {number}, column 1: this line does not have the form that `nbhd table` writes{advice}"
-
-
-def ends():
-    """Words, inputs and the ends of the notes."""
-    for text, note in MARKED_LINES:
-        yield "check --ids 8", text, note
-    for ring, note in RINGS:
-        yield f"run --ids 8 --ring {ring}", CV1, note
-    for text, note in WINDOWS_AND_CHANNELS:
-        yield "audit", text, note
-    yield from OTHERS
+def rows():
+    """Words of the command line, inputs, and the words that the notes have."""
+    for expression, *said in EXPRESSIONS:
+        yield "check --ids 8", edited(CV1, LAST, expression), said
+    for expression, *said in CHANNELS:
+        yield "check --ids 8", edited(CV1, "finish r0", f"finish {expression}"), said
+    for old, new, *said in PARTS:
+        yield "check --ids 8", edited(CV1, old, new), said
+    for text, old, new, *said in OTHER_PARTS:
+        yield "check --ids 8", edited(text, old, new), said
+    for text, *said in TEXTS:
+        yield "check --ids 8", text if isinstance(text, bytes) else text.encode(), said
     for text, note in OVER_LIMITS:
-        yield "check --ids 8", text, note
-    for options, note in FORMULAS:
-        yield f"formula {options}", b"", note
-    for ids, text, note in REFUTATIONS:
-        yield f"refute --ids {ids} --rounds 0 --channels 2", text, note
-    said = "nbhd: the text of a refutation has at most 134217728 bytes; `tools/lrat` leaves out what is not needed\n"
-    yield "refute --ids 3 --rounds 0 --channels 2", b"\0" * 134_217_729, said
+        yield "check --ids 8", text, [note]
+    for line, text, *said in CALLS:
+        yield line, text if isinstance(text, bytes) else text.encode(), said
 
 
-def silent():
-    """Words and inputs without a note: a yes over tuples is about rings."""
-    yield "judge --ids 2", ID0, ""
-    yield "judge --ids 5 --far 1", ID0_OF_4.replace(b"channels 4", b"channels 5"), ""
-    yield "audit", TABLE_OF_2 % 0, ""
+def says(note, said):
+    """Whether a note has these words; of alternatives one, in any case."""
+    return all(words in note if isinstance(words, str) else any(has_all(note.lower(), it) for it in words) for words in said)
 
 
-def edited(old, new):
-    """`CV1` with the first `old` replaced by `new`."""
-    return CV1.replace(old.encode(), new.encode(), 1)
+def has_all(note, words):
+    """Whether a note has the words, or each of several."""
+    return all(word.lower() in note for word in ([words] if isinstance(words, str) else words))

@@ -19,7 +19,7 @@ const DASH: &str = "; this is a dash or a blank that is not ASCII";
 const WIDE: &str = "; this is a sign of full width";
 
 // Signs over 127.
-const SIGNS: [Sign; 30] = signs! {
+const SIGNS: [Sign; 31] = signs! {
     "\u{a0}" => b" ", BLANK;
     "\u{202f}" => b" ", BLANK;
     "\u{200b}" => b"", DASH;
@@ -45,6 +45,7 @@ const SIGNS: [Sign; 30] = signs! {
     "\u{2190}" => b"=", "";
     "\u{d7}" => b"*", PRODUCT;
     "\u{b7}" => b"*", PRODUCT;
+    "\u{22c5}" => b"*", PRODUCT;
     "\u{f7}" => b"/", QUOTIENT;
     "\u{b2}" => b"**2", POWER;
     "\u{ff08}" => b"(", WIDE;
@@ -80,8 +81,9 @@ const TEX: [Sign; 23] = signs! {
 };
 
 // Signs of HTML and of Haskell.
-const OTHERS: [Sign; 4] = signs! {
+const OTHERS: [Sign; 5] = signs! {
     "&lt;" => b"<", "";
+    "&gt;" => b">", "";
     "&amp;" => b"&", "";
     ".&." => b"&", "";
     ".|." => b"|", "";
