@@ -18,8 +18,6 @@ const FILE: Fact = Fact::Text("a text is read from standard input");
 
 const EACH_NUMBER: Fact = Fact::Text("each number is the value of an option, as in `--ids 8`");
 
-const FAULTS: Fact = Fact::Text("docs/FAULTS.md explains faults");
-
 const SHELL: Fact = Fact::Text("`|`, `;` and `&` are read by the shell, outside of quotes");
 
 const REDIRECTED: Fact = Fact::Text("`<` and `>` are read by the shell, outside of quotes");
@@ -88,7 +86,7 @@ pub(crate) fn fact_without_command(words: &[String]) -> Option<Fact> {
     }
     match name_in(first) {
         Some((name, _)) => match meaning_of(&CHECK, name) {
-            Meant::Left(Some(fact)) => Some(fact),
+            (Meant::Left, Some(fact)) => Some(fact),
             _ => Some(FIRST),
         },
         None if begins_with_digit(first) || first.is_empty() => Some(FIRST),
@@ -123,10 +121,10 @@ pub(crate) fn draft_of<'a>(
     let mut draft = Draft::new(alloc, command);
     for (index, word) in words.iter().enumerate() {
         let word = word.as_str();
-        if index == at {
-            draft.tell_of_command(word);
-        } else {
-            draft.read_word(alloc, word)?;
+        match other_command(word) {
+            _ if index != at => draft.read_word(alloc, word)?,
+            Some(row) => draft.tell(Fact::Text(row.fact)),
+            None => {}
         }
     }
     Ok(draft)
@@ -148,42 +146,23 @@ impl<'a> Draft<'a> {
 
     // Sets the fact, unless there is one.
     fn tell(&mut self, fact: Fact) {
-        if self.fact.is_none() {
-            self.fact = Some(fact);
-        }
-    }
-
-    // Sets the fact on the word that names the command.
-    fn tell_of_command(&mut self, word: &str) {
-        if let Some(row) = other_command(word) {
-            self.tell(Fact::Text(row.fact));
-        }
+        self.fact = self.fact.or(Some(fact));
     }
 
     // Returns whether the command has an option that is not given yet.
     fn lacks(&self, option: &OptionRow) -> bool {
+        let mut values = self.values.iter();
         has_option(&self.command, option.name)
-            && !self
-                .values
-                .iter()
-                .any(|given| given.option.name == option.name)
+            && !values.any(|given| given.option.name == option.name)
     }
 
     // Returns the fact on the first value that has to be a number and is none.
     pub(crate) fn number_fact(&self) -> Option<Fact> {
-        for given in &self.values {
-            let text = given.text.as_str();
-            if matches!(given.option.values, Values::Numbers(_, _))
-                && has_letter(text)
-                && number_in(text).is_none()
-            {
-                if has_comma(text) && has_option(&self.command, RING.name) {
-                    return Some(RING_FOR_IDS);
-                }
-                return Some(Fact::TakesNumber(given.option));
-            }
+        let given = self.values.iter().find(|given| is_no_number(given))?;
+        if has_comma(given.text.as_str()) && has_option(&self.command, RING.name) {
+            return Some(RING_FOR_IDS);
         }
-        None
+        Some(Fact::TakesNumber(given.option))
     }
 
     // Reads the parts of a word between its blanks.
@@ -203,79 +182,62 @@ impl<'a> Draft<'a> {
         if text.is_empty() || text == "--" || matches!(self.next, Next::End) {
             return Ok(());
         }
-        if is_for_shell(text) {
-            self.read_sign(text);
-            return Ok(());
-        }
-        match name_in(text) {
-            Some((name, value)) => self.read_name(alloc, name, value),
-            None => self.read_plain(alloc, text),
+        match (after_sign(text), name_in(text)) {
+            (Some((next, fact)), _) => self.read_sign(next, fact),
+            (None, Some((name, value))) => self.read_name(alloc, name, value),
+            (None, None) => self.read_plain(alloc, text),
         }
     }
 
     // Reads a sign of the shell.
-    fn read_sign(&mut self, sign: &str) {
-        self.next = after_sign(sign);
-        match self.next {
-            Next::End => self.tell(SHELL),
-            _ => self.tell(REDIRECTED),
-        }
+    fn read_sign(&mut self, next: Next, fact: Fact) -> Result<(), AllocError> {
+        self.next = next;
+        self.tell(fact);
+        Ok(())
     }
 
     // Reads the name of an option with the text behind its `=` or `:`.
     fn read_name(&mut self, alloc: Global, name: &str, value: &'a str) -> Result<(), AllocError> {
-        match meaning_of(&self.command, name) {
-            Meant::Option(option, fixed, fact) => {
-                self.tell_text(fact);
-                if fixed.is_empty() {
-                    return self.begin(alloc, option, value);
-                }
-                self.push(alloc, option, fixed)?;
-                self.next = Next::Word;
-            }
-            Meant::Input(fact) => {
-                self.tell_text(fact);
+        let (meant, fact) = meaning_of(&self.command, name);
+        self.fact = self.fact.or(fact);
+        let next = match meant {
+            Meant::Option(option, "") => return self.begin(alloc, option, value),
+            Meant::Option(option, fixed) => return self.push(alloc, option, fixed),
+            Meant::Input => {
                 self.input = Some(value);
-                self.next = next_after(value, Next::Input);
+                Next::Input
             }
-            Meant::Output(fact) => {
-                self.tell_text(fact);
+            Meant::Output => {
                 self.output = Some(value);
-                self.next = next_after(value, Next::Output);
+                Next::Output
             }
-            Meant::Left(fact) => {
-                self.is_whole = self.is_whole && is_left_out(fact);
-                if let Some(fact) = fact {
-                    self.tell(fact);
+            // An option of other commands may show that one of these is meant.
+            Meant::Left => {
+                self.is_whole = self.is_whole && matches!(fact, Some(Fact::Text(_)));
+                if is_own_option(name) {
+                    Next::Dropped
+                } else {
+                    Next::Optional
                 }
-                self.next = next_after(value, next_after_left(name));
             }
-        }
+        };
+        self.next = next_after(value, next);
         Ok(())
-    }
-
-    // Notes a text that is not empty.
-    fn tell_text(&mut self, fact: &'static str) {
-        if !fact.is_empty() {
-            self.tell(Fact::Text(fact));
-        }
     }
 
     // Adds an option with the first part of its value.
     fn begin(&mut self, alloc: Global, option: OptionRow, value: &str) -> Result<(), AllocError> {
         self.push(alloc, option, value)?;
-        self.next = if is_list(&option) {
-            Next::List
-        } else {
-            next_after(value, Next::Value)
-        };
+        let next = next_after(value, Next::Value);
+        self.next = if is_list(&option) { Next::List } else { next };
         Ok(())
     }
 
-    // Adds an option with a value.
+    // Adds an option with a value. A word of its own follows.
     fn push(&mut self, alloc: Global, option: OptionRow, value: &str) -> Result<(), AllocError> {
         let text = String::from_str(alloc, value)?;
         self.values.push(Given { option, text })?;
+        self.next = Next::Word;
         Ok(())
     }
 
@@ -341,7 +303,7 @@ impl<'a> Draft<'a> {
             return Ok(());
         };
         if last.option.name == FORBID.name && has_comma(text) && has_comma(last.text.as_str()) {
-            return self.push(alloc, FORBID, text);
+            return self.begin(alloc, FORBID, text);
         }
         self.append(text)
     }
@@ -357,30 +319,26 @@ impl<'a> Draft<'a> {
         }
         if text.starts_with("L(") {
             self.tell(Fact::Text(LABELLING));
-            return self.begin(alloc, NEAR, without_letters(text));
+            return self.begin(alloc, NEAR, text.trim_matches(is_letter_or_bracket));
         }
         if !is_file_name(text) {
             self.is_whole = false;
             self.next = Next::End;
             return Ok(());
         }
-        if own_command(text).is_some() {
-            self.tell(ONE_COMMAND);
-            return Ok(());
-        }
-        if let Some(row) = other_command(text) {
-            if row.command.is_empty() {
-                self.tell(Fact::Text(row.fact));
-                return Ok(());
-            }
-        }
-        if let Meant::Option(option, fixed, fact) = meaning_of(&self.command, text) {
-            if !fixed.is_empty() {
-                self.tell_text(fact);
+        match (
+            own_command(text),
+            other_command(text),
+            meaning_of(&self.command, text),
+        ) {
+            (Some(_), _, _) => self.tell(ONE_COMMAND),
+            (_, Some(row), _) if row.command.is_empty() => self.tell(Fact::Text(row.fact)),
+            (_, _, (Meant::Option(option, fixed), fact)) if !fixed.is_empty() => {
+                self.fact = self.fact.or(fact);
                 return self.push(alloc, option, fixed);
             }
+            _ => self.read_file(text),
         }
-        self.read_file(text);
         Ok(())
     }
 
@@ -407,14 +365,19 @@ impl<'a> Draft<'a> {
     // Reads a word that is taken for the name of a file.
     fn read_file(&mut self, text: &'a str) {
         if self.command.name == "formula" {
-            self.tell(NO_FILE);
-        } else if self.command.name == "explain" && is_code(text) {
-            self.tell(FAULTS);
-        } else {
-            self.tell(FILE);
-            self.input = Some(text);
+            return self.tell(NO_FILE);
         }
+        self.tell(FILE);
+        self.input = Some(text);
     }
+}
+
+// Returns whether the value of an option has to be a number and is none.
+fn is_no_number(given: &Given) -> bool {
+    let text = given.text.as_str();
+    matches!(given.option.values, Values::Numbers(_, _))
+        && has_letter(text)
+        && number_in(text).is_none()
 }
 
 // Returns how the word behind an option is read, if the option has this value in its own word.
@@ -422,27 +385,13 @@ fn next_after(value: &str, next: Next) -> Next {
     if value.is_empty() { next } else { Next::Word }
 }
 
-// Returns whether a name with this fact can be left out. An option of other commands may show that one
-// of these is meant.
-fn is_left_out(fact: Option<Fact>) -> bool {
-    matches!(fact, Some(Fact::Text(_)))
-}
-
-// Returns how the word behind a name that is left out is read: each own option takes a value.
-fn next_after_left(name: &str) -> Next {
-    if is_own_option(name) {
-        Next::Dropped
-    } else {
-        Next::Optional
-    }
-}
-
-// Returns how the word behind a sign of the shell is read.
-fn after_sign(sign: &str) -> Next {
+// Returns how the word behind a sign of the shell is read, and the fact on the sign.
+fn after_sign(sign: &str) -> Option<(Next, Fact)> {
     match sign {
-        "<" => Next::Input,
-        ">" | ">>" => Next::Output,
-        _ => Next::End,
+        "<" => Some((Next::Input, REDIRECTED)),
+        ">" | ">>" => Some((Next::Output, REDIRECTED)),
+        "|" | "||" | ";" | "&" | "&&" | "2>" | "2>&1" | "&>" => Some((Next::End, SHELL)),
+        _ => None,
     }
 }
 
@@ -462,17 +411,6 @@ fn is_around(letter: char) -> bool {
     matches!(
         letter,
         '[' | ']' | '`' | '"' | '\'' | '\u{201c}' | '\u{201d}'
-    )
-}
-
-// Returns whether a word is a sign that the shell reads.
-fn is_for_shell(text: &str) -> bool {
-    matches!(
-        text,
-        "<" | ">" | ">>" | "<<" | "|" | "||" | "|&" | ";" | "&" | "&&"
-    ) || matches!(
-        text,
-        "2>" | "2>>" | "2>&1" | "1>" | "1>>" | "1>&2" | "&>" | "&>>"
     )
 }
 
@@ -503,11 +441,7 @@ fn is_open_list(list: &str) -> bool {
     !has_comma(list) || list.ends_with(',')
 }
 
-// Returns a word without its first letters and the brackets around it.
-fn without_letters(text: &str) -> &str {
-    text.trim_matches(is_letter_or_bracket)
-}
-
+// Returns whether a letter stands around the numbers of a labelling.
 fn is_letter_or_bracket(letter: char) -> bool {
     letter.is_ascii_alphabetic() || letter == '(' || letter == ')'
 }
@@ -533,11 +467,6 @@ fn is_entry(text: &str) -> bool {
     !text.bytes().any(|byte| byte.is_ascii_alphabetic() || byte == b'.' || byte == b'/')
 }
 
-// Returns whether a word is the code of a fault.
-fn is_code(text: &str) -> bool {
-    matches!(text.as_bytes(), [b'A'..=b'Z', b'0'..=b'9'])
-}
-
 // Returns the name in a word, and the text behind its first `=` or `:`.
 fn parts_of(text: &str) -> (&str, &str) {
     match text.split_once(is_between) {
@@ -561,11 +490,11 @@ fn name_in(text: &str) -> Option<(&str, &str)> {
     if bare.len() < text.len() {
         return Some(short_name_in(text).unwrap_or((name, value)));
     }
-    let own = name.trim_start_matches('/');
-    if is_own_option(own) {
-        return Some((own, value));
+    if is_own_option(name) {
+        Some((name, value))
+    } else {
+        None
     }
-    None
 }
 
 // Returns a name of one letter behind one minus sign, and the digits behind it.

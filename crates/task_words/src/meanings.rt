@@ -16,15 +16,15 @@ pub(crate) enum Fact {
     TakesNumber(OptionRow),
 }
 
-/// What a name in place of an option means. A text is a fact, or empty.
+/// What a name in place of an option means.
 #[derive(Clone, Copy)]
 pub(crate) enum Meant {
     /// An option, and its value if the name has one.
-    Option(OptionRow, &'static str, &'static str),
-    Input(&'static str),
-    Output(&'static str),
-    /// It is left out. Without a fact it is not known.
-    Left(Option<Fact>),
+    Option(OptionRow, &'static str),
+    Input,
+    Output,
+    /// It is left out.
+    Left,
 }
 
 /// Returns the command with this name.
@@ -59,19 +59,14 @@ fn other_command_in(rows: &[OtherCommand], name: &str) -> Option<OtherCommand> {
 
 /// Returns whether a command has an option with this name.
 pub(crate) fn is_own_option(name: &str) -> bool {
-    own_option(name).is_some()
+    own_option_in(&COMMANDS, name).is_some()
 }
 
-// Returns the name of the option that a command has by this name.
-fn own_option(name: &str) -> Option<&'static str> {
-    own_option_in(&COMMANDS, name)
-}
-
-// Returns the name of the option that one of these commands has by this name.
-fn own_option_in(rows: &[CommandRow], name: &str) -> Option<&'static str> {
+// Returns the option that one of these commands has by this name.
+fn own_option_in(rows: &[CommandRow], name: &str) -> Option<OptionRow> {
     for row in rows {
         if let Some(option) = option_of(row, name) {
-            return Some(option.name);
+            return Some(option);
         }
     }
     None
@@ -102,70 +97,54 @@ fn is_named(names: &[&str], name: &str) -> bool {
     names.iter().any(|other| other.eq_ignore_ascii_case(name))
 }
 
-// Returns whether a row counts at a command.
-fn counts_at(row: &OtherName, command: &CommandRow) -> bool {
-    row.commands.is_empty() || row.commands.contains(&command.name)
-}
-
 // Returns the first row of a name that counts at a command: one with just this name, else one with the
 // name but for capitals.
 fn other_option(rows: &[OtherName], command: &CommandRow, name: &str) -> Option<OtherName> {
     let mut alike = None;
     for row in rows {
-        if counts_at(row, command) {
-            if row.names.contains(&name) {
-                return Some(*row);
-            }
-            if alike.is_none() && is_named(row.names, name) {
-                alike = Some(*row);
-            }
+        let counts = row.commands.is_empty() || row.commands.contains(&command.name);
+        if counts && row.names.contains(&name) {
+            return Some(*row);
+        }
+        if counts && alike.is_none() && is_named(row.names, name) {
+            alike = Some(*row);
         }
     }
     alike
 }
 
-/// Returns what a name in place of an option of a command means.
-pub(crate) fn meaning_of(command: &CommandRow, name: &str) -> Meant {
+/// Returns what a name in place of an option of a command means, and the fact on it. A name without a meaning and a fact is
+/// not known.
+pub(crate) fn meaning_of(command: &CommandRow, name: &str) -> (Meant, Option<Fact>) {
     if let Some(option) = option_of(command, name) {
-        return Meant::Option(option, "", "");
+        return (Meant::Option(option, ""), None);
     }
     if let Some(row) = other_option(&other_names::OPTIONS, command, name) {
-        return meaning_in(command, &row);
+        let fact = if row.fact.is_empty() {
+            None
+        } else {
+            Some(Fact::Text(row.fact))
+        };
+        return (meaning_in(command, row.meaning), fact);
     }
-    if let Some(own) = own_option(name) {
-        return Meant::Left(Some(Fact::OptionOf(own)));
-    }
-    match option_like(command, name) {
-        Some(option) => Meant::Option(option, "", ""),
-        None => Meant::Left(None),
-    }
-}
-
-// Returns what a row means at a command.
-fn meaning_in(command: &CommandRow, row: &OtherName) -> Meant {
-    match row.meaning {
-        Meaning::OneOf(names) => match first_option(command, names) {
-            Some(option) => Meant::Option(option, "", row.fact),
-            None => Meant::Left(Some(Fact::Text(row.fact))),
-        },
-        Meaning::Value(name, value) => match option_of(command, name) {
-            Some(option) => Meant::Option(option, value, row.fact),
-            None => Meant::Left(Some(Fact::Text(row.fact))),
-        },
-        Meaning::Input => Meant::Input(row.fact),
-        Meaning::Output => Meant::Output(row.fact),
-        Meaning::Nothing => Meant::Left(Some(Fact::Text(row.fact))),
+    match (own_option_in(&COMMANDS, name), option_like(command, name)) {
+        (Some(own), _) => (Meant::Left, Some(Fact::OptionOf(own.name))),
+        (None, Some(option)) => (Meant::Option(option, ""), None),
+        (None, None) => (Meant::Left, None),
     }
 }
 
-// Returns the first of these options that a command has.
-fn first_option(command: &CommandRow, names: &[&str]) -> Option<OptionRow> {
-    for name in names {
-        if let Some(option) = option_of(command, name) {
-            return Some(option);
-        }
+// Returns what the meaning of a row is at a command.
+fn meaning_in(command: &CommandRow, meaning: Meaning) -> Meant {
+    match meaning {
+        Meaning::Option(name, value) => match option_of(command, name) {
+            Some(option) => Meant::Option(option, value),
+            None => Meant::Left,
+        },
+        Meaning::Input => Meant::Input,
+        Meaning::Output => Meant::Output,
+        Meaning::Nothing => Meant::Left,
     }
-    None
 }
 
 /// Writes a fact.
@@ -177,13 +156,6 @@ pub(crate) fn write_fact(out: &mut String, fact: &Fact) -> Result<(), AllocError
     }
 }
 
-// Returns the number of commands that have an option.
-fn count_with(rows: &[CommandRow], name: &str) -> usize {
-    rows.iter()
-        .filter(|row| option_of(row, name).is_some())
-        .count()
-}
-
 // Writes of which commands this is an option.
 fn write_option_of(out: &mut String, name: &str) -> Result<(), AllocError> {
     write!(out, "`--{name}` is an option of")?;
@@ -192,33 +164,24 @@ fn write_option_of(out: &mut String, name: &str) -> Result<(), AllocError> {
 
 // Writes the names of the commands that have an option.
 fn write_commands(out: &mut String, rows: &[CommandRow], name: &str) -> Result<(), AllocError> {
-    let count = count_with(rows, name);
-    let mut done = 0usize;
+    let mut left = count_with(rows, name);
+    let mut between = "";
     for row in rows {
         if option_of(row, name).is_some() {
-            out.push_str(between(done, count))?;
-            write_name(out, row.name)?;
-            done = done.saturating_add(1);
+            let command = row.name;
+            write!(out, "{between} `{command}`")?;
+            left = left.saturating_sub(1);
+            between = if left == 1 { " and" } else { "," };
         }
     }
     Ok(())
 }
 
-// Returns what stands before the next of so many names.
-fn between(done: usize, count: usize) -> &'static str {
-    if done == 0 {
-        return "";
-    }
-    if done.saturating_add(1) == count {
-        " and"
-    } else {
-        ","
-    }
-}
-
-// Writes a blank and a name.
-fn write_name(out: &mut String, name: &str) -> Result<(), AllocError> {
-    write!(out, " `{name}`")
+// Returns the number of commands that have an option.
+fn count_with(rows: &[CommandRow], name: &str) -> usize {
+    rows.iter()
+        .filter(|row| option_of(row, name).is_some())
+        .count()
 }
 
 // Writes that an option takes a number.
