@@ -1,7 +1,6 @@
--- Tables that are filled in order, and lemmas on tuples.
-pub mod BegunTables
-pub mod Close
-pub mod Prefixes
-pub mod Products
-pub mod RunLengths
-pub mod Witnesses
+-- Lemmas that several proofs share. Other crates cite those of Tables.
+mod BegunTables
+mod Close
+mod Products
+mod Witnesses
+pub mod Tables

@@ -4,10 +4,7 @@ use Rattle.std.proofs.lemmas.Option.{slice_get-get_or, slice_get_within, get_or_
 use Rattle.win_index.specs.Arcs.{arc, window_around, part_at}
 use Rattle.win_index.specs.Ring.{IsRing}
 use Rattle.win_index.specs.Windows.{IsWindow}
-use Rattle.win_index.proofs.Arcs.{around_window}
-use Rattle.win_index.proofs.Numbers.{windows_all}
-use Rattle.win_index.proofs.Positions.{number_of_is, window_place}
-use Rattle.win_index.proofs.Tuples.{tuple_ring, ring_tuple}
+use Rattle.win_index.proofs.Windows.{around_window, windows_all, number_of_is, window_place, tuple_ring, ring_tuple}
 use Rattle.channel_tables.specs.Tables.{ChannelTable, channel_of, windows_of}
 use Rattle.channel_tables.specs.declared.separation.Separation.{Separation}
 use Rattle.channel_tables.specs.Apart.{extra, tuples, AreClose, IsBad, IsApart, IsApartEverywhere, NoneIsBad, IsLeastBad}

@@ -6,9 +6,8 @@ use Rattle.std.proofs.lemmas.Bool.Decides.{nat_tests}
 use Rattle.std.proofs.lemmas.List.{get_or-set_same, get_or-set_other, get_or-take, get_or-drop, length-take-le, take_at}
 use Rattle.std.proofs.lemmas.Option.{same_Some, slice_get_within}
 use Rattle.win_index.specs.Windows.{unused, IsWindow}
-use Rattle.win_index.proofs.Numbers.{push_window, windows_all}
+use Rattle.win_index.proofs.Windows.{push_window, windows_all, one_number, back_window}
 use Rattle.channel_tables.specs.Tables.{ChannelTable, windows_of}
-use Rattle.channel_tables.proofs.Prefixes.{one_number, window_drop}
 use Rattle.nbhd_check.specs.ChannelsBefore.{AreBefore}
 use Rattle.nbhd_check.specs.declared.near.SecondRuns.{SecondRuns}
 use Rattle.nbhd_check.specs.MiddleRuns.{AreNextRuns, in_run}
@@ -42,8 +41,7 @@ turned_at t runs place own =
     let z = drop 1 w in
     let is = windows_all (k + 1) t.ids _ w own.item in
     let size = is.size in
-    let turn : k + 1 ≡ 1 + k = omega arith in
-    let rest = window_drop k t.ids 1 w (subst (λ l. IsWindow l t.ids w) turn is) in
+    let rest = back_window k t.ids w is in
     let rest_size = rest.size in
     let longer : suc k ≡ k + 1 = omega arith in
     let turned : IsWindow (k + 1) t.ids (z ++ x ∷ []) =

@@ -6,9 +6,7 @@ use Rattle.std.proofs.lemmas.List.Elements.{All-cons}
 use Rattle.std.proofs.lemmas.List.Folds.{list_any-append}
 use Rattle.std.proofs.lemmas.List.Kept.{AllPairs-cons}
 use Rattle.win_index.specs.Windows.{is_used, IsWindow}
-use Rattle.win_index.proofs.FrontPlaces.{slice_window}
-use Rattle.win_index.proofs.Numbers.{push_window}
-use Rattle.win_index.proofs.Unused.{lacks_from_differs}
+use Rattle.win_index.proofs.Windows.{slice_window, push_window, lacks_from_differs}
 
 -- a list by its last two elements
 pub by_last : (n : ℕ) (list : List ℕ) → length list ≡ n + 2 → list ≡ take n list ++ get_or list n 0 ∷ get_or list (n + 1) 0 ∷ []

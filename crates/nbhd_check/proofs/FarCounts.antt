@@ -5,14 +5,13 @@ use Rattle.std.specs.List.{range_with_len}
 use Rattle.std.proofs.lemmas.Bool.{and_parts, eq-eqb, lt-ltb, ltb-true}
 use Rattle.std.proofs.lemmas.Bool.Decides.{nat_tests}
 use Rattle.std.proofs.lemmas.Option.{slice_get-get_or, get_or_from_slice_get}
-use Rattle.win_index.proofs.Numbers.{windows_all}
+use Rattle.win_index.proofs.Windows.{windows_all, one_number}
 use Rattle.channel_tables.specs.Tables.{ChannelTable, windows_of}
 use Rattle.nbhd_check.specs.Counts.{shared_len, is_held, held_count, IsFamily}
 use Rattle.nbhd_check.specs.Runs.{BeginsFarTuple}
 use Rattle.nbhd_check.proofs.Ends.{by_last}
 use Rattle.nbhd_check.proofs.FarFree.{far_third, third_in_family}
 use Rattle.nbhd_check.proofs.Included.{none_without}
-use Rattle.channel_tables.proofs.Prefixes.{one_number}
 
 -- every window holds the number of identifiers
 held_always : (t : ChannelTable) (passes : Bool) (k : ℕ) → passes && is_held t t.ids k ≡ passes

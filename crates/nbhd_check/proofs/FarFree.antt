@@ -7,19 +7,14 @@ use Rattle.std.specs.Int.{abs_diff}
 use Rattle.win_index.specs.Arcs.{part_at}
 use Rattle.win_index.specs.Falling.{falling}
 use Rattle.win_index.specs.Windows.{IsWindow}
-use Rattle.win_index.proofs.FrontPlaces.{slice_window}
-use Rattle.win_index.proofs.Numbers.{length-windows, windows_all}
-use Rattle.win_index.proofs.Positions.{window_place}
+use Rattle.win_index.proofs.Windows.{slice_window, length-windows, windows_all, window_place, in_longer_run, one_number, one_run, window_drop, falling-add, falling_two}
 use Rattle.channel_tables.specs.Tables.{ChannelTable, channel_of, windows_of}
 use Rattle.channel_tables.specs.Apart.{AreClose}
+use Rattle.channel_tables.proofs.Tables.{close_along, channel_at}
 use Rattle.nbhd_check.specs.Counts.{family_len, shared_len, shared_lists, IsFamily}
 use Rattle.nbhd_check.specs.Runs.{BeginsFarTuple}
 use Rattle.nbhd_check.proofs.Cells.{row_more}
-use Rattle.channel_tables.proofs.Close.{close_along}
 use Rattle.nbhd_check.proofs.Ends.{by_first}
-use Rattle.channel_tables.proofs.Prefixes.{in_longer_run, one_number, one_run, window_drop}
-use Rattle.channel_tables.proofs.RunLengths.{falling-add, falling_two}
-use Rattle.channel_tables.proofs.Witnesses.{channel_at}
 
 -- the first two identifiers of a window of a table
 pub first_two : (t : ChannelTable) (number : ℕ) (window : List ℕ) → 1 ≤ t.rounds → slice_get (windows_of t) number ≡ Some window

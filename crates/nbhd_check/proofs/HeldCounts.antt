@@ -11,7 +11,7 @@ use Rattle.std.proofs.lemmas.Option.{get_or_from_slice_get}
 use Rattle.channel_tables.specs.Tables.{ChannelTable, windows_of}
 use Rattle.nbhd_check.specs.Counts.{shared_len, is_held, held_count}
 use Rattle.nbhd_check.proofs.Included.{count_sum, count_more}
-use Rattle.win_index.proofs.Numbers.{windows_all}
+use Rattle.win_index.proofs.Windows.{windows_all}
 
 pub count_few : (t : ChannelTable) (first n x : ℕ) (passes : ℕ → Bool) → held_count t first n x passes ≤ n
 count_few t first n x passes =

@@ -5,7 +5,7 @@ use Rattle.std.proofs.lemmas.Bool.{cases_Bool}
 use Rattle.std.proofs.lemmas.Bool.Decides.{nat_tests}
 use Rattle.std.proofs.lemmas.List.FromFn.{get_or-range_with_len, length-range_with_len}
 use Rattle.std.proofs.lemmas.List.Sums.{get_or-le-sum_by, sum_by-cons, sum_by_push}
-use Rattle.win_index.proofs.Kept.{range_with_len-append}
+use Rattle.win_index.proofs.Windows.{range_with_len-append}
 
 -- of those that pass: the ones with neither mark, with the first and with the second are as many as all and, once more,
 -- those with both

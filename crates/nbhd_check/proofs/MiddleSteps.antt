@@ -6,7 +6,7 @@ use Rattle.std.proofs.lemmas.Bool.Decides.{nat_tests}
 use Rattle.std.proofs.lemmas.List.{get_or-set_same, get_or-set_other}
 use Rattle.std.proofs.lemmas.Option.{get_or_from_slice_get, slice_get-get_or}
 use Rattle.win_index.specs.Falling.{falling}
-use Rattle.win_index.proofs.Numbers.{length-windows}
+use Rattle.win_index.proofs.Windows.{length-windows}
 use Rattle.channel_tables.specs.Tables.{ChannelTable, IsTable, windows_of}
 use Rattle.nbhd_check.specs.declared.middle_runs.MiddleRun.{MiddleRun}
 use Rattle.nbhd_check.specs.declared.near.SecondRuns.{SecondRuns}

@@ -9,20 +9,14 @@ use Rattle.std.specs.Option.{unwrap_or}
 use Rattle.win_index.specs.Arcs.{part_at}
 use Rattle.win_index.specs.Runs.{IsRunStart}
 use Rattle.win_index.specs.Windows.{is_used, number_of, unused, windows, IsWindow}
-use Rattle.win_index.proofs.Numbers.{push_window, windows_all}
-use Rattle.win_index.proofs.Positions.{free_at, number_of_is, window_place}
-use Rattle.win_index.proofs.RunStarts.{longer_number, run_start_is}
-use Rattle.win_index.proofs.Unused.{apart}
+use Rattle.win_index.proofs.Windows.{push_window, windows_all, free_at, number_of_is, window_place, longer_number, run_start_is, part_of_front, run_of, whole_list, back_window, rank, ranks_differ}
 use Rattle.channel_tables.specs.Tables.{ChannelTable, IsTable, channel_of, windows_of}
-use Rattle.channel_tables.proofs.Prefixes.{part_of_front, run_of, whole_list}
-use Rattle.channel_tables.proofs.Witnesses.{channel_at}
+use Rattle.channel_tables.proofs.Tables.{channel_at}
 use Rattle.ring_problems.specs.declared.pattern.Pattern.{Pattern}
 use Rattle.ring_problems.specs.Patterns.{IsForbidden, extra, is_long}
 use Rattle.ring_problems.specs.Problems.{IsBad, NoneIsBad}
 use Rattle.ring_problems.specs.TupleLists.{IsTuple, per_pair}
-use Rattle.ring_problems.proofs.Matching.{forbidden_along}
-use Rattle.ring_problems.proofs.Thirds.{third_in_run}
-use Rattle.ring_problems.proofs.TupleParts.{back_window, by_test, short_extra, tuple_parts}
+use Rattle.ring_problems.proofs.Problems.{forbidden_along, third_in_run, by_test, short_extra, tuple_parts}
 use Rattle.nbhd_check.specs.ChannelsBefore.{AreBefore}
 use Rattle.nbhd_check.specs.declared.near.SecondRuns.{SecondRuns}
 use Rattle.nbhd_check.specs.declared.words.Words.{Words}
@@ -37,10 +31,6 @@ use Rattle.nbhd_check.proofs.BitSets.{none_shared}
 use Rattle.nbhd_check.proofs.MiddleSteps.{next_place, run_among, wide_some}
 use Rattle.nbhd_check.proofs.Runs.{first_is_free}
 use Rattle.nbhd_check.proofs.SecondRuns.{AtPlace}
-
--- the place of an identifier among those that a list lacks
-abbrev rank : List ℕ → ℕ → ℕ
-rank list x = length (unused x list)
 
 -- the number of a list with one more identifier, in the run of the list
 pub record InRunAt (k m run : ℕ) (z : List ℕ) (x : ℕ) : Type 0 where
@@ -201,7 +191,7 @@ broken_at t problem before runs number window table turned are item at_run bad =
       first_inside = first.inside;
       second_inside = second.inside;
       third_inside = third.inside;
-      other = λ e. apart z x y first_free own.free own.other e;
+      other = λ e. ranks_differ z x y first_free own.free own.other e;
       no_gap = third.no_gap;
       first_item = first.item;
       broken = (below, forbidden_along problem _ _ _ _ _ _ here there third.channel bad.3);

@@ -6,14 +6,10 @@ use Rattle.std.proofs.lemmas.List.{get_or-set_same, take-set}
 use Rattle.std.proofs.lemmas.Option.{same_Some, slice_get-get_or}
 use Rattle.win_index.specs.Runs.{IsReplacedByRun, IsEndOfSame}
 use Rattle.win_index.specs.Windows.{windows}
-use Rattle.win_index.proofs.Numbers.{windows_all}
-use Rattle.win_index.proofs.Positions.{free_at}
-use Rattle.win_index.proofs.RunStarts.{longer_number, run_start_is}
-use Rattle.win_index.proofs.Sizes.{window_within}
+use Rattle.win_index.proofs.Windows.{windows_all, free_at, longer_number, run_start_is, window_within, at_place_of_run, rank_rises}
 use Rattle.channel_tables.specs.Tables.{ChannelTable, IsTable, windows_of}
 use Rattle.nbhd_check.specs.Runs.{wide}
 use Rattle.nbhd_check.proofs.Cells.{row_more}
-use Rattle.channel_tables.proofs.Prefixes.{at_place_of_run, rank_rises}
 
 -- the first identifiers of a run's first window
 front_of_first : (t : ChannelTable) (run : ℕ) (window : List ℕ) → slice_get (windows_of t) (run * wide t) ≡ Some window

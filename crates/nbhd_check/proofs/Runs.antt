@@ -7,19 +7,13 @@ use Rattle.std.proofs.lemmas.Option.{same_Some}
 use Rattle.win_index.specs.Arcs.{part_at}
 use Rattle.win_index.specs.Runs.{IsRunStart}
 use Rattle.win_index.specs.Windows.{is_used, unused, IsWindow}
-use Rattle.win_index.proofs.FrontPlaces.{slice_window}
-use Rattle.win_index.proofs.Numbers.{windows_all}
-use Rattle.win_index.proofs.Positions.{free_at, window_place}
-use Rattle.win_index.proofs.RunStarts.{longer_number}
-use Rattle.win_index.proofs.Unused.{IsDistinct, distinct_head, unused_at}
+use Rattle.win_index.proofs.Windows.{slice_window, windows_all, free_at, window_place, longer_number, IsDistinct, distinct_head, unused_at, in_longer_run, one_number, part_of_front}
 use Rattle.channel_tables.specs.Tables.{ChannelTable, channel_of, windows_of}
 use Rattle.channel_tables.specs.declared.separation.Separation.{Separation}
 use Rattle.channel_tables.specs.Apart.{extra, AreClose, IsBad, NoneIsBad}
 use Rattle.channel_tables.specs.Apart.{run_len}
+use Rattle.channel_tables.proofs.Tables.{close_along, some_distance, two_of_far, channel_at}
 use Rattle.nbhd_check.specs.Runs.{AreFree, BeginsBadTuple, BeginsFarTuple, HasCloseOutside}
-use Rattle.channel_tables.proofs.Close.{close_along, some_distance, two_of_far}
-use Rattle.channel_tables.proofs.Prefixes.{in_longer_run, one_number, part_of_front}
-use Rattle.channel_tables.proofs.Witnesses.{channel_at}
 
 -- the first identifier of a list of distinct ones is not among the others
 pub first_is_free : (list : List ℕ) → IsDistinct list → is_used (drop 1 list) (get_or list 0 0) ≡ false

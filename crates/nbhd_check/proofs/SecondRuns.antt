@@ -6,23 +6,14 @@ use Rattle.std.proofs.lemmas.List.{get_or-take, get_or-drop, length-take-le}
 use Rattle.std.proofs.lemmas.Option.{same_Some, slice_get-get_or, slice_get_within}
 use Rattle.std.specs.Int.{abs_diff}
 use Rattle.win_index.specs.Runs.{IsRunStart}
-use Rattle.win_index.specs.Windows.{is_used, unused, windows, IsWindow}
-use Rattle.win_index.proofs.Numbers.{windows_all}
-use Rattle.win_index.proofs.FrontPlaces.{slice_window}
-use Rattle.win_index.proofs.Positions.{free_at as free_before}
-use Rattle.win_index.proofs.RunStarts.{run_start_is}
-use Rattle.win_index.proofs.Unused.{IsDistinct, distinct_head, distinct_tail, lacks_differs, length-unused, unused_at, unused_at_end, unused_in_front}
+use Rattle.win_index.specs.Windows.{is_used, unused, windows}
+use Rattle.win_index.proofs.Windows.{windows_all, slice_window, free_at as free_before, run_start_is, IsDistinct, distinct_head, distinct_tail, lacks_differs, unused_at, unused_at_end, unused_in_front, at_place_of_run, lacks_drop, rank_rises, whole_list, rank, unused_left, back_window}
 use Rattle.channel_tables.specs.Tables.{ChannelTable, windows_of}
 use Rattle.nbhd_check.specs.declared.near.SecondRuns.{SecondRuns}
 use Rattle.nbhd_check.specs.Masks.{NoneClose}
 use Rattle.nbhd_check.specs.Runs.{SecondRunsOf, second_run, second_gap, wide, AreFree, BeginsBadTuple, HasCloseOutside}
 use Rattle.nbhd_check.proofs.Suffixes.{number_of_next, run_within}
-use Rattle.channel_tables.proofs.Prefixes.{at_place_of_run, lacks_drop, rank_rises, whole_list, window_drop}
 use Rattle.nbhd_check.proofs.Runs.{first_is_free, none_close_after}
-
--- the number of identifiers below x that the list lacks
-abbrev rank : List ℕ → ℕ → ℕ
-rank list x = length (unused x list)
 
 -- y and then the list are distinct and lack x; the place of y in the list with x, and of x in the list with y, if the
 -- list alone has them at the places p and q
@@ -91,8 +82,7 @@ at_place_by t runs place full rounds run_in inside of_window =
     let item = slice_get-get_or (windows_of t) n [] (omega arith) in
     let is = windows_all (k + 1) t.ids n window item in
     let size = is.size in
-    let turn : k + 1 ≡ 1 + k = omega arith in
-    let rest = window_drop k t.ids 1 window (subst (λ l. IsWindow l t.ids window) turn is) in
+    let rest = back_window k t.ids window is in
     let y : ℕ = get_or window 0 0 in
     let own = of_window window item in
     let gap_at = unused_at (drop 1 window) t.ids y (is.below 0 0 (omega arith)) (first_is_free window is.distinct) in
@@ -103,7 +93,7 @@ at_place_by t runs place full rounds run_in inside of_window =
       window = window;
       item = item;
       gap_is = own.1;
-      gap_inside = omega (arith, own.1, slice_get_within (unused t.ids (drop 1 window)) (rank (drop 1 window) y) y gap_at, length-unused (drop 1 window) t.ids rest.distinct rest.below, rest.size);
+      gap_inside = omega (arith, own.1, slice_get_within (unused t.ids (drop 1 window)) (rank (drop 1 window) y) y gap_at, unused_left rest);
       next_within = next_in;
       next_few = omega (arith, next_in, mul-le-mul_left next some);
       starts = run_start_is k t.ids next (next * wide t) (drop 1 window) own.0 refl;

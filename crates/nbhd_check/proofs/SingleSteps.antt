@@ -3,16 +3,14 @@ use Rattle.std.proofs.Common.{◌≡◌, ◌≢◌, ℕ, ◌+◌, ◌-◌, ◌*�
 use Rattle.std.proofs.lemmas.List.{get_or-take}
 use Rattle.std.proofs.lemmas.Option.{same_Some, slice_get_within}
 use Rattle.win_index.specs.Arcs.{part_at}
-use Rattle.win_index.proofs.Positions.{window_place}
+use Rattle.win_index.proofs.Windows.{window_place}
 use Rattle.channel_tables.specs.Tables.{ChannelTable, IsTable, channel_of, windows_of}
-use Rattle.channel_tables.proofs.Witnesses.{channel_at}
+use Rattle.channel_tables.proofs.Tables.{channel_at}
 use Rattle.ring_problems.specs.declared.pattern.Pattern.{Pattern}
 use Rattle.ring_problems.specs.Patterns.{extra, is_long}
 use Rattle.ring_problems.specs.Problems.{IsBad}
 use Rattle.ring_problems.specs.TupleLists.{IsTuple}
-use Rattle.ring_problems.proofs.Arounds.{tuple_window}
-use Rattle.ring_problems.proofs.Matching.{extra_range, forbidden_along}
-use Rattle.ring_problems.proofs.TupleParts.{by_test, long_extra, short_extra}
+use Rattle.ring_problems.proofs.Problems.{tuple_window, extra_range, forbidden_along, by_test, long_extra, short_extra}
 use Rattle.nbhd_check.specs.Masks.{HasBit, HasBitsOf}
 use Rattle.nbhd_check.specs.PatternBits.{AreBits, cell_of}
 use Rattle.nbhd_check.specs.PatternSearch.{BeginsForbidden, IsNoMiddle}

@@ -6,22 +6,13 @@ use Rattle.std.proofs.lemmas.Bool.Decides.{nat_tests}
 use Rattle.std.proofs.lemmas.List.{append_assoc, get_or-set_same, get_or-set_other, get_or-take, length_push, take_all, take-set, take-take}
 use Rattle.std.proofs.lemmas.List.Sums.{sum_by-set}
 use Rattle.win_index.specs.Falling.{falling}
-use Rattle.win_index.specs.Windows.{is_used, unused, windows, IsWindow}
-use Rattle.win_index.proofs.FrontPlaces.{slice_window}
-use Rattle.win_index.proofs.Numbers.{window_step, windows_all}
-use Rattle.win_index.proofs.Positions.{free_at, front_step}
-use Rattle.win_index.proofs.Unused.{IsDistinct, unused_at_end, unused_below, unused_few}
+use Rattle.win_index.specs.Windows.{is_used, windows, IsWindow}
+use Rattle.win_index.proofs.Windows.{slice_window, windows_all, free_at, front_step, IsDistinct, unused_at_end, unused_below, unused_few, rank_rises, run_of, falling_one, rank, unused_at, window_from_parts}
 use Rattle.channel_tables.specs.Tables.{ChannelTable, windows_of}
 use Rattle.nbhd_check.specs.Counts.{shared_len}
 use Rattle.nbhd_check.specs.FarSearch.{ArePairNumbers}
 use Rattle.nbhd_check.specs.declared.far_counts.PairNumbers.{PairNumbers}
 use Rattle.nbhd_check.proofs.Ends.{window_moved}
-use Rattle.channel_tables.proofs.Prefixes.{rank_rises, run_of}
-use Rattle.channel_tables.proofs.RunLengths.{falling_one}
-
--- the place of an identifier among those that a list lacks
-abbrev rank : List ℕ → ℕ → ℕ
-rank list x = length (unused x list)
 
 -- it is the same whether the list has x or the next one
 same_rank : (list : List ℕ) (i x y : ℕ) → i < length list → get_or list i 0 ≡ x → IsDistinct list → IsDistinct (set list i (x + 1)) → y ≢ x + 1
@@ -126,7 +117,8 @@ number_after s m number a b place next free z is item free_is place_is next_is =
     let free_b = seam_free one [] b (rw (← split) at is.distinct) in
     let in_a = rw (get_or-append_seam z a (b ∷ []) 0) at (is.below (length z) 0 (omega (arith, length-append z (a ∷ b ∷ [])))) in
     let in_b = rw (← split, get_or-append_seam one b [] 0) at (is.below (length one) 0 (omega (arith, length-append z (a ∷ b ∷ []), length_push z a))) in
-    let second = window_step (suc s) m (number * (m - s) + rank z a) b one (window_step s m number a z item in_a free_a) in_b free_b in
+    let first = window_from_parts s m number (rank z a) a z item (unused_at z m a in_a free_a) in
+    let second = window_from_parts (suc s) m (number * (m - s) + rank z a) (rank one b) b one first (unused_at one m b in_b free_b) in
     let len : suc (suc s) ≡ s + 2 = omega arith in
     let fewer : m - suc s ≡ m - s - 1 = omega arith in
     let end = unused_at_end b a z z_is.distinct free_a in

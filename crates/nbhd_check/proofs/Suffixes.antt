@@ -3,12 +3,10 @@ use Rattle.std.proofs.Common.{◌≡◌, ℕ, ◌+◌, ◌-◌, ◌*◌, ◌≤�
 use Rattle.std.proofs.lemmas.List.{get_or-drop, drop-take}
 use Rattle.win_index.specs.Runs.{IsRunStart}
 use Rattle.win_index.specs.Windows.{unused, windows, IsWindow}
-use Rattle.win_index.proofs.FrontPlaces.{slice_window}
-use Rattle.win_index.proofs.RunStarts.{run_start_is}
+use Rattle.win_index.proofs.Windows.{slice_window, run_start_is, window_drop}
 use Rattle.channel_tables.specs.Tables.{ChannelTable, windows_of}
 use Rattle.nbhd_check.specs.Runs.{wide}
 use Rattle.nbhd_check.specs.Counts.{shared_lists}
-use Rattle.channel_tables.proofs.Prefixes.{window_drop}
 
 -- the identifiers of a window without its first ones and its last, as the code slices them
 pub shared_cut : (by : ℕ) (t : ChannelTable) (rounds : ℕ) (window : List ℕ) → rounds ≡ t.rounds → by ≤ 2 * t.rounds

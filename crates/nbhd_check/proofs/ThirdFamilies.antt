@@ -8,17 +8,13 @@ use Rattle.win_index.specs.Runs.{HasPlaces, IsAtPlace, IsLastOfRun, IsRunStart, 
 use Rattle.win_index.specs.Successor.{IsNext}
 use Rattle.win_index.specs.Windows.{unused, windows, IsWindow}
 use Rattle.win_index.specs.declared.series.RunPlaces.{RunPlaces}
-use Rattle.win_index.proofs.Kept.{kept_rises}
-use Rattle.win_index.proofs.Numbers.{windows_all}
-use Rattle.win_index.proofs.Positions.{free_at}
-use Rattle.win_index.proofs.Unused.{lacks}
+use Rattle.win_index.proofs.Windows.{windows_all, free_at, at_place_of_run, lacks_drop, one_number, rank_rises, whole_list, unused_rises}
 use Rattle.channel_tables.specs.Tables.{ChannelTable, windows_of}
 use Rattle.nbhd_check.specs.Counts.{shared_len, shared_lists, family_len}
 use Rattle.nbhd_check.specs.FarSearch.{IsAtFamily}
 use Rattle.nbhd_check.specs.Masks.{NoneClose}
 use Rattle.nbhd_check.specs.Runs.{AreFree, BeginsFarTuple, wide}
 use Rattle.nbhd_check.proofs.FarFree.{all_of_families, family_is, far_third, some_product, third_in_family}
-use Rattle.channel_tables.proofs.Prefixes.{at_place_of_run, lacks_drop, one_number, rank_rises, whole_list}
 use Rattle.nbhd_check.proofs.Suffixes.{number_of_third, shared_cut}
 
 -- no third window is close to the channel of a window if none of their family is
@@ -88,7 +84,7 @@ module _ (t : ChannelTable) (number : ℕ) (window : List ℕ) (first : ℕ) (pl
       sym (take_all (k + 1) (set window k x) (omega (arith, length-set window k x))) ∙ take_more_set window k x (omega arith)
       ∙ ap (λ l. l ++ x ∷ []) (sym front) ∙ whole_list k t.ids later is_later in
       let larger = rw back at (last x (rw (back, whole) is_later)) in
-      let rises = kept_rises (lacks (take k window)) x (get_or window k 0) larger in
+      let rises = unused_rises (take k window) x (get_or window k 0) larger in
       absurd (omega (arith, rises, here.1, rw front at there.1))
 
   -- the same for each window of a series

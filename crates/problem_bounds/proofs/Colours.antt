@@ -3,13 +3,12 @@ use Rattle.std.proofs.Common.{◌≡◌, ◌≢◌, ◌==◌, ℕ, zero, suc, �
 use Rattle.std.proofs.lemmas.Bool.{false≢true, eqb-true, eq-eqb}
 use Rattle.win_index.specs.Arcs.{arc, window_around, part_at}
 use Rattle.win_index.specs.Ring.{IsRing}
-use Rattle.win_index.proofs.Arcs.{take-arc, drop-arc}
 use Rattle.std.proofs.lemmas.List.Elements.{All-get_or}
 use Rattle.std.proofs.lemmas.Option.{slice_get_within}
 use Rattle.win_index.specs.Windows.{number_of}
-use Rattle.win_index.proofs.Positions.{number_of_some}
+use Rattle.win_index.proofs.Windows.{take-arc, drop-arc, number_of_some}
 use Rattle.channel_tables.specs.Tables.{ChannelTable, channel_of, windows_of}
-use Rattle.channel_tables.proofs.Witnesses.{channel_around}
+use Rattle.channel_tables.proofs.Tables.{channel_around}
 use Rattle.lower_bound.specs.Laws.{IsFull, WindowsNeedChannels}
 use Rattle.ring_problems.specs.Patterns.{IsForbidden}
 use Rattle.ring_problems.specs.Separations.{next_to}

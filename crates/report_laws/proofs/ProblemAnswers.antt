@@ -16,7 +16,7 @@ use Rattle.ring_problems.specs.TupleLists.{ring_of}
 use Rattle.ring_problems.specs.Problems.{tuples, IsBad, IsLeastBad, IsSolvedEverywhere}
 use Rattle.ring_problems.specs.Witnesses.{IsWitness}
 use Rattle.ring_problems.specs.Laws.{TuplesSuffice, BadTuplesAreRings}
-use Rattle.ring_problems.proofs.Suffices.{tuple_at}
+use Rattle.ring_problems.proofs.Problems.{tuple_at}
 use Rattle.report_laws.proofs.JudgeAnswers.{first_of, IsFirst}
 
 fits_or_not : (e : Entry) (o : Option ℕ) → Fits e o ⊎ (¬ Fits e o)

@@ -15,8 +15,7 @@ use Rattle.win_index.specs.Windows.{windows}
 use Rattle.win_index.specs.ShapeRange.{IsShape}
 use Rattle.win_index.specs.Ring.{IsRing}
 use Rattle.win_index.specs.RingFaults.{HasRingLength, HasNoFaultBefore, IsFirstFault}
-use Rattle.win_index.proofs.Positions.{front_more}
-use Rattle.win_index.proofs.Unused.{lacks_from_differs}
+use Rattle.win_index.proofs.Windows.{front_more, lacks_from_differs}
 use Rattle.lang_check.specs.declared.acceptance.CheckFault.{CheckFault}
 use Rattle.lang_check.specs.declared.acceptance.CheckFault.TheVariants.{IdsOutOfRange, TooManyWindows, RegisterOutOfRange, IdOutsideStart, MessageOutsideStep, ChannelBound}
 use Rattle.lang_check.specs.Acceptance.{IsAccepted}

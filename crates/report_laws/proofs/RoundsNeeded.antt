@@ -1,7 +1,6 @@
 -- The lower bound for the channels of global rounds.
 use Rattle.std.proofs.Common.{◌≡◌, ℕ, suc, ◌+◌, ◌*◌, ◌<◌, ◌≤◌, ◌++◌, ◌∷◌, [], List, length, get_or, take, sym, ap, ◌∙◌, arith, length-append}
 use Rattle.std.proofs.Math.Seq.{take-append_seam}
-use Rattle.std.proofs.lemmas.Bool.{not-true}
 use Rattle.std.proofs.lemmas.List.{length-map}
 use Rattle.std.proofs.lemmas.List.Elements.{All-map}
 use Rattle.std.proofs.lemmas.Option.{slice_get-get_or, same_Some}
@@ -9,10 +8,8 @@ use Rattle.node_program.specs.GlobalRounds.{channel_at}
 use Rattle.node_program.specs.Term.{ProgramTree}
 use Rattle.win_index.specs.Arcs.{part_at}
 use Rattle.win_index.specs.Laws.{TuplesAreRings}
-use Rattle.win_index.specs.Windows.{unused, windows, IsWindow}
-use Rattle.win_index.proofs.Kept.{kept_is}
-use Rattle.win_index.proofs.Numbers.{push_window, windows_all}
-use Rattle.win_index.proofs.Unused.{lacks, length-unused}
+use Rattle.win_index.specs.Windows.{windows, IsWindow}
+use Rattle.win_index.proofs.Windows.{windows_all, longer_window}
 use Rattle.channel_tables.specs.Tables.{ChannelTable, channel_of}
 use Rattle.table_fill.specs.Laws.{TableHasTheChannelsOfRounds, TableHasTheChannelsOfWindows}
 use Rattle.table_fill.specs.ProgramTables.{table_of, window_channel}
@@ -22,21 +19,13 @@ use Rattle.ring_problems.specs.Known.{independent_set, matching}
 use Rattle.lower_bound.specs.Laws.{IsFull, TablesNeedChannels, TablesNeedThree, TablesNeedFour, TablesNeedFive}
 use Rattle.report_laws.specs.Laws.{ChannelsAreBelow, IndependentSetsNeedRounds, MatchingsNeedRounds, RoundsNeedChannels, RoundsNeedThree, RoundsNeedFour, RoundsNeedFive}
 
--- a window that has not all identifiers lacks one
-missing : (k m : ℕ) (window : List ℕ) → k < m → IsWindow k m window → (x : ℕ) × IsWindow (suc k) m (window ++ x ∷ [])
-missing k m window few is =
-    let some : 0 < length (unused m window) = omega (arith, length-unused window m is.distinct is.below, is.size, few) in
-    let x = get_or (unused m window) 0 0 in
-    let kept = kept_is (lacks window) m 0 x (slice_get-get_or (unused m window) 0 0 some) in
-    (x, push_window k m x window is kept.below (not-true _ kept.passes))
-
 -- the channel that a window leaves is that of global rounds on some ring
 window_below : TableHasTheChannelsOfRounds → TableHasTheChannelsOfWindows → TuplesAreRings → (p : ProgramTree) (m c : ℕ) (window : List ℕ)
     → 2 * length p.steps + 2 ≤ m → ChannelsAreBelow p m c → IsWindow (2 * length p.steps + 1) m window → window_channel p window < c
 window_below of_rounds of_windows tuples p m c window long below is =
     let t : ℕ = length p.steps in
     let size = is.size in
-    let more = missing (2 * t + 1) m window (omega (arith, long)) is in
+    let more = longer_window (2 * t + 1) m window (omega (arith, long)) is in
     let list : List ℕ = window ++ more.0 ∷ [] in
     let next : suc (2 * t + 1) ≡ 2 * t + 1 + 1 = omega arith in
     let ring = tuples m t 1 list (omega arith) (rw next at more.1) in

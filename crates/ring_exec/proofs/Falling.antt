@@ -2,7 +2,7 @@
 use Rattle.std.proofs.Common.{◌≡◌, ℕ, zero, suc, ◌+◌, List, [], ◌∷◌, ◌++◌, Result, Ok, Err, None, Some, length, vec_len, ◌-◌, ◌<◌, length-append, append_assoc, slice_get, sym, ap, ◌∙◌, arith}
 use Rattle.std.specs.Prelude.{IfOk, MatchResult}
 use Rattle.std.proofs.lemmas.Option.{same_Some, slice_get_within}
-use Rattle.win_index.proofs.Kept.{each_snoc, slice_get-append_left, slice_get-append_right}
+use Rattle.win_index.proofs.Windows.{each_snoc, slice_get-append_left, slice_get-append_right}
 use Rattle.border_exchange.specs.Segments.{RingSegment}
 use Rattle.ring_exec.specs.declared.segment_fault.SegmentFault.{SegmentFault}
 use Rattle.ring_exec.specs.SegmentFaults.{work_fault_of}

@@ -7,10 +7,7 @@ use Rattle.std.proofs.lemmas.List.{get_or-take, drop-drop, get_or_append_left, g
 use Rattle.win_index.specs.Ring.{IsRing}
 use Rattle.win_index.specs.Arcs.{arc, window_around, part_at}
 use Rattle.win_index.specs.Windows.{IsWindow}
-use Rattle.win_index.proofs.Arcs.{length_arc, item_of_arc, take-arc, drop-arc, arc_window}
-use Rattle.win_index.proofs.FrontPlaces.{slice_window}
-use Rattle.win_index.proofs.Sizes.{window_within}
-use Rattle.channel_tables.proofs.Prefixes.{part_of_front}
+use Rattle.win_index.proofs.Windows.{length_arc, item_of_arc, take-arc, drop-arc, arc_window, slice_window, window_within, part_of_front}
 use Rattle.ring_problems.specs.declared.pattern.Pattern.{Pattern}
 use Rattle.ring_problems.specs.Patterns.{extra}
 use Rattle.ring_problems.specs.TupleLists.{IsTuple, ring_of}

@@ -1,9 +1,10 @@
--- Lemmas on problems.
-pub mod Matching
-pub mod TupleParts
-pub mod Arounds
-pub mod Suffices
-pub mod Thirds
-pub mod PairSteps
-pub mod Members
-pub mod Separations
+-- Lemmas on problems. Other crates cite those of Problems.
+mod Matching
+mod TupleParts
+mod Arounds
+mod Suffices
+mod Thirds
+mod PairSteps
+mod Members
+mod Separations
+pub mod Problems

@@ -6,10 +6,8 @@ use Rattle.std.proofs.lemmas.Option.{same_Some}
 use Rattle.win_index.specs.declared.limits.TheConstants.{MAX_IDS, MAX_WINDOWS}
 use Rattle.win_index.specs.declared.shape.Shape.{Shape}
 use Rattle.win_index.specs.Windows.{windows}
-use Rattle.win_index.proofs.Levels.{few_of_shape}
-use Rattle.win_index.proofs.Numbers.{windows_more}
+use Rattle.win_index.proofs.Windows.{few_of_shape, windows_more, one_run}
 use Rattle.channel_tables.specs.Tables.{ChannelTable}
-use Rattle.channel_tables.proofs.Prefixes.{one_run}
 use Rattle.ring_problems.specs.declared.pattern.Pattern.{Pattern}
 use Rattle.ring_problems.specs.Patterns.{is_long}
 use Rattle.ring_problems.specs.TupleLists.{tuples_below, per_pair}

@@ -8,13 +8,12 @@ use Rattle.std.proofs.lemmas.Option.{slice_get_within}
 use Rattle.win_index.specs.Ring.{IsRing}
 use Rattle.win_index.specs.Arcs.{window_around}
 use Rattle.win_index.specs.Windows.{number_of}
-use Rattle.win_index.proofs.Positions.{number_of_some}
+use Rattle.win_index.proofs.Windows.{number_of_some}
 use Rattle.channel_tables.specs.Tables.{ChannelTable, IsTable, channel_of, windows_of}
 use Rattle.channel_tables.specs.declared.separation.Separation.{Separation}
 use Rattle.channel_tables.specs.Apart.{AreClose, IsApartEverywhere}
 use Rattle.channel_tables.specs.Apart as apart
-use Rattle.channel_tables.proofs.Close.{AreTooClose, apart_not_too_close, apart_of_not_too_close}
-use Rattle.channel_tables.proofs.Witnesses.{channel_around}
+use Rattle.channel_tables.proofs.Tables.{AreTooClose, apart_not_too_close, apart_of_not_too_close, channel_around}
 use Rattle.ring_problems.specs.declared.pattern.Pattern.{Pattern}
 use Rattle.ring_problems.specs.Patterns.{Matches, IsForbidden}
 use Rattle.ring_problems.specs.Problems.{Breaks}

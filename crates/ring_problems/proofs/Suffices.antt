@@ -5,7 +5,7 @@ use Rattle.std.proofs.lemmas.Option.{slice_get-get_or, slice_get_within, get_or_
 use Rattle.win_index.specs.Arcs.{arc, window_around, part_at}
 use Rattle.win_index.specs.Ring.{IsRing}
 use Rattle.win_index.specs.Windows.{IsWindow}
-use Rattle.win_index.proofs.Arcs.{around_window}
+use Rattle.win_index.proofs.Windows.{around_window}
 use Rattle.channel_tables.specs.Tables.{ChannelTable, channel_of}
 use Rattle.ring_problems.specs.declared.pattern.Pattern.{Pattern}
 use Rattle.ring_problems.specs.Patterns.{extra, IsForbidden, IsFirstMatch}

@@ -6,12 +6,9 @@ use Rattle.std.proofs.lemmas.List.{drop-take, take-take, get_or-take, take_all}
 use Rattle.win_index.specs.Arcs.{part_at}
 use Rattle.win_index.specs.Runs.{IsRunStart}
 use Rattle.win_index.specs.Windows.{is_used, unused, IsWindow}
-use Rattle.win_index.proofs.FrontPlaces.{slice_window}
-use Rattle.win_index.proofs.Positions.{free_at}
-use Rattle.win_index.proofs.Unused.{lacks_from_differs, counted, apart, length-unused}
+use Rattle.win_index.proofs.Windows.{slice_window, free_at, lacks_from_differs, part_of_front, rank_rises, ranks_differ, unused_left}
 use Rattle.channel_tables.specs.Tables.{ChannelTable, channel_of}
-use Rattle.channel_tables.proofs.Prefixes.{part_of_front}
-use Rattle.channel_tables.proofs.Witnesses.{channel_at}
+use Rattle.channel_tables.proofs.Tables.{channel_at}
 use Rattle.ring_problems.specs.declared.pattern.Pattern.{Pattern}
 use Rattle.ring_problems.specs.declared.pairs.Thirds.{Thirds}
 use Rattle.ring_problems.specs.Patterns.{is_long, extra, IsForbidden}
@@ -74,12 +71,12 @@ third_of t problem thirds pair tuple long is tuple_is same =
     let whole = slice_window t.ids (k + 1) 0 k last own (omega arith) in
     let front_is : IsWindow k t.ids front = subst (IsWindow k t.ids) begins whole in
     let below : y < t.ids = own.below k 0 (omega arith) in
-    let few = counted front y t.ids free_y below in
-    let all = length-unused front t.ids front_is.distinct front_is.below in
+    let few = rank_rises front y t.ids free_y below in
+    let all = unused_left front_is in
     record {
       place = length (unused y front);
       inside = omega (arith, is.count_is, few, all, front_size);
-      no_gap = λ e. apart front y (get_or pair 1 0) free_y free differs (e ∙ sym is.gap_is);
+      no_gap = λ e. ranks_differ front y (get_or pair 1 0) free_y free differs (e ∙ sym is.gap_is);
       channel = channel_at t (thirds.first + length (unused y front)) last item;
     }
 

@@ -1,17 +1,11 @@
 -- Tuples by their numbers and by their content.
 use Rattle.std.proofs.Common.{◌≡◌, ℕ, ◌+◌, ◌-◌, ◌*◌, ◌/◌, ◌%◌, ◌<◌, ◌≤◌, Bool, true, false, cond, List, [], ◌∷◌, ◌++◌, Option, None, length, get_or, take, drop, flat_map, option_map, slice_get, Some, refl, sym, ap, ◌∙◌, subst, arith, add-one, length-drop, length-append, append-nil, get_or-drop}
 use borrow.Rule.Slice.PartMut.{put_mid}
-use Rattle.std.proofs.lemmas.Bool.{not-true}
 use Rattle.std.proofs.lemmas.List.{take_all, take_at, take_more, drop-take, length_push, length-map, drop-append-le, drop_all, take-append-drop, take-append-le, append_assoc}
 use Rattle.std.proofs.lemmas.Nat.{mul-le, mod_below, div-add-mod'}
 use Rattle.std.proofs.lemmas.Option.{none-some, same_Some, slice_get-map, slice_get_within, slice_get-get_or}
 use Rattle.win_index.specs.Windows.{is_used, unused, windows, IsWindow}
-use Rattle.win_index.proofs.FrontPlaces.{slice_window}
-use Rattle.win_index.proofs.Kept.{kept_is}
-use Rattle.win_index.proofs.Numbers.{unused_left, push_window, windows_all, windows_more, window_from_parts}
-use Rattle.win_index.proofs.Pieces.{HasPieces, piece_of, piece_at, length_pieces}
-use Rattle.win_index.proofs.Positions.{free_at, window_place}
-use Rattle.win_index.proofs.Unused.{lacks, unused_at}
+use Rattle.win_index.proofs.Windows.{unused_left, push_window, windows_all, windows_more, window_from_parts, HasPieces, piece_of, piece_at, length_pieces, free_at, window_place, unused_at, unused_is, back_window}
 use Rattle.ring_problems.specs.declared.pattern.Pattern.{Pattern}
 use Rattle.ring_problems.specs.Patterns.{is_long, extra}
 use Rattle.ring_problems.specs.TupleLists.{followed, tuples_below, per_pair, IsTuple}
@@ -42,12 +36,6 @@ long_each m t problem long = ap (λ b. cond b (m - (2 * t + 1)) 1) long
 
 pub short_each : (m t : ℕ) (problem : List Pattern) → is_long problem ≡ false → per_pair m t problem ≡ 1
 short_each m t problem short = ap (λ b. cond b (m - (2 * t + 1)) 1) short
-
--- a window without its first identifier
-pub back_window : (k m : ℕ) (list : List ℕ) → IsWindow (k + 1) m list → IsWindow k m (drop 1 list)
-back_window k m list is =
-    let size = is.size in
-    subst (IsWindow k m) (take_all k (drop 1 list) (omega (arith, length-drop 1 list))) (slice_window m (k + 1) 1 k list is (omega arith))
 
 pieces : (k m : ℕ) → HasPieces (followed m) (windows (k + 1) m) (m - k)
 pieces k m = λ place list at'.
@@ -114,8 +102,7 @@ parts_long m t n problem tuple at' long =
     let pair : List ℕ = piece.source in
     let window = windows_all (k + 1) m piece.place pair piece.source_at in
     let last = followed_at m piece.rest pair tuple piece.item_at in
-    let own = kept_is (lacks (drop 1 pair)) m piece.rest last.0 last.1 in
-    let free = not-true (is_used (drop 1 pair) last.0) own.passes in
+    let own = unused_is (drop 1 pair) m piece.rest last.0 last.1 in
     let each = long_each m t problem long in
     let size = window.size in
     let front : pair ≡ take (k + 1) tuple = sym (take_at pair (last.0 ∷ []) (k + 1) size) ∙ ap (take (k + 1)) last.2 in
@@ -125,7 +112,7 @@ parts_long m t n problem tuple at' long =
       front_at = piece.source_at ∙ ap Some front;
       number = piece.number ∙ ap (λ c. piece.place * c + piece.rest) (sym each);
       inside = omega (arith, each, slice_get_within (unused m (drop 1 pair)) piece.rest last.0 last.1, unused_left (back_window k m pair window));
-      is = subst (IsTuple m t problem) last.2 (long_tuple m t last.0 problem pair long window own.below free);
+      is = subst (IsTuple m t problem) last.2 (long_tuple m t last.0 problem pair long window own.below own.free);
     }
 
 parts_short : (m t n : ℕ) (problem : List Pattern) (tuple : List ℕ) → slice_get (tuples_below m t problem) n ≡ Some tuple

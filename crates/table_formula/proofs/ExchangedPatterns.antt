@@ -19,11 +19,7 @@ use Rattle.ring_problems.specs.declared.pattern.Pattern.{Pattern}
 use Rattle.ring_problems.specs.Patterns.{extra, is_below, is_entry_below, Fits, IsForbidden, Matches}
 use Rattle.ring_problems.specs.TupleLists.{IsTuple}
 use Rattle.ring_problems.specs.Problems.{tuples, IsBad, IsSolvedEverywhere}
-use Rattle.ring_problems.proofs.Arounds.{tuple_window}
-use Rattle.ring_problems.proofs.Matching.{extra_range, forbidden_along}
-use Rattle.ring_problems.proofs.Members.{filter_in, get_of_in, in_filter, in_of_get}
-use Rattle.ring_problems.proofs.Suffices.{suffice, tuple_at, none_bad}
-use Rattle.ring_problems.proofs.TupleParts.{tuple_place}
+use Rattle.ring_problems.proofs.Problems.{tuple_window, extra_range, forbidden_along, filter_in, get_of_in, in_filter, in_of_get, suffice, tuple_at, none_bad, tuple_place}
 use Rattle.node_program.specs.declared.limits.TheConstants.{MAX_CHANNELS}
 use Rattle.table_formula.specs.declared.literal.Literal.{Literal}
 use Rattle.table_formula.specs.declared.exchange.Exchange.TheVariants.{Identifiers, Channels, Mirror}

@@ -7,16 +7,13 @@ use Rattle.std.proofs.lemmas.Nat.{mul-le, div-add-mod'}
 use Rattle.std.proofs.lemmas.Option.{slice_get-get_or, slice_get_within}
 use Rattle.win_index.specs.Arcs.{part_at}
 use Rattle.win_index.specs.Windows.{number_of}
-use Rattle.win_index.proofs.Positions.{number_of_is, number_of_some, window_place}
+use Rattle.win_index.proofs.Windows.{number_of_is, number_of_some, window_place}
 use Rattle.ring_problems.specs.declared.pattern.Entry.{Entry}
 use Rattle.ring_problems.specs.declared.pattern.Entry.TheVariants.{Wildcard, Channel}
 use Rattle.ring_problems.specs.declared.pattern.Pattern.{Pattern}
 use Rattle.ring_problems.specs.Patterns.{extra, is_below, is_channel, is_entry_below}
 use Rattle.ring_problems.specs.TupleLists.{IsTuple}
-use Rattle.ring_problems.proofs.Arounds.{tuple_window}
-use Rattle.ring_problems.proofs.Matching.{extra_of_third}
-use Rattle.ring_problems.proofs.Members.{all_of_in, filter_in, get_of_in, in_of_get}
-use Rattle.ring_problems.proofs.TupleParts.{tuple_parts}
+use Rattle.ring_problems.proofs.Problems.{tuple_window, extra_of_third, all_of_in, filter_in, get_of_in, in_of_get, tuple_parts}
 use Rattle.table_formula.specs.declared.literal.Literal.{Literal}
 use Rattle.table_formula.specs.Problems.{Problem}
 use Rattle.table_formula.specs.Formula.{windows_of, window_in, lacks, lacks_channel, no_match, patterns_of, ring_tuples, pattern_clauses, apart_formula, formula}

@@ -9,16 +9,14 @@ use Rattle.win_index.specs.Arcs.{part_at}
 use Rattle.win_index.specs.Laws.{NumberOfWindow, WindowOfNumber, WindowsHaveNumbers, RingsHaveWindows, TuplesAreRings}
 use Rattle.channel_tables.specs.Laws.{TuplesSuffice}
 use Rattle.channel_tables.specs.Tables.{ChannelTable, channel_of}
-use Rattle.channel_tables.proofs.Witnesses.{channel_at}
+use Rattle.channel_tables.proofs.Tables.{channel_at}
 use Rattle.ring_problems.specs.declared.pattern.Entry.{Entry}
 use Rattle.ring_problems.specs.declared.pattern.Entry.TheVariants.{Wildcard, Channel}
 use Rattle.ring_problems.specs.declared.pattern.Pattern.{Pattern}
 use Rattle.ring_problems.specs.Patterns.{Fits, is_below, is_channel, is_entry_below}
 use Rattle.ring_problems.specs.TupleLists.{IsTuple}
 use Rattle.ring_problems.specs.Problems.{IsBad, IsSolved, IsSolvedEverywhere}
-use Rattle.ring_problems.proofs.Matching.{extra_range, extra_of_third}
-use Rattle.ring_problems.proofs.Members.{IsIn, in_of_get, get_of_in, all_of_in, in_filter, filter_in}
-use Rattle.ring_problems.proofs.Suffices.{suffice}
+use Rattle.ring_problems.proofs.Problems.{extra_range, extra_of_third, IsIn, in_of_get, get_of_in, all_of_in, in_filter, filter_in, suffice}
 use Rattle.table_formula.specs.Clauses.{is_same_value, is_true_literal, Holds}
 use Rattle.table_formula.specs.Problems.{Problem, IsSolution}
 use Rattle.table_formula.specs.Formula.{values_of, variable_of, window_in, lacks, no_match, patterns_of, ring_tuples, pattern_clauses, apart_formula}

@@ -2,10 +2,9 @@
 use Rattle.std.proofs.Common.{◌≡◌, ℕ, ◌+◌, ◌-◌, ◌*◌, ◌<◌, ◌≤◌, List, [], length, length-take, length-take-le, take, take_all, drop, get_or, All, refl, ap, sym, subst, ◌∙◌, arith}
 use Rattle.std.proofs.lemmas.List.{take-take, get_or-take, get_or-drop, length_push}
 use Rattle.std.proofs.lemmas.List.Elements.{All-push, All-from_get_or}
-use Rattle.win_index.proofs.Kept.{kept_is}
 use Rattle.win_index.specs.Windows.{unused, IsWindow}
 use Rattle.win_index.specs.declared.limits.TheConstants.{MAX_IDS, MAX_WINDOW_LEN}
-use Rattle.win_index.proofs.Unused.{lacks}
+use Rattle.win_index.proofs.Windows.{unused_is}
 use Rattle.table_text.specs.Orders.{IsOrder, IsLater, ArePlaces}
 use Rattle.table_text.specs.Odometers.{IsOdometer, ShowsWindow, ShowsNumber, IsAdvanced, front_of, last_of, window_of}
 use Rattle.table_text.specs.declared.odometer.Odometer.{Odometer}
@@ -22,7 +21,7 @@ later_below k m last order is from lt =
     let i : ℕ = last - k in
     let here : k + i ≡ last = omega arith in
     let x : get_or (take m order) (k + i) 0 ≡ get_or order last 0 = rw here (get_or-take m order last 0 lt) in
-    rw x at (kept_is (lacks (take k (take m order))) m i _ (lacked_in_turn k m i (take m order) is (omega arith))).below
+    rw x at (unused_is (take k (take m order)) m i _ (lacked_in_turn k m i (take m order) is (omega arith))).below
 
 -- the last identifiers of windows of the run
 pub run_below : (o : Odometer) (count : ℕ) → IsOdometer o → o.last + count ≤ o.ids →

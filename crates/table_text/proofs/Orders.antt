@@ -1,17 +1,13 @@
 -- Orders of numbers: what a window with one more number lacks, and the window that follows.
 use Rattle.std.proofs.Common.{◌≡◌, ◌≢◌, ◌⊎◌, ℕ, zero, suc, ◌+◌, ◌-◌, ◌*◌, ◌<◌, ◌≤◌, true, false, cond, not, eqb, List, [], ◌∷◌, ◌++◌, length, get_or, take, drop, set, filter, slice_get, Some, refl, sym, ap, subst, ◌∙◌, arith, add-one, append_assoc, length-append, ⊎_elim, inl, inr}
 use Rattle.std.specs.List.{range_with_len, remove}
-use Rattle.std.proofs.lemmas.Bool.{not-true, not_from_false, eq-eqb, ne_eqb, cases_lt}
+use Rattle.std.proofs.lemmas.Bool.{not_from_false, eq-eqb, ne_eqb, cases_lt}
 use Rattle.std.proofs.Math.Nat.{suc-mul}
-use Rattle.std.proofs.lemmas.List.{take_at, drop_at, set_at, take_more, take_more_set, take_all, take-take, take-append-drop, drop_more, get_or-take, take-append-le, same_from_push, length-take, length-drop, append_cancel_left, append-nil, get_or-drop, get_or_at, get_or-set_same, get_or-set_other, nil_from_length}
+use Rattle.std.proofs.lemmas.List.{take_at, drop_at, set_at, take_more, take_more_set, take_all, take-take, take-append-drop, drop_more, get_or-take, take-append-le, length-take, length-drop, append_cancel_left, append-nil, get_or-drop, get_or_at, get_or-set_same, get_or-set_other, nil_from_length}
 use Rattle.std.proofs.lemmas.List.Folds.{list_any-append}
 use Rattle.std.proofs.lemmas.Option.{slice_get-get_or, slice_get_within, same_Some}
 use Rattle.win_index.specs.Windows.{is_used, unused, windows, IsWindow}
-use Rattle.win_index.proofs.Kept.{kept, kept_split, kept_suc, kept_is, slice_get-append_right}
-use Rattle.win_index.proofs.Unused.{lacks, length-unused, unused_at}
-use Rattle.win_index.proofs.Numbers.{push_window, window_parts, window_from_parts, length-windows}
-use Rattle.win_index.proofs.Positions.{free_at}
-use Rattle.win_index.proofs.Successors.{shorter_window}
+use Rattle.win_index.proofs.Windows.{slice_get-append_right, lacks, unused_at, push_window, window_from_parts, length-windows, free_at, unused_is, unused_left, unused_split, unused_suc, window_take, run_of}
 use Rattle.table_text.specs.Orders.{IsOrder, IsLater, IsFollowedBy, IsStep, ArePlaces, place_of}
 
 -- ---- one number more
@@ -42,17 +38,17 @@ abbrev above : ℕ → List ℕ → ℕ → List ℕ
 above m list x = filter (lacks list) (range_with_len (x + 1) (m - (x + 1)))
 
 -- a number that the list lacks stands between those below it and those above it
-unused_parts : (m x : ℕ) (list : List ℕ) → x < m → lacks list x ≡ true →
+unused_parts : (m x : ℕ) (list : List ℕ) → x < m → is_used list x ≡ false →
     unused m list ≡ unused x list ++ x ∷ above m list x
 unused_parts m x list lt free =
-    let split = kept_split (lacks list) x m (omega arith) in
+    let split = unused_split list x m (omega arith) in
     let more : m - x ≡ suc (m - (x + 1)) = omega arith in
-    rw (more, free) at split
+    rw (more, not_from_false (is_used list x) free) at split
 
 -- with that number the list lacks the others
 unused_without : (m x : ℕ) (list : List ℕ) → x < m → unused m (list ++ x ∷ []) ≡ unused x list ++ above m list x
 unused_without m x list lt =
-    let split = kept_split (lacks (list ++ x ∷ [])) x m (omega arith) in
+    let split = unused_split (list ++ x ∷ []) x m (omega arith) in
     let more : m - x ≡ suc (m - (x + 1)) = omega arith in
     let own = (lacks_push list x x).1 refl in
     let below = lacks_range list x 0 x (inr (omega arith)) in
@@ -71,16 +67,16 @@ pub lacked : (m x : ℕ) (list before after : List ℕ) → unused m list ≡ be
 lacked m x list before after all =
     let item : slice_get (unused m list) (length before) ≡ Some x = ap (λ l. slice_get l (length before)) all
     ∙ slice_get-append_right before (x ∷ after) (length before) 0 (omega arith) in
-    let own = kept_is (lacks list) m (length before) x item in
-    let parts = sym all ∙ unused_parts m x list own.below own.passes in
+    let own = unused_is list m (length before) x item in
+    let parts = sym all ∙ unused_parts m x list own.below own.free in
     let front : before ≡ unused x list =
     sym (take_at before (x ∷ after) (length before) refl) ∙ ap (take (length before)) parts
-    ∙ take_at (unused x list) (x ∷ above m list x) (length before) own.before in
+    ∙ take_at (unused x list) (x ∷ above m list x) (length before) own.rank_is in
     let rest : x ∷ after ≡ x ∷ above m list x = append_cancel_left before (x ∷ after) (x ∷ above m list x)
     (parts ∙ ap (λ l. l ++ x ∷ above m list x) (sym front)) in
     record {
       below = own.below;
-      free = not-true (is_used list x) own.passes;
+      free = own.free;
       lower = front;
       others = unused_without m x list own.below ∙ ap (λ l. l ++ above m list x) (sym front)
           ∙ ap (λ l. before ++ drop 1 l) (sym rest);
@@ -98,7 +94,7 @@ order_with k m x front before after window all =
     sym (append_assoc front (x ∷ []) (before ++ after)) in
     let first = take_at (front ++ x ∷ []) (before ++ after) (k + 1) longer.size in
     let last = drop_at (front ++ x ∷ []) (before ++ after) (k + 1) longer.size in
-    let free = length-unused front m window.distinct window.below in
+    let free = unused_left window in
     let sum = ap length all ∙ length-append before (x ∷ after) in
     let both = length-append before after in
     rw whole (record {
@@ -126,9 +122,9 @@ pub order_of : (k m : ℕ) (front order : List ℕ) → IsWindow k m front → o
     IsOrder k m order × (take k order ≡ front)
 order_of k m front order window whole =
     let first : take k order ≡ front = ap (take k) whole ∙ take_at front (unused m front) k window.size in
-    let free = length-unused front m window.distinct window.below in (
+    let free = unused_left window in (
       record {
-        size = omega (arith, ap length whole, length-append front (unused m front), free);
+        size = omega (arith, ap length whole, length-append front (unused m front), free, window.size);
         window = rw first window;
         rest = ap (drop k) whole ∙ drop_at front (unused m front) k window.size ∙ ap (unused m) (sym first);
       },
@@ -154,14 +150,13 @@ parts k m order is =
     let front : List ℕ = take k order in
     let size = is.window.size in
     let long : k < length order = omega (arith, length-take (k + 1) order) in
-    let window = shorter_window (k + 1) m k order refl is.window in
     let whole = take-take k (k + 1) order (omega arith) in
+    let window = rw whole at (window_take (k + 1) m k (take (k + 1) order) (omega arith) is.window) in
     let last : get_or (take (k + 1) order) k 0 ≡ x = get_or-take (k + 1) order k 0 (omega arith) in
     let below : x < m = rw last at (is.window.below k 0 (omega arith)) in
     let free : is_used front x ≡ false =
     rw (whole, last) at (free_at (take (k + 1) order) k is.window.distinct (omega arith)) in
-    let passes = not_from_false (is_used front x) free in
-    let all = unused_parts m x front below passes in
+    let all = unused_parts m x front below free in
     let more = take_more order k 0 long in
     let rest : drop (k + 1) order ≡ unused x front ++ above m front x = rw more at is.rest
     ∙ unused_without m x front below in (
@@ -204,16 +199,15 @@ record Ends (k m n i : ℕ) (front : List ℕ) : Type 0 where
 ends : (k m n i x : ℕ) (front : List ℕ) → slice_get (windows (k + 1) m) n ≡ Some (front ++ x ∷ []) →
     slice_get (unused m front) i ≡ Some x → Ends k m n i front
 ends k m n i x front item at' =
-    let step : suc k ≡ k + 1 = omega arith in
-    let of = window_parts k m n (front ++ x ∷ []) (rw step item) in
-    let same = same_from_push of.front front of.last x (sym of.whole) in
-    let last_at : slice_get (unused m front) of.rest ≡ Some x = rw (same.0, same.1) at of.last_at in
-    let own = kept_is (lacks front) m of.rest x last_at in
-    let here = kept_is (lacks front) m i x at' in
+    let of = run_of k m n (front ++ x ∷ []) item in
+    let size : length front ≡ k = omega (arith, length-append front (x ∷ []), of.is.size) in
+    let first : take k (front ++ x ∷ []) ≡ front = take_at front (x ∷ []) k size in
+    let last : get_or (front ++ x ∷ []) k 0 ≡ x = get_or_at front x [] 0 k size in
+    let here = unused_is front m i x at' in
     record {
-      place = of.place;
-      front_at = of.front_at ∙ ap Some same.0;
-      number = of.number ∙ ap (λ r. of.place * (m - k) + r) (sym own.before ∙ here.before);
+      place = of.number;
+      front_at = of.front_at ∙ ap Some first;
+      number = of.number_is ∙ ap (λ r. of.number * (m - k) + r) ((λ j. length (unused (last j) (first j))) ∙ here.rank_is);
     }
 
 -- a window and that with a later number that its prefix lacks
@@ -375,7 +369,7 @@ later k m old new is end step =
     let x : ℕ = get_or old k 0 in
     let low : List ℕ = unused x front in
     let more = grown k m new of.within step.order in
-    let free = length-unused front m of.window.distinct of.window.below in
+    let free = unused_left of.window in
     let full : length low + 1 ≡ m - k =
     omega (arith, ap length of.all, length-append low (x ∷ []), free, of.window.size) in
     record {
@@ -403,23 +397,19 @@ lacked_in_turn k m i order is lt =
     ∙ slice_get-get_or (drop k order) i 0 (omega (arith, length-drop k order, is.size))
     ∙ ap Some (get_or-drop k order i 0)
 
--- a window is no longer than there are numbers
-pub window_fits : (k m : ℕ) (window : List ℕ) → IsWindow k m window → k ≤ m
-window_fits k m window is = omega (arith, length-unused window m is.distinct is.below, is.size)
-
 -- the next number is lacked or not
 pub unused_more : (id : ℕ) (list : List ℕ) → is_used list id ≡ false →
     unused (id + 1) list ≡ unused id list ++ id ∷ []
 unused_more id list free =
     let next : id + 1 ≡ suc id = omega arith in
-    ap (λ n. unused n list) next ∙ kept_suc (lacks list) id
-    ∙ ap (λ b. kept (lacks list) id ++ cond b (id ∷ []) []) (not_from_false (is_used list id) free)
+    ap (λ n. unused n list) next ∙ unused_suc list id
+    ∙ ap (λ b. unused id list ++ cond b (id ∷ []) []) (not_from_false (is_used list id) free)
 
 pub unused_same : (id : ℕ) (list : List ℕ) → is_used list id ≡ true → unused (id + 1) list ≡ unused id list
 unused_same id list used =
     let next : id + 1 ≡ suc id = omega arith in
-    ap (λ n. unused n list) next ∙ kept_suc (lacks list) id
-    ∙ ap (λ b. kept (lacks list) id ++ cond (not b) (id ∷ []) []) used ∙ append-nil (kept (lacks list) id)
+    ap (λ n. unused n list) next ∙ unused_suc list id
+    ∙ ap (λ b. unused id list ++ cond (not b) (id ∷ []) []) used ∙ append-nil (unused id list)
 
 -- the first numbers of an order that is being filled
 pub first_filled : (k filled : ℕ) (front rest order : List ℕ) → length front ≡ k → k ≤ filled →
@@ -441,8 +431,7 @@ pub unused_fit : (k m id : ℕ) (front : List ℕ) → IsWindow k m front → id
 unused_fit k m id front window lt free =
     omega (
       arith,
-      length-unused front m window.distinct window.below,
-      window.size,
+      unused_left window,
       slice_get_within (unused m front) (length (unused id front)) id (unused_at front m id lt free),
     )
 
@@ -459,7 +448,7 @@ last_place k m last window order is ordered same place =
     let at' = unused_at (take k window) m x below free in
     let i : ℕ = length (unused x (take k window)) in
     let within = slice_get_within (unused m (take k window)) i x at' in
-    let size = length-unused (take k order) m ordered.window.distinct ordered.window.below in
+    let size = unused_left ordered.window in
     let fits : k + i < m = omega (arith, within, size, ordered.window.size, ap (λ l. length (unused m l)) same) in
     let item = sym (lacked_in_turn k m i order ordered fits) ∙ ap (λ l. slice_get (unused m l) i) same ∙ at' in
     let own : get_or order last 0 ≡ x = ap (λ n. get_or order n 0) place ∙ same_Some _ _ item in (

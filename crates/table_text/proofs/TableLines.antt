@@ -3,9 +3,9 @@ use Rattle.std.proofs.Common.{◌≡◌, ℕ, ◌<◌, ◌≤◌, List, [], ◌�
 use Rattle.std.specs.Prelude.{codes}
 use Rattle.std.specs.Fmt.{decimal}
 use Rattle.std.proofs.lemmas.List.Elements.{All-cons, All-nil}
-use Rattle.channel_tables.proofs.BegunTables.{begun_with}
 use Rattle.channel_tables.specs.Tables.{ChannelTable, IsBegun, windows_of}
 use Rattle.channel_tables.specs.declared.separation.Separation.{Separation}
+use Rattle.channel_tables.proofs.Tables.{begun_with}
 use Rattle.table_text.specs.declared.version.Version.{Version}
 use Rattle.table_text.specs.declared.version.Version.TheVariants.{One, Two}
 use Rattle.table_text.specs.TableText.{Written, written, title_then, counts_then, counts_end, distances_then, sizes_then, ids_then, entry_then, entries_then, end_then, head_then, lines_then}

@@ -4,7 +4,6 @@ use Rattle.std.proofs.lemmas.List.{drop-take, take-take, get_or-take}
 use Rattle.std.proofs.lemmas.Option.{same_Some}
 use Rattle.win_index.specs.Runs.{HasPlaces}
 use Rattle.win_index.specs.declared.series.RunPlaces.{RunPlaces}
-use Rattle.win_index.proofs.Positions.{number_of_is}
 use Rattle.lang_check.specs.Plans.{ProgramForIds}
 use Rattle.node_program.specs.Node.{to_right}
 use Rattle.unroll.specs.Below.{part}
@@ -15,6 +14,7 @@ use Rattle.unroll.specs.declared.run.FirstPart.{FirstPart}
 use Rattle.unroll.specs.declared.run.Run.{Run}
 use Rattle.unroll.proofs.Known.{still_known, entry_grows, window_at}
 use Rattle.win_index.specs.declared.limits.TheConstants.{BLOCK_WINDOWS}
+use Rattle.win_index.proofs.Windows.{number_of_is}
 
 -- the positions of a run follow from the prefix of its windows
 pub same_places :

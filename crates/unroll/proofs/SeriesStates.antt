@@ -3,9 +3,6 @@ use Rattle.std.proofs.Common.{◌≡◌, ℕ, ◌+◌, ◌-◌, ◌*◌, ◌/◌
 use Rattle.std.proofs.lemmas.Grind.{common_steps}
 use Rattle.std.proofs.lemmas.List.{drop-take, take-take, get_or-take, get_or-drop}
 use Rattle.std.proofs.lemmas.Option.{same_Some}
-use Rattle.win_index.proofs.FrontPlaces.{slice_window}
-use Rattle.win_index.proofs.Positions.{number_of_is, has_number}
-use Rattle.win_index.proofs.Order.{one_place}
 use Rattle.win_index.specs.Runs.{IsSeries, IsRunStart, IsAtPlace, IsLastOfRun, place_in_run}
 use Rattle.win_index.specs.Successor.{IsNext}
 use Rattle.win_index.specs.declared.series.RunPlaces.{RunPlaces}
@@ -22,6 +19,7 @@ use Rattle.unroll.proofs.ColumnStates.{below_sum, held_more}
 use Rattle.unroll.proofs.Known.{still_known, knows_three, window_at}
 use Rattle.unroll.proofs.SameRun.{same_places, same_run, left_is, left_known}
 use Rattle.win_index.specs.declared.limits.TheConstants.{BLOCK_WINDOWS}
+use Rattle.win_index.proofs.Windows.{slice_window, number_of_is, has_number, one_number}
 
 -- the last part of a window of a run, at the window's position
 suffix_at :
@@ -64,7 +62,7 @@ module _ (upper : UpperBlock) (old now : Entries) (first : List ℕ) (run : Run)
       let at : ℕ = place_in_run (2 * low + 1) next (get_or next (2 * low + 1 + 1) 0) in
       let last = last_part (place + i) at next (own at refl) in
       let own_suffix : slice_get (windows (2 * low + 1) m) (run.start + at) ≡ Some (drop 2 next) = grind (arith, common_steps, last, window.size) in
-      let further = one_place (2 * low + 1) m (run.start + at) (run.start + at' + i) (drop 2 next) own_suffix there.3 in
+      let further = one_number (2 * low + 1) m (run.start + at) (run.start + at' + i) (drop 2 next) own_suffix there.3 in
       (next, own (at' + i) (omega (arith, further)))
 
   -- what a window in the run shares with it

@@ -1,22 +1,23 @@
--- Lemmas that several proofs share.
-pub mod Kept
-pub mod Finding
-pub mod Unused
-pub mod Pieces
-pub mod Numbers
-pub mod Order
-pub mod Positions
-pub mod Successors
-pub mod Sizes
-pub mod Writing
-pub mod Levels
-pub mod RunStarts
-pub mod FrontPlaces
-pub mod SeriesPlaces
-pub mod RunPrefixNumbers
-pub mod RunPrefixSteps
-pub mod Arcs
-pub mod Tuples
-pub mod JobPlaces
-pub mod JobNumbers
-pub mod OneFault
+-- Lemmas that several proofs share. Other crates cite those of Windows.
+mod Kept
+mod Finding
+mod Unused
+mod Pieces
+mod Numbers
+mod Order
+mod Positions
+mod Successors
+mod Sizes
+mod Writing
+mod Levels
+mod RunStarts
+mod FrontPlaces
+mod SeriesPlaces
+mod RunPrefixNumbers
+mod RunPrefixSteps
+mod Arcs
+mod Tuples
+mod JobPlaces
+mod JobNumbers
+mod OneFault
+pub mod Windows

@@ -1,27 +1,14 @@
 use Rattle.std.proofs.Common.{◌≡◌, ℕ, suc, ◌+◌, ◌*◌, ◌<◌, ◌≤◌, ◌++◌, ◌∷◌, [], List, length, get_or, ap, arith, ⊎_elim}
-use Rattle.std.proofs.lemmas.Bool.{not-true, cases_lt}
+use Rattle.std.proofs.lemmas.Bool.{cases_lt}
 use Rattle.std.proofs.Math.Seq.{take-append_seam}
 use Rattle.std.proofs.lemmas.Option.{slice_get-get_or}
-use Rattle.win_index.specs.Windows.{unused, IsWindow}
-use Rattle.win_index.proofs.Kept.{kept_is}
-use Rattle.win_index.proofs.Numbers.{push_window, windows_all}
-use Rattle.win_index.proofs.Positions.{window_place}
-use Rattle.win_index.proofs.Unused.{lacks, length-unused}
+use Rattle.win_index.proofs.Windows.{windows_all, window_place, part_of_front, longer_window}
 use Rattle.channel_tables.specs.Tables.{ChannelTable, channel_of}
 use Rattle.channel_tables.specs.declared.separation.Separation.{Separation}
 use Rattle.channel_tables.specs.Apart.{extra, tuples, IsBad, IsApart}
 use Rattle.channel_tables.proofs.Close.{too_close_along, too_close_for_more}
-use Rattle.channel_tables.proofs.Prefixes.{part_of_front}
 use Rattle.channel_tables.proofs.Witnesses.{none_bad, suffice}
 use Rattle.channel_tables.proofs.laws.less_is_apart.Goals as goal
-
--- a window that has not all identifiers lacks one
-missing : (k m : ℕ) (window : List ℕ) → k < m → IsWindow k m window → (x : ℕ) × IsWindow (suc k) m (window ++ x ∷ [])
-missing k m window few is =
-    let some : 0 < length (unused m window) = omega (arith, length-unused window m is.distinct is.below, is.size, few) in
-    let x = get_or (unused m window) 0 0 in
-    let kept = kept_is (lacks window) m 0 x (slice_get-get_or (unused m window) 0 0 some) in
-    (x, push_window k m x window is kept.below (not-true _ kept.passes))
 
 module _ (t : ChannelTable) (s less : Separation) (near : less.near ≤ s.near) (far : less.far ≤ s.far) (apart : IsApart t s) where
   -- the tuples are as long
@@ -39,7 +26,7 @@ module _ (t : ChannelTable) (s less : Separation) (near : less.near ≤ s.near) 
       let len : ℕ = 2 * t.rounds + 1 + extra less in
       let list = get_or (tuples t less) k d in
       let window = windows_all len t.ids k list (slice_get-get_or (tuples t less) k d within) in
-      let more = missing len t.ids list (omega (arith, one, ids)) window in
+      let more = longer_window len t.ids list (omega (arith, one, ids)) window in
       let next : suc len ≡ 2 * t.rounds + 1 + extra s = omega (arith, one, two) in
       let place = window_place (2 * t.rounds + 1 + extra s) t.ids (list ++ more.0 ∷ []) (rw next at more.1) in
       let size = window.size in

@@ -1,8 +1,8 @@
 use Rattle.std.proofs.Common.{◌≡◌, ℕ, ◌+◌, ◌-◌, ◌*◌, ◌<◌, slice_get, ap, ◌∙◌, arith}
 use Rattle.channel_tables.specs.Tables.{windows_of}
+use Rattle.channel_tables.proofs.Tables.{next_item, window_of_shape}
 use Rattle.nbhd_check.specs.Counts.{shared_len}
 use Rattle.nbhd_check.proofs.HeldCounts.{window_counted}
-use Rattle.channel_tables.proofs.Prefixes.{next_item, window_of_shape}
 use Rattle.nbhd_check.proofs.counts.count_windows.Goals as goal
 
 pub loop-number-preserved : goal.loop-number-preserved

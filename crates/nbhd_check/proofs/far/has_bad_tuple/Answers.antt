@@ -1,7 +1,7 @@
 use Rattle.std.proofs.Common.{◌≡◌, ℕ, ◌*◌, arith}
 use Rattle.std.proofs.Math.Nat.{add-mul, mul-le-mul_right}
 use Rattle.channel_tables.specs.Apart.{run_len}
-use Rattle.channel_tables.proofs.RunLengths.{all_runs}
+use Rattle.channel_tables.proofs.Tables.{all_runs}
 use Rattle.nbhd_check.proofs.far.has_bad_tuple.Goals as goal
 
 pub least_bad-requires-clause-within : goal.least_bad-requires-clause-within

@@ -1,10 +1,9 @@
 use Rattle.std.proofs.Common.{◌≡◌, ℕ, ◌+◌, ◌-◌, ◌*◌, ◌/◌, ◌<◌, ap, ◌∙◌, arith, refl}
 use Rattle.std.proofs.Math.Nat.{mul-div_cancel_left}
 use Rattle.win_index.specs.Falling.{falling}
-use Rattle.win_index.proofs.Numbers.{length-windows}
+use Rattle.win_index.proofs.Windows.{length-windows, falling-add, falling_two}
 use Rattle.nbhd_check.specs.Counts.{shared_len}
 use Rattle.nbhd_check.proofs.FarFree.{some_product}
-use Rattle.channel_tables.proofs.RunLengths.{falling-add, falling_two}
 use Rattle.nbhd_check.proofs.far_counts.windows_per_pair.Goals as goal
 
 pub returns-clause-value : goal.returns-clause-value

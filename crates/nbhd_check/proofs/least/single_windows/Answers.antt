@@ -3,14 +3,13 @@ use Rattle.std.proofs.Math.Nat.{div-mul-le_self}
 use Rattle.std.specs.Option.{unwrap_or}
 use Rattle.win_index.specs.Arcs.{part_at}
 use Rattle.win_index.specs.Windows.{IsWindow}
-use Rattle.win_index.proofs.FrontPlaces.{slice_window}
+use Rattle.win_index.proofs.Windows.{slice_window}
 use Rattle.channel_tables.specs.Tables.{ChannelTable, channel_of, windows_of}
 use Rattle.channel_tables.specs.declared.separation.Separation.{Separation}
 use Rattle.channel_tables.specs.Apart.{run_len, AreClose, IsBad, NoneIsBad}
 use Rattle.channel_tables.specs.Searches.{IsLeastIn}
-use Rattle.channel_tables.proofs.RunLengths.{all_runs}
+use Rattle.channel_tables.proofs.Tables.{all_runs, close_along, closer, two_of_far}
 use Rattle.nbhd_check.specs.Runs.{BeginsBadTuple}
-use Rattle.channel_tables.proofs.Close.{close_along, closer, two_of_far}
 use Rattle.nbhd_check.proofs.Cells.{row_more}
 use Rattle.nbhd_check.proofs.Ends.{push_two}
 use Rattle.nbhd_check.proofs.Parts.{quotient_below}

@@ -1,9 +1,9 @@
 use Rattle.std.proofs.Common.{◌≡◌, ℕ, ◌+◌, ◌*◌, ◌<◌, ◌≤◌, length, slice_get, Some, subst, ◌∙◌, arith, length-set}
 use Rattle.std.proofs.Math.Nat.{mul-le-mul_right}
 use Rattle.std.proofs.lemmas.Option.{slice_get_within}
-use Rattle.win_index.proofs.Numbers.{windows_all}
+use Rattle.win_index.proofs.Windows.{windows_all}
 use Rattle.channel_tables.specs.Tables.{windows_of}
-use Rattle.channel_tables.proofs.Prefixes.{step_of_run, window_of_shape}
+use Rattle.channel_tables.proofs.Tables.{step_of_run, window_of_shape}
 use Rattle.nbhd_check.specs.Runs.{wide}
 use Rattle.nbhd_check.proofs.Cells.{row_more}
 use Rattle.nbhd_check.proofs.MiddleSteps.{known_more, wide_some}

@@ -2,9 +2,8 @@ use Rattle.std.proofs.Common.{◌≡◌, ℕ, ◌+◌, ◌-◌, ◌*◌, length,
 use Rattle.std.proofs.Math.Nat.{mul-le-mul}
 use Rattle.std.proofs.lemmas.List.{get_or-take, length-take-le}
 use Rattle.win_index.specs.Windows.{unused, windows, IsWindow}
+use Rattle.win_index.proofs.Windows.{place_of_last, run_of, one_run, window_take, windows_all, back_window}
 use Rattle.nbhd_check.specs.Runs.{wide}
-use Rattle.channel_tables.proofs.Prefixes.{place_of_last, run_of, one_run, window_drop, window_take}
-use Rattle.win_index.proofs.Numbers.{windows_all}
 use Rattle.nbhd_check.proofs.Suffixes.{shared_cut}
 use Rattle.nbhd_check.proofs.near.second_runs.Goals as goal
 
@@ -21,8 +20,7 @@ window_number-number-requires-clause-window c =
     let window = c.args.window.now in
     let is = windows_all (2 * t.rounds + 1) t.ids _ window c.requires.window in
     let rounds_is : c.rounds-level.result ≡ t.rounds = c.rounds-level.ensures ∙ c.shape-shape.ensures.rounds in
-    let size : 2 * t.rounds + 1 ≡ 1 + 2 * t.rounds = omega arith in
-    let rest = window_drop (2 * t.rounds) t.ids 1 window (subst (λ k. IsWindow k t.ids window) size is) in
+    let rest = back_window (2 * t.rounds) t.ids window is in
     let part = window_take (2 * t.rounds) t.ids (2 * c.rounds-level.result - 1) (drop 1 window) (omega arith) rest in
     let len : 2 * c.rounds-level.result - 1 ≡ 2 * (c.rounds-level.result - 1) + 1 = omega (arith, rounds_is, c.requires.some) in
     subst (λ m. IsWindow (2 * (c.rounds-level.result - 1) + 1) m (take (2 * c.rounds-level.result - 1) (drop 1 window))) (sym c.shape-shape.ensures.ids)

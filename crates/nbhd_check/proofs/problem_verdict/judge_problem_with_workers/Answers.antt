@@ -1,5 +1,5 @@
 use Rattle.std.proofs.Common.{refl}
-use Rattle.ring_problems.proofs.Suffices.{none_is_solved}
+use Rattle.ring_problems.proofs.Problems.{none_is_solved}
 use Rattle.nbhd_check.proofs.problem_verdict.judge_problem_with_workers.Goals as goal
 
 pub returns-in-None-clause-verdict : goal.returns-in-None-clause-verdict

@@ -2,10 +2,10 @@ use Rattle.std.proofs.Common.{ℕ, ◌+◌, ◌*◌, ◌<◌, ◌≤◌, length,
 use Rattle.std.proofs.lemmas.Bool.{cases_lt}
 use Rattle.std.proofs.Math.Nat.{mul-le-mul_right}
 use Rattle.channel_tables.specs.Tables.{windows_of}
+use Rattle.channel_tables.proofs.Tables.{window_of_shape, step_of_run}
 use Rattle.nbhd_check.specs.Runs.{wide}
 use Rattle.nbhd_check.proofs.Cells.{row_more}
-use Rattle.channel_tables.proofs.Prefixes.{window_of_shape, step_of_run}
-use Rattle.win_index.proofs.Numbers.{windows_all}
+use Rattle.win_index.proofs.Windows.{windows_all}
 use Rattle.nbhd_check.proofs.RunSteps.{next_first, run_few}
 use Rattle.nbhd_check.proofs.run_search.scan_runs.Goals as goal
 

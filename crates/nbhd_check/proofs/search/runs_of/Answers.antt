@@ -3,7 +3,7 @@ use Rattle.std.proofs.Math.Nat.{mul-le-mul_right, mul-le-mul_left}
 use Rattle.std.proofs.lemmas.Grind.{div_ceil_times}
 use Rattle.std.specs.Int.{div_ceil}
 use Rattle.win_index.specs.Falling.{falling}
-use Rattle.win_index.proofs.Numbers.{length-windows}
+use Rattle.win_index.proofs.Windows.{length-windows}
 use Rattle.channel_tables.specs.Tables.{ChannelTable, windows_of}
 use Rattle.nbhd_check.specs.Runs.{wide}
 use Rattle.nbhd_check.proofs.Parts.{few_parts}

@@ -1,5 +1,5 @@
 use Rattle.std.proofs.Common.{refl}
-use Rattle.channel_tables.proofs.Witnesses.{none_is_apart}
+use Rattle.channel_tables.proofs.Tables.{none_is_apart}
 use Rattle.nbhd_check.proofs.verdict.judge_with_workers.Goals as goal
 
 pub returns-in-None-clause-verdict : goal.returns-in-None-clause-verdict

@@ -1,7 +1,8 @@
 use Rattle.std.proofs.Common.{◌≡◌, ◌+◌, ◌*◌, Some, sym, ap, ◌∙◌, subst, arith, drop, length}
 use Rattle.std.proofs.lemmas.Option.{slice_get_within}
 use Rattle.win_index.specs.Windows.{windows, IsWindow}
-use Rattle.ring_problems.proofs.TupleParts.{back_window, cut, back_below, written, middle_is, middle_at, over_rest}
+use Rattle.win_index.proofs.Windows.{back_window}
+use Rattle.ring_problems.proofs.TupleParts.{cut, back_below, written, middle_is, middle_at, over_rest}
 use Rattle.ring_problems.proofs.tuple_lists.write_long.Goals as goal
 
 pub tuple-requires-clause-below : goal.tuple-requires-clause-below

@@ -2,8 +2,7 @@ use Rattle.std.proofs.Common.{rules, ◌≡◌, ℕ, ◌+◌, List, [], ◌∷�
 use Rattle.std.specs.Prelude.{slice_index}
 use Rattle.std.proofs.lemmas.List.FromFn.{length-map-range_with_len, map-range_with_len_more, get_or-map-range_with_len}
 use Rattle.win_index.specs.Blocks.{block_count}
-use Rattle.win_index.proofs.JobNumbers.{job_number_at}
-use Rattle.win_index.proofs.JobPlaces.{jobs_below, length_jobs_below, no_jobs_below}
+use Rattle.win_index.proofs.Windows.{job_number_at, jobs_below, length_jobs_below, no_jobs_below}
 use Rattle.shared_memo.proofs.jobs.first_jobs.Goals as goal
 
 pub loop-level-init : goal.loop-level-init

@@ -1,7 +1,7 @@
 use Rattle.std.proofs.Common.{◌≡◌, ◌*◌, ◌≤◌, length, map}
 use Rattle.std.specs.List.{range_with_len}
 use Rattle.win_index.specs.declared.limits.TheConstants.{MAX_BLOCKS}
-use Rattle.win_index.proofs.JobPlaces.{jobs_below}
+use Rattle.win_index.proofs.Windows.{jobs_below}
 use Rattle.shared_memo.proofs.jobs.first_jobs.Given as goal
 
 abbrev pub invariant-loop-level : goal.invariant-loop-level

@@ -1,5 +1,5 @@
 use Rattle.std.proofs.Common.{rules}
-use Rattle.win_index.proofs.Kept.{each_snoc}
+use Rattle.win_index.proofs.Windows.{each_snoc}
 use Rattle.shared_memo.proofs.looks.last_blocks.Goals as goal
 
 pub loop-number-preserved : goal.loop-number-preserved

@@ -4,7 +4,7 @@ use Rattle.std.specs.Vec.Iter.{into_iter_items}
 use Rattle.shared_memo.specs.Outcomes.{outcome_worker, IsOutcome}
 use Rattle.shared_memo.proofs.Numbered.{numbered_rest}
 use Rattle.shared_memo.proofs.Workers.{all_first}
-use Rattle.win_index.proofs.Kept.{each_snoc}
+use Rattle.win_index.proofs.Windows.{each_snoc}
 use Rattle.shared_memo.proofs.pool.join_all.Goals as goal
 
 pub loop-handle-preserved : goal.loop-handle-preserved

@@ -3,7 +3,7 @@ use Rattle.std.proofs.lemmas.List.Elements.{All-push}
 use Rattle.shared_memo.specs.Tickets.{worker_of, IsFreshTicketOf}
 use Rattle.shared_memo.proofs.Numbered.{numbered_rest}
 use Rattle.shared_memo.proofs.Workers.{all_first}
-use Rattle.win_index.proofs.Kept.{each_snoc}
+use Rattle.win_index.proofs.Windows.{each_snoc}
 use Rattle.shared_memo.proofs.pool.start_all.Goals as goal
 
 pub loop-ticket-preserved : goal.loop-ticket-preserved

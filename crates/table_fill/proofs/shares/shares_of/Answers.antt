@@ -4,7 +4,7 @@ use Rattle.std.proofs.Math.Nat.{mul-add, mul-one, mul-zero}
 use Rattle.shared_memo.specs.LastBlocks.{blocks_of}
 use Rattle.table_fill.specs.Shares.{share_blocks, IsShareAt}
 use Rattle.table_fill.specs.declared.share.Share.{Share}
-use Rattle.win_index.proofs.Kept.{each_snoc}
+use Rattle.win_index.proofs.Windows.{each_snoc}
 use Rattle.table_fill.proofs.shares.shares_of.Goals as goal
 
 -- the blocks of a share are at most those for which it has capacity

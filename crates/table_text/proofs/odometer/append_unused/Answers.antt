@@ -1,6 +1,6 @@
 use Rattle.std.proofs.Common.{◌≡◌, ◌≤◌, false, length, length-append, length-set, [], ◌∷◌, ◌++◌, take, take_all, sym, ap, ◌∙◌, arith}
 use Rattle.win_index.specs.Windows.{is_used, unused}
-use Rattle.win_index.proofs.Unused.{length-unused}
+use Rattle.win_index.proofs.Windows.{unused_left}
 use Rattle.table_text.proofs.Orders.{first_filled, filled_more, order_of, unused_fit, unused_more, unused_same}
 use Rattle.table_text.proofs.odometer.append_unused.Goals.{Then-not-contains, Joined-not-contains, then-not-contains, else-not-contains}
 use Rattle.table_text.proofs.odometer.append_unused.Goals as goal
@@ -72,8 +72,7 @@ returns-clause-order c =
       inv.size,
       inv.filled,
       ap (λ n. length (unused n front)) all,
-      length-unused front m window.distinct window.below,
-      window.size,
+      unused_left window,
     ) in
     (order_of c.args.front m front c.loop-id.order window
     (sym (take_all c.loop-id.filled c.loop-id.order full) ∙ inv.front ∙ ap (λ n. front ++ unused n front) all)).0

@@ -1,6 +1,6 @@
 use Rattle.std.proofs.Common.{◌+◌, ◌<◌, take, get_or, sym, ap, arith}
-use Rattle.win_index.proofs.Unused.{unused_at_most, distinct_take}
-use Rattle.table_text.proofs.Orders.{places_more, window_fits}
+use Rattle.win_index.proofs.Windows.{distinct_take, unused_below, window_within}
+use Rattle.table_text.proofs.Orders.{places_more}
 use Rattle.table_text.proofs.odometer.write_places.Goals.{After-place_among_unused-place}
 use Rattle.table_text.proofs.odometer.write_places.Goals as goal
 
@@ -17,10 +17,10 @@ few c =
     let window = c.requires.window.2 in
     omega (
       arith,
-      window_fits _ _ c.args.window.now window,
+      window_within _ _ c.args.window.now window,
       c.requires.window.1,
       c.place_among_unused-place.ensures,
-      unused_at_most (take index c.args.window.now) (get_or c.args.window.now index 0),
+      unused_below (take index c.args.window.now) (get_or c.args.window.now index 0) (distinct_take index c.args.window.now window.distinct),
       window.below index 0 c.loop-index-test.true,
     )
 

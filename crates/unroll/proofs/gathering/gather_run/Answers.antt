@@ -1,6 +1,5 @@
 use Rattle.std.proofs.Common.{◌≡◌, ℕ, ◌+◌, ◌-◌, ◌*◌, ◌<◌, ◌≤◌, List, length, slice_get, Some, refl, ◌∙◌, arith}
 use Rattle.std.proofs.lemmas.Option.{slice_get_within}
-use Rattle.win_index.proofs.Positions.{number_of_is}
 use Rattle.win_index.specs.Runs.{IsAtPlace}
 use Rattle.win_index.specs.Windows.{windows}
 use Rattle.unroll.specs.Below.{part}
@@ -12,6 +11,7 @@ use Rattle.unroll.proofs.gathering.gather_run.Given.{Over}
 use Rattle.unroll.proofs.gathering.gather_run.Goals.{After-put_lasts, At-loop-block}
 use Rattle.unroll.proofs.gathering.gather_run.Goals as goal
 use Rattle.win_index.specs.declared.limits.TheConstants.{BLOCK_WINDOWS}
+use Rattle.win_index.proofs.Windows.{number_of_is}
 
 -- after the last parts of a series were written
 module _ (g : Over) (c : After-put_lasts g) where

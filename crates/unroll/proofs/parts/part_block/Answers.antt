@@ -1,7 +1,7 @@
 use Rattle.std.proofs.Common.{ℕ, ◌+◌, ◌*◌, ◌<◌, List, length, refl, arith}
 use Rattle.std.proofs.lemmas.Option.{slice_get_within}
-use Rattle.win_index.proofs.Positions.{number_of_some}
 use Rattle.win_index.specs.Windows.{windows}
+use Rattle.win_index.proofs.Windows.{number_of_some}
 use Rattle.unroll.specs.Below.{part, IsPartNumber}
 use Rattle.unroll.proofs.parts.part_block.Goals as goal
 

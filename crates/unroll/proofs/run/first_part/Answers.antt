@@ -1,6 +1,6 @@
 use Rattle.std.proofs.Common.{◌≡◌, ◌+◌, ◌*◌, slice_get, Some, refl, arith}
-use Rattle.win_index.proofs.Positions.{number_of_is}
 use Rattle.win_index.specs.Windows.{windows}
+use Rattle.win_index.proofs.Windows.{number_of_is}
 use Rattle.unroll.specs.Below.{part, IsPartNumber}
 use Rattle.unroll.specs.Parts.{window_in}
 use Rattle.unroll.proofs.run.first_part.Given.{Over}

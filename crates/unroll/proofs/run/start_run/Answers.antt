@@ -2,7 +2,7 @@ use Rattle.std.proofs.Common.{rules, ◌+◌, ◌*◌, take, refl, ◌∙◌, ar
 use Rattle.unroll.specs.Below.{part, IsPartNumber}
 use Rattle.unroll.specs.Parts.{window_in}
 use Rattle.unroll.proofs.Known.{asked_both, missing_later, own_entry, part_known, state_held}
-use Rattle.win_index.proofs.Positions.{number_of_is}
+use Rattle.win_index.proofs.Windows.{number_of_is}
 use Rattle.unroll.proofs.NextRuns.{middle_at, rest_of_prefix}
 use Rattle.unroll.proofs.SameRun.{first_grows}
 use Rattle.unroll.proofs.run.start_run.Goals as goal

@@ -1,7 +1,7 @@
 use Rattle.std.proofs.Common.{◌≡◌, ℕ, ◌+◌, ◌-◌, ◌*◌, ◌≤◌, sym, arith}
 use Rattle.channel_tables.specs.Apart.{extra}
 use Rattle.channel_tables.proofs.Products.{product_few}
-use Rattle.channel_tables.proofs.RunLengths.{falling_two}
+use Rattle.win_index.proofs.Windows.{falling_two}
 use Rattle.channel_tables.proofs.tuples.Tuples.per_window.Goals as goal
 
 pub overflow_mul-result : goal.overflow_mul-result

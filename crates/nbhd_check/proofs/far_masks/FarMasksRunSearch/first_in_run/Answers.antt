@@ -1,8 +1,8 @@
 use Rattle.std.proofs.Common.{◌≡◌, ℕ, List, ◌+◌, ◌-◌, ◌*◌, ◌≤◌, take, drop, subst, sym, ◌∙◌, arith}
 use Rattle.win_index.specs.Windows.{IsWindow}
+use Rattle.win_index.proofs.Windows.{windows_all}
 use Rattle.channel_tables.specs.Tables.{ChannelTable}
 use Rattle.nbhd_check.specs.Runs.{wide}
-use Rattle.win_index.proofs.Numbers.{windows_all}
 use Rattle.nbhd_check.proofs.Suffixes.{front_two}
 use Rattle.nbhd_check.proofs.ThirdFamilies.{at_family}
 use Rattle.nbhd_check.proofs.far_masks.FarMasksRunSearch.first_in_run.Goals as goal

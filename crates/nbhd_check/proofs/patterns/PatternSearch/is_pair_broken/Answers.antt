@@ -1,5 +1,5 @@
 use Rattle.std.proofs.Common.{◌+◌, ◌*◌, get_or, ap, ◌∙◌, arith}
-use Rattle.ring_problems.proofs.Thirds.{on_false}
+use Rattle.std.proofs.lemmas.Bool.{OnFalse_at, OnFalse_from}
 use Rattle.nbhd_check.specs.MiddleRuns.{in_run}
 use Rattle.nbhd_check.specs.Runs.{wide}
 use Rattle.nbhd_check.proofs.BeforeSteps.{HasCell, has_cell}
@@ -29,10 +29,10 @@ returns c =
     let next = c.args.next in
     let each_is = c.windows_per_run.ensures.value in
     let own = cell (goal.at.returns c).Start in
-    on_false c.has_forbidden_third.result _ _
-    (pair_is_clear t self'.problem.now self'.before.items next c.args.first c.args.second c.gap_at.result _ c.channels_of-thirds.result.now
+    OnFalse_from c.has_forbidden_third.result _
+    (λ none. pair_is_clear t self'.problem.now self'.before.items next c.args.first c.args.second c.gap_at.result _ c.channels_of-thirds.result.now
     own.at.next_within
     (c.channel_before-before.ensures ∙ ap (λ n. get_or self'.before.items (next.run * n + c.args.first) 0) each_is)
     (λ i. get_or (c.entries.ensures.value i) (next.run * each_is i + c.args.second) 0)
-    (c.channels_of-thirds.ensures ∙ ap (in_run t t.entries) c.run_at.ensures) c.gap_at.ensures)
-    c.has_forbidden_third.ensures
+    (c.channels_of-thirds.ensures ∙ ap (in_run t t.entries) c.run_at.ensures) c.gap_at.ensures
+    (OnFalse_at none c.has_forbidden_third.ensures))

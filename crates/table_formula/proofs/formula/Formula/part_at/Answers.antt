@@ -1,7 +1,7 @@
 use Rattle.std.proofs.Common.{◌≡◌, ◌+◌, ◌-◌, ◌*◌, ◌<◌, length, take, drop, sym, ap, subst, arith}
 use Rattle.std.proofs.lemmas.Option.{slice_get_within}
 use Rattle.win_index.specs.Windows.{windows, IsWindow}
-use Rattle.ring_problems.proofs.Arounds.{tuple_window}
+use Rattle.ring_problems.proofs.Problems.{tuple_window}
 use Rattle.table_formula.specs.Problems.{Problem}
 use Rattle.table_formula.specs.Formula.{windows_of}
 use Rattle.table_formula.proofs.formula.Formula.part_at.Goals as goal

@@ -1,6 +1,6 @@
 use Rattle.std.proofs.Common.{◌≡◌, ◌-◌, ◌*◌, ◌<◌, List, All, length, slice_get, take, ap, ◌∙◌, subst, arith}
 use Rattle.std.proofs.lemmas.Option.{slice_get_within, get_or_from_slice_get}
-use Rattle.win_index.proofs.Kept.{slice_get-append_left, slice_get-append_right}
+use Rattle.win_index.proofs.Windows.{slice_get-append_left, slice_get-append_right}
 use Rattle.table_formula.specs.declared.literal.Literal.{Literal}
 use Rattle.table_formula.specs.Problems.{Problem}
 use Rattle.table_formula.specs.Formula.{windows_of, apart_formula, pattern_clauses}
