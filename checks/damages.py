@@ -1,7 +1,8 @@
-"""Damages to contracts that checks/exactness.py has to find, each planted into the texts in memory: `checks/inventory --self-test`.
+"""Damages to contracts that checks/exactness.py has to find, and to imports that checks/interfaces.py has to find, each planted into the
+texts in memory: `checks/inventory --self-test`.
 
 A row says what is damaged, the lines of checks/exact.txt that must fail then, by the crate and the call, the file, the text, and the text in
-its place."""
+its place. A row of imports has what must be said then in the place of the lines."""
 
 import contextlib
 import sys
@@ -10,6 +11,7 @@ sys.dont_write_bytecode = True
 import contracts
 import definitions
 import exactness
+import interfaces
 
 DAMAGES = [
     (
@@ -126,6 +128,51 @@ DAMAGES = [
     ),
 ]
 
+IMPORTS = [
+    (
+        "a proof imports another file than the interface",
+        "crates/nbhd_check/proofs/RunSteps.antt cites crates/win_index/proofs/Numbers",
+        "crates/nbhd_check/proofs/RunSteps.antt",
+        "use Rattle.win_index.proofs.Windows.{",
+        "use Rattle.win_index.proofs.Numbers.{",
+    ),
+    (
+        "a proof imports the answers of another crate's call",
+        "crates/nbhd_check/proofs/RunSteps.antt cites crates/win_index/proofs/arrangement",
+        "crates/nbhd_check/proofs/RunSteps.antt",
+        "use Rattle.win_index.proofs.Windows.{",
+        "use Rattle.win_index.proofs.arrangement.Arrangements.run_start.Answers.{",
+    ),
+    (
+        "a function's tactic names a lemma of another file than the interface",
+        "crates/round_eval/src/row.rt cites crates/win_index/proofs/Numbers",
+        "crates/round_eval/src/row.rt",
+        "using(std::proofs::lemmas::Nat::row_fits)",
+        "using(win_index::proofs::Numbers::windows_more)",
+    ),
+    (
+        "a crate makes two files public",
+        "crates/nbhd_check/proofs/RunSteps.antt cites crates/win_index/proofs/Windows",
+        "crates/win_index/proofs/Lib.antt",
+        "mod Numbers\n",
+        "pub mod Numbers\n",
+    ),
+    (
+        "no other crate cites a lemma of an interface",
+        "crates/win_index/proofs/Windows.antt: windows_less is not cited",
+        "crates/win_index/proofs/Windows.antt",
+        "pub windows_more :",
+        "pub windows_less :",
+    ),
+    (
+        "a lemma of an interface has no comment",
+        "crates/win_index/proofs/Windows.antt: windows_more has no comment",
+        "crates/win_index/proofs/Windows.antt",
+        "-- for each window there are m-k with one identifier more\n",
+        "",
+    ),
+]
+
 
 @contextlib.contextmanager
 def planted(path, old, new):
@@ -144,7 +191,7 @@ def forget():
     definitions.forget()
 
 
-def test(checks, lines):
+def test_contracts(checks, lines):
     """Plants each damage, and checks that a line of its call fails then, and passed before."""
     for what, call, path, old, new in DAMAGES:
         its = [line for line in lines if f"{line.crate} {line.call}" == call]
@@ -153,3 +200,13 @@ def test(checks, lines):
         checks.check(good and stands, f"checks/damages.py: {path} has not the text, or {call} fails without a damage: {what}")
         with planted(path, old, new):
             checks.check(any(map(exactness.why_not, its)), f"checks/damages.py: not found in {path}: {what}")
+
+
+def test_imports(checks):
+    """Plants each damage of imports, and checks that it is said then, and not before."""
+    before = [*interfaces.faults()]
+    for what, said, path, old, new in IMPORTS:
+        stands = old in contracts.read(contracts.ROOT / path) and not any(fault.startswith(said) for fault in before)
+        checks.check(stands, f"checks/damages.py: {path} has not the text, or is found without a damage: {what}")
+        with planted(path, old, new):
+            checks.check(any(fault.startswith(said) for fault in interfaces.faults()), f"checks/damages.py: not found in {path}: {what}")

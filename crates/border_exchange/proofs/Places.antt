@@ -1,12 +1,11 @@
--- The places of segments, in the order of the segments.
+-- What other crates cite of the places of segments. Of the files here they import this one alone.
 use Rattle.std.proofs.Common.{◌≡◌, ℕ, ◌+◌, ◌*◌, ◌/◌, ◌<◌, ◌≤◌, arith, ⊎_elim}
 use Rattle.std.proofs.Math.Nat.{mul-div_cancel_left, div-le_of_le-mul}
 use Rattle.std.proofs.lemmas.Nat.{mul-le, div-add-mod'}
 use Rattle.std.proofs.lemmas.Bool.{cases_lt}
 use Rattle.border_exchange.specs.SegmentPlaces.{first_place}
-use Rattle.border_exchange.specs.Laws.{SegmentsCoverTheRing}
 
--- each segment has a place if there are at most as many segments as places
+-- each segment has a place of its own if there are at most as many segments as places
 pub first_place-grows : (n g s : ℕ) → 0 < g → g ≤ n → first_place n g s < first_place n g (s + 1)
 unfolding first_place
 first_place-grows n g s some few =
@@ -20,12 +19,12 @@ first_place-grows n g s some few =
     absurd (omega arith))
     (cases_lt (s * n / g) ((s + 1) * n / g))
 
--- the last segment ends with the ring
+-- the last segment ends where the ring ends
 pub first_place-all : (n g : ℕ) → 0 < g → first_place n g g ≡ n
 unfolding first_place
 first_place-all n g some = mul-div_cancel_left n some
 
--- and the first begins with it
+-- and the first begins where it begins
 pub first_place-none : (n g : ℕ) → first_place n g 0 ≡ 0
 unfolding first_place
 first_place-none n g = grind arith
@@ -35,6 +34,3 @@ pub first_place-inside : (n g s : ℕ) → s ≤ g → first_place n g s ≤ n
 unfolding first_place
 first_place-inside n g s le =
     div-le_of_le-mul g (let small : s * n ≤ g * n = mul-le s n g n le (omega arith) in small)
-
-pub segments_cover : SegmentsCoverTheRing
-segments_cover n g some few = (first_place-none n g, first_place-all n g some, λ s. first_place-grows n g s some few)

@@ -1,2 +1,4 @@
-pub mod Known
-pub mod WrittenChunks
+-- Lemmas that several proofs share. Other crates cite those of Writing.
+mod Known
+mod WrittenChunks
+pub mod Writing

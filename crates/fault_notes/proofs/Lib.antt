@@ -1,4 +1,4 @@
-pub mod Joined
-pub mod Repairing
-pub mod Causes
-pub mod MostIds
+mod Joined
+mod Repairing
+mod Causes
+mod MostIds

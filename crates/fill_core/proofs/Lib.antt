@@ -1,5 +1,5 @@
 -- Lemmas that several proofs share.
-pub mod FillViews
-pub mod KnownSources
-pub mod FillKeeps
-pub mod OneRuns
+mod FillViews
+mod KnownSources
+mod FillKeeps
+mod OneRuns

@@ -1,7 +1,7 @@
 -- Lemmas that several proofs share.
-pub mod Closings
-pub mod EntryTexts
-pub mod Objects
-pub mod ReadBack
-pub mod TableParts
-pub mod TableRead
+mod Closings
+mod EntryTexts
+mod Objects
+mod ReadBack
+mod TableParts
+mod TableRead

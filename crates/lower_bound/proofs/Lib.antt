@@ -1,9 +1,9 @@
-pub mod BitSets
-pub mod Colourings
-pub mod Steps
-pub mod Bound
-pub mod Windows
-pub mod OddRings
-pub mod Nearby
-pub mod Tables
-pub mod Feet
+mod BitSets
+mod Colourings
+mod Steps
+mod Bound
+mod Windows
+mod OddRings
+mod Nearby
+mod Tables
+mod Feet

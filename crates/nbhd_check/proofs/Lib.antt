@@ -1,20 +1,20 @@
-pub mod Cells
-pub mod BitSets
-pub mod PatternWords
-pub mod Ends
-pub mod HeldCounts
-pub mod Included
-pub mod LeastOfParts
-pub mod Suffixes
-pub mod FarCounts
-pub mod FarFree
-pub mod Parts
-pub mod Steps
-pub mod Runs
-pub mod RunSteps
-pub mod SecondRuns
-pub mod MiddleSteps
-pub mod BeforeSteps
-pub mod PatternSteps
-pub mod SingleSteps
-pub mod ThirdFamilies
+mod Cells
+mod BitSets
+mod PatternWords
+mod Ends
+mod HeldCounts
+mod Included
+mod LeastOfParts
+mod Suffixes
+mod FarCounts
+mod FarFree
+mod Parts
+mod Steps
+mod Runs
+mod RunSteps
+mod SecondRuns
+mod MiddleSteps
+mod BeforeSteps
+mod PatternSteps
+mod SingleSteps
+mod ThirdFamilies

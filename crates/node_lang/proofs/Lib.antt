@@ -1,11 +1,13 @@
-pub mod Numbers
-pub mod Placing
-pub mod Writing
-pub mod SmallTokens
-pub mod Parsing
-pub mod PrintedTokens
-pub mod Rest
-pub mod Places
-pub mod Marks
-pub mod Expecting
-pub mod Judging
+-- Lemmas that several proofs share. Other crates cite those of Texts.
+mod Numbers
+mod Placing
+mod Writing
+mod SmallTokens
+mod Parsing
+mod PrintedTokens
+mod Rest
+mod Places
+mod Marks
+mod Expecting
+mod Judging
+pub mod Texts

@@ -1,3 +1,3 @@
-pub mod Assigned
-pub mod Small
+mod Assigned
+mod Small
 mod LowestDifference

@@ -1,6 +1,6 @@
--- Lemmas on the digits of a number.
-pub mod Digits
--- Lemmas that several proofs share. The crates above cite those of NumberTexts and of Options.
-pub mod FirstByte
-pub mod NumberTexts
-pub mod Options
+-- Lemmas that several proofs share. Other crates cite those of NumbersInTexts.
+mod Digits
+mod FirstByte
+mod NumberTexts
+mod Options
+pub mod NumbersInTexts

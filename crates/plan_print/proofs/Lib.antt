@@ -1,4 +1,5 @@
-pub mod Left
-pub mod OfInput
+-- Lemmas that several proofs share. Other crates cite those of Tasks.
+mod Left
+mod OfInput
 pub mod Tasks
-pub mod Workers
+mod Workers

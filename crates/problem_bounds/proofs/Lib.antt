@@ -1,2 +1,2 @@
 -- Colours that solutions give.
-pub mod Colours
+mod Colours

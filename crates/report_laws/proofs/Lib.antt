@@ -13,4 +13,4 @@ mod Refuted
 mod RoundsNeeded
 mod ReadBack
 mod Applied
-pub mod OneNote
+mod OneNote

@@ -19,7 +19,7 @@ use Rattle.table_text.specs.TableText.{Written, written, title_then, counts_then
 use Rattle.table_text.specs.Texts.{IsBegunText, IsWritten, IsTextOf}
 use Rattle.table_text.specs.LineForms.{AreSizes, IsSeparationOf, HasTitle, HasSizes, IsEntry, HasEntry}
 use Rattle.table_text.specs.Faults.{IsWithin, IsMalformed, no_title, no_sizes, no_entry, no_end, bytes_after, IsNextWindow, IsFault}
-use Rattle.table_text.proofs.TableLines.{rest_within, lines_more, begun_more}
+use Rattle.table_text.proofs.TableTexts.{rest_within, lines_more, begun_more}
 use Rattle.report_laws.proofs.Fronts.{Decided, Follows, IsPart, nothing, byte, both, bytes, number, field, Below, below, Lists, lists}
 
 -- the lines are parts of a text

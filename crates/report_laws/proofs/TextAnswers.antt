@@ -15,7 +15,7 @@ use Rattle.node_lang.specs.Reading.{Read, Got, Fault, program}
 use Rattle.node_lang.specs.Faults.{FaultsAt, too_long, not_ascii, in_lexemes, IsFirstHighByte}
 use Rattle.node_lang.specs.Viable.{FirstFault}
 use Rattle.node_lang.specs.Laws.{ReadTextsAreReadable, ReadingStopsAtFirstFault}
-use Rattle.node_lang.proofs.Placing.{length-blanked}
+use Rattle.node_lang.proofs.Texts.{length-blanked}
 
 -- the lexemes begin in the text
 abbrev AreWithin : ℕ → List Lexeme → Type 0

@@ -1,2 +1,2 @@
-pub mod Aligned
-pub mod TableLines
+mod Aligned
+mod TableLines

@@ -1,4 +1,4 @@
 -- What the proof of the recursion over the segments is made of.
-pub mod Steps
+mod Steps
 mod Falling
-pub mod FactRows
+mod FactRows

@@ -2,6 +2,6 @@
 mod RowLemmas
 mod GlobalRounds
 mod Configurations
-pub mod Lines
-pub mod Within
-pub mod AroundPlaces
+mod Lines
+mod Within
+mod AroundPlaces

@@ -1,3 +1,3 @@
-pub mod Lines
-pub mod Tables
-pub mod Comments
+mod Lines
+mod Tables
+mod Comments

@@ -1,5 +1,5 @@
 -- Lemmas that several proofs share.
-pub mod Programs
-pub mod JoinedEntries
-pub mod SharedFill
-pub mod Unknown
+mod Programs
+mod JoinedEntries
+mod SharedFill
+mod Unknown

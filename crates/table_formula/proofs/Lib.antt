@@ -1,23 +1,23 @@
-pub mod Truth
-pub mod ClauseLists
-pub mod CloseChannels
-pub mod Sizes
-pub mod Satisfied
-pub mod Numbered
-pub mod Models
-pub mod Mapped
-pub mod Exchanged
-pub mod Exact
-pub mod FormulaText
-pub mod Reading
-pub mod SoundSteps
-pub mod Sound
-pub mod Verdicts
-pub mod Splitting
-pub mod Numbers
-pub mod ItemLists
-pub mod HintSteps
-pub mod NotePieces
-pub mod PatternClauses
-pub mod PatternTruth
-pub mod ExchangedPatterns
+mod Truth
+mod ClauseLists
+mod CloseChannels
+mod Sizes
+mod Satisfied
+mod Numbered
+mod Models
+mod Mapped
+mod Exchanged
+mod Exact
+mod FormulaText
+mod Reading
+mod SoundSteps
+mod Sound
+mod Verdicts
+mod Splitting
+mod Numbers
+mod ItemLists
+mod HintSteps
+mod NotePieces
+mod PatternClauses
+mod PatternTruth
+mod ExchangedPatterns

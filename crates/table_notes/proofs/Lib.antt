@@ -1,1 +1,1 @@
-pub mod Joined
+mod Joined

@@ -7,7 +7,7 @@ use Rattle.table_text.specs.declared.version.Version.{Version}
 use Rattle.table_text.specs.declared.version.Version.TheVariants.{One, Two}
 use Rattle.table_text.specs.TableText.{title_then, counts_then, counts_end, distances_then, sizes_then}
 use Rattle.table_text.specs.LineForms.{AreSizes, IsSeparationOf, HasSizes, IsHead, HasShape}
-use Rattle.numerals.proofs.NumberTexts.{field_once}
+use Rattle.numerals.proofs.NumbersInTexts.{field_once}
 
 -- numbers below 2^32
 pub record Fit (rounds ids channels : ℕ) : Type 0 where

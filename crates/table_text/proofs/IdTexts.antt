@@ -4,7 +4,7 @@ use Rattle.std.specs.Prelude.{All}
 use Rattle.std.specs.Fmt.{decimal}
 use Rattle.std.proofs.lemmas.List.Elements.{All-head, All-tail}
 use Rattle.table_text.specs.TableText.{ids_then}
-use Rattle.numerals.proofs.NumberTexts.{number_once}
+use Rattle.numerals.proofs.NumbersInTexts.{number_once}
 
 -- a number below 2^32
 abbrev pub Fits32 : ℕ → Type 0

@@ -1,14 +1,15 @@
--- Lemmas that several proofs share.
-pub mod IdTexts
-pub mod Headers
-pub mod TableLines
-pub mod TablesOnce
-pub mod TextsApart
-pub mod WrittenLines
-pub mod PieceTexts
-pub mod FaultsOnce
-pub mod TextLimit
-pub mod Orders
-pub mod PrefixTexts
-pub mod Odometers
-pub mod RunLines
+-- Lemmas that several proofs share. Other crates cite those of TableTexts.
+mod IdTexts
+mod Headers
+mod TableLines
+mod TablesOnce
+mod TextsApart
+mod WrittenLines
+mod PieceTexts
+mod FaultsOnce
+mod TextLimit
+mod Orders
+mod PrefixTexts
+mod Odometers
+mod RunLines
+pub mod TableTexts

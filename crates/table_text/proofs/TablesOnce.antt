@@ -11,7 +11,7 @@ use Rattle.table_text.specs.TableText.{Written, ids_then, entry_then, entries_th
 use Rattle.table_text.specs.LineForms.{AreSizes, IsEntry, IsHead}
 use Rattle.table_text.specs.Texts.{IsBegunText, IsWritten}
 use Rattle.table_text.proofs.IdTexts.{Fits32, ids_once}
-use Rattle.numerals.proofs.NumberTexts.{field_once}
+use Rattle.numerals.proofs.NumbersInTexts.{field_once}
 use Rattle.table_text.proofs.Headers.{head_once}
 
 ids_same : (ids x y : List ℕ) → ids_then ids x ≡ ids_then ids y → x ≡ y

@@ -1,11 +1,12 @@
--- Lemmas that several proofs share.
-pub mod Known
-pub mod SameRun
-pub mod NextRuns
-pub mod ColumnStates
-pub mod IgnoredRight
-pub mod SeriesStates
-pub mod Fronts
-pub mod ItemLemmas
-pub mod CodeLemmas
-pub mod Writes
+-- Lemmas that several proofs share. Other crates cite those of KnownBlocks.
+mod Known
+mod SameRun
+mod NextRuns
+mod ColumnStates
+mod IgnoredRight
+mod SeriesStates
+mod Fronts
+mod ItemLemmas
+mod CodeLemmas
+mod Writes
+pub mod KnownBlocks

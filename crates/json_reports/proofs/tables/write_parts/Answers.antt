@@ -1,6 +1,5 @@
 use Rattle.std.proofs.Common.{◌++◌, ap, drop, refl, rules}
-use Rattle.devices.proofs.Known.{on_err}
-use Rattle.devices.proofs.WrittenChunks.{sends_all, tells_front, tells_none}
+use Rattle.devices.proofs.Writing.{on_err, sends_all, tells_front, tells_none}
 use Rattle.json_reports.specs.TableTexts.{rest_text}
 use Rattle.json_reports.proofs.tables.write_parts.Goals as goal
 

@@ -2,8 +2,7 @@ use Rattle.std.proofs.Common.{◌≡◌, ◌+◌, ◌-◌, ◌++◌, List, ℕ, 
 use Rattle.std.specs.List.{flat_map}
 use Rattle.std.proofs.lemmas.List.{take_all}
 use Rattle.devices.specs.Output.{IsWrittenSoFar}
-use Rattle.devices.proofs.Known.{on_err}
-use Rattle.devices.proofs.WrittenChunks.{sends_all, tells_more, tells_moved, tells_front}
+use Rattle.devices.proofs.Writing.{on_err, sends_all, tells_more, tells_moved, tells_front}
 use Rattle.json_reports.specs.TableTexts.{entry_text, rest_text}
 use Rattle.json_reports.proofs.EntryTexts.{text_join, text_rest}
 use Rattle.json_reports.proofs.tables.write_rest.Goals as goal

@@ -3,8 +3,7 @@ use Rattle.std.specs.List.{flat_map}
 use Rattle.std.proofs.lemmas.List.{take_all}
 use Rattle.std.proofs.lemmas.Option.{slice_get-get_or}
 use Rattle.devices.specs.Output.{IsWrittenSoFar}
-use Rattle.devices.proofs.Known.{on_err}
-use Rattle.devices.proofs.WrittenChunks.{tells_more, tells_moved, tells_front}
+use Rattle.devices.proofs.Writing.{on_err, tells_more, tells_moved, tells_front}
 use Rattle.table_formula.specs.declared.literal.Literal.{Literal}
 use Rattle.table_formula.specs.Texts.{literal_text, clause_text}
 use Rattle.table_formula.proofs.FormulaText.{text_more, text_rest}

@@ -2,8 +2,7 @@ use Rattle.std.proofs.Common.{◌+◌, ◌≤◌, ◌++◌, arith, length, take,
 use Rattle.std.specs.List.{flat_map}
 use Rattle.std.proofs.lemmas.List.{take_all}
 use Rattle.devices.specs.Output.{IsWrittenSoFar}
-use Rattle.devices.proofs.Known.{on_err}
-use Rattle.devices.proofs.WrittenChunks.{sends_all, tells_more, tells_moved, tells_front}
+use Rattle.devices.proofs.Writing.{on_err, sends_all, tells_more, tells_moved, tells_front}
 use Rattle.table_formula.specs.declared.literal.Literal.{Literal}
 use Rattle.table_formula.specs.Formula.{formula}
 use Rattle.table_formula.specs.Texts.{clause_text, head_text, clauses_text}

@@ -1,6 +1,5 @@
 use Rattle.std.proofs.Common.{◌++◌, refl, rules}
-use Rattle.devices.proofs.Known.{on_err}
-use Rattle.devices.proofs.WrittenChunks.{sends_all, tells_front, tells_none}
+use Rattle.devices.proofs.Writing.{on_err, sends_all, tells_front, tells_none}
 use Rattle.table_formula.specs.Texts.{clauses_text}
 use Rattle.table_formula.proofs.text.write_lines.Goals as goal
 

@@ -1,5 +1,5 @@
 use Rattle.std.proofs.Common.{sym, ◌∙◌}
-use Rattle.numerals.proofs.Options.{IfNone_then}
+use Rattle.numerals.proofs.NumbersInTexts.{IfNone_then}
 use Rattle.table_text.proofs.IdTexts.{ids_once}
 use Rattle.table_text.proofs.lines.entry.Goals as goal
 

@@ -1,6 +1,6 @@
 use Rattle.std.proofs.Common.{sym, ◌∙◌, arith}
 use Rattle.std.specs.Prelude.{codes}
-use Rattle.numerals.proofs.NumberTexts.{field_once}
+use Rattle.numerals.proofs.NumbersInTexts.{field_once}
 use Rattle.table_text.proofs.lines.three_counts.Goals as goal
 
 pub returns-in_err-ids-clause-none : goal.returns-in_err-ids-clause-none

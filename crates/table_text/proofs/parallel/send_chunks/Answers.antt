@@ -2,8 +2,7 @@ use Rattle.std.proofs.Common.{◌≡◌, ℕ, ◌+◌, ◌<◌, List, ◌∷◌,
 use Rattle.std.specs.Prelude.{flat_map}
 use Rattle.std.proofs.lemmas.List.{drop_more}
 use Rattle.std.proofs.lemmas.List.Concat.{flat_map-append}
-use Rattle.devices.proofs.Known.{on_err}
-use Rattle.devices.proofs.WrittenChunks.{tells_front}
+use Rattle.devices.proofs.Writing.{on_err, tells_front}
 use Rattle.table_text.proofs.parallel.send_chunks.Goals as goal
 
 -- the bytes of the first chunks, of one more, and of the others

@@ -4,8 +4,7 @@ use Rattle.std.specs.Io.KnownBytes.{Appends}
 use Rattle.std.proofs.Math.Nat.{suc-mul}
 use Rattle.std.proofs.KnownBytes.{Appends-trans}
 use Rattle.channel_tables.specs.Tables.{ChannelTable, windows_of}
-use Rattle.devices.proofs.Known.{on_err}
-use Rattle.devices.proofs.WrittenChunks.{sends_all, tells_front}
+use Rattle.devices.proofs.Writing.{on_err, sends_all, tells_front}
 use Rattle.table_text.specs.TableText.{entries_then, end_then}
 use Rattle.table_text.specs.declared.parallel.TheConstants.{CHUNKS}
 use Rattle.table_text.specs.Sections.{lines_from, AreFilled}

@@ -1,7 +1,7 @@
 use Rattle.std.proofs.Common.{◌≡◌, [], ◌++◌, refl, ap, ◌∙◌, subst, rules, append-nil}
 use Rattle.std.specs.Io.KnownBytes.{Appends}
 use Rattle.std.proofs.KnownBytes.{Appends-trans}
-use Rattle.devices.proofs.WrittenChunks.{tells_front, tells_none}
+use Rattle.devices.proofs.Writing.{tells_front, tells_none}
 use Rattle.channel_tables.specs.Tables.{ChannelTable, windows_of}
 use Rattle.table_text.specs.TableText.{entries_then, end_then}
 use Rattle.table_text.proofs.WrittenLines.{whole_text}

@@ -13,9 +13,8 @@ use Rattle.table_text.specs.Sections.{lines_from, Shows}
 use Rattle.table_text.proofs.TextsApart.{lines_append}
 use Rattle.table_text.proofs.WrittenLines.{front_of, section_more, sections_all, lines_front}
 use Rattle.devices.specs.Output.{IsWrittenSoFar}
-use Rattle.devices.proofs.Known.{on_err}
-use Rattle.devices.proofs.WrittenChunks.{sends_all, tells_more, tells_moved, tells_front}
 use Rattle.devices.specs.Watched.{device_of}
+use Rattle.devices.proofs.Writing.{on_err, sends_all, tells_more, tells_moved, tells_front}
 use Rattle.table_text.proofs.writing.write_lines.Given.{Over}
 use Rattle.table_text.proofs.writing.write_lines.Goals.{After-send}
 use Rattle.table_text.proofs.writing.write_lines.Goals as goal

@@ -1,5 +1,5 @@
 use Rattle.std.proofs.Common.{◌+◌, ◌++◌, map, drop, string_bytes, append_assoc, sym, ap, ◌∙◌}
-use Rattle.node_lang.proofs.Writing.{next_item}
+use Rattle.node_lang.proofs.Texts.{next_item}
 use Rattle.value_trees.specs.ValueTrees.{tree_value}
 use Rattle.value_trees.specs.ToldTrees.{told_tree, told_trees}
 use Rattle.value_trees.proofs.explanation.write_trees.Goals as goal

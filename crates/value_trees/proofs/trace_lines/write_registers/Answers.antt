@@ -1,5 +1,5 @@
 use Rattle.std.proofs.Common.{append_assoc}
-use Rattle.node_lang.proofs.Writing.{next_item}
+use Rattle.node_lang.proofs.Texts.{next_item}
 use Rattle.value_trees.proofs.trace_lines.write_registers.Goals as goal
 
 -- One more line was written.

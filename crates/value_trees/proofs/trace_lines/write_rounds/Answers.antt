@@ -1,5 +1,5 @@
 use Rattle.std.proofs.Common.{◌+◌, ◌++◌, map, drop, string_bytes, append_assoc, sym, ap, ◌∙◌}
-use Rattle.node_lang.proofs.Writing.{next_item}
+use Rattle.node_lang.proofs.Texts.{next_item}
 use Rattle.value_trees.specs.Rows.{rows_of_round}
 use Rattle.value_trees.specs.Trace.{told_round, told_rounds}
 use Rattle.value_trees.proofs.trace_lines.write_rounds.Goals as goal

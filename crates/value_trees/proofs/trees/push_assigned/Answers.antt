@@ -1,7 +1,7 @@
 use Rattle.std.proofs.Common.{◌+◌, ◌++◌, map, drop, ap, sym, ◌∙◌}
 use Rattle.node_program.specs.Term.{term_of}
 use Rattle.node_program.specs.Value.{env_of}
-use Rattle.node_lang.proofs.Writing.{next_item}
+use Rattle.node_lang.proofs.Texts.{next_item}
 use Rattle.value_trees.specs.declared.trees.Given.TheVariants.{Register}
 use Rattle.value_trees.specs.ValueTrees.{tree_at, assigned_trees, tree_value}
 use Rattle.value_trees.proofs.Rows.{pushed_left}

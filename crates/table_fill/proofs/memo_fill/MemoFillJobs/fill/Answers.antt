@@ -7,7 +7,7 @@ use Rattle.round_eval.specs.Entries.{Entries, Grows}
 use Rattle.win_index.specs.Jobs.{jobs_of}
 use Rattle.win_index.specs.Laws.{JobsStandAtNumbers}
 use Rattle.shared_memo.specs.PlanJobs.{job_of}
-use Rattle.unroll.proofs.Known.{still_known}
+use Rattle.unroll.proofs.KnownBlocks.{still_known}
 use Rattle.shared_memo.specs.Filled.{AreKnown}
 use Rattle.shared_memo.specs.Passes.{known}
 use Rattle.shared_memo.specs.Tickets.{drawn}
