@@ -1,5 +1,5 @@
 """The lemmas of a crate that proofs of other crates may cite: those of its interface, the one file of proofs/ that proofs/Lib.antt makes
-public. Of a crate that makes several files public none may be cited. tools/inventory compares the imports with the interfaces and prints
+public. Of a crate that makes several files public none may be cited. checks/inventory compares the imports with the interfaces and prints
 these."""
 
 import itertools

@@ -121,10 +121,16 @@ impl<'a> Met<'a> {
         let is_assigned = matches!(self.expected, This(Token::Register(_)))
             && matches!(self.word(1), [b'=' | b'(' | b'[']);
         let has_register = matches!(self.token(1), Some(Token::Register(_)));
+        if self.goes_on_comment() {
+            return beside("; each line of a comment begins with `#`");
+        }
         if let Some(told) = row_of(&WORDS, self.word(0)) {
             return alone(told);
         }
+        let is_alone = begins_line(self.tokens, after(self.number, 1));
         first! {
+            self.expected == This(Token::Round) && is_one_of("end End END done", self.word(0)) => alone("; no word ends a block: the next line begins what follows");
+            self.expected == This(Token::Equals) && is_alone => alone("; an assignment is written `r0 = ..`, as in `r0 = r0` where it stays");
             place == Place::Line && has_register => None;
             place == Place::Before => self.on_value();
             place == Place::Behind => without("; one expression is written here, and a comment begins with `#`");
@@ -132,6 +138,30 @@ impl<'a> Met<'a> {
             is_assigned => beside("; registers are `r0` to `r7`, and have no other names");
             else self.expectation()
         }
+    }
+
+    // Returns whether the token is a register that was met before, but does not begin an assignment that is doubled.
+    fn is_second(self) -> bool {
+        let Some(Token::Register(register)) = self.token(0) else {
+            return false;
+        };
+        let (from, end) = (
+            start_of(self.tokens, self.number),
+            operand_end(self.tokens, after(self.number, 2)),
+        );
+        let assigned = text_of(self.tokens, self.number, end);
+        has_before(self.tokens, self.number, Token::Register(register))
+            && !part(self.tokens.text, 0, from)
+                .trim_ascii_end()
+                .ends_with(assigned)
+    }
+
+    // Returns whether the token begins the text but for a comment before it.
+    fn goes_on_comment(self) -> bool {
+        let front = part(self.tokens.text, 0, start_of(self.tokens, 0));
+        self.number == 0
+            && front.contains(&b'#')
+            && !matches!(self.token(1), Some(Token::Number(_)))
     }
 
     // Returns the fact on a word that is no expression.
@@ -244,6 +274,7 @@ impl<'a> Met<'a> {
             is_open && is_behind && last == Some(Token::Id) => alone("; `id` is the identifier of the node, and no operation");
             is_open && is_behind => beside("; no bracket follows a number, a register, `id`, `L` or `R`");
             has_arity => self.arity();
+            is_behind && expected == Expected::End => without("; `finish` has one expression, which ends the program");
             is_behind && begins_operand(tokens, self.number) => without(BEHIND);
             is_expression && self.hides_comment() => beside("; what follows `#` on a line is a comment");
             is_expression && !begins_line(tokens, self.number) => about(Told::Without, "; `{}` has no value", self.word(0));
@@ -323,17 +354,27 @@ impl<'a> Met<'a> {
         let is_sent = matches!(met, Some(Token::Register(_) | Token::Number(_)));
         let is_early = met == Some(Token::Send) && (is_register || expected == This(Token::Round));
         let is_side = expected == This(Token::Left);
+        let is_numbered = self.last() == Some(Token::Round)
+            && matches!(met, Some(Token::Number(_)));
+        let is_second = self.is_second();
+        let counts_from_1 = expected == This(Token::Register(0))
+            && met == Some(Token::Register(1))
+            && !has_before(self.tokens, self.tokens.all.len(), Token::Register(0));
         let sends = matches!(expected, This(Token::Send | Token::Left | Token::Right));
         first! {
             is_early && !is_round => beside("; messages are sent only in rounds");
+            is_counted && expected == This(Token::Round) => beside("; there are as many rounds as `rounds` says: write the missing ones if that is right");
             is_counted => beside("; there are as many rounds as `rounds` says");
+            is_numbered => beside("; rounds have no numbers");
             is_side && met == Some(Token::Right) => beside("; `send left` comes first, then `send right`");
             is_side && is_sent => beside(SIDES);
             sends => without("; a round begins with `send left ..` and `send right ..`");
             is_value && self.token(1) == Some(Token::Equals) => alone("; only registers are assigned: a value is sent by `send left` and `send right`");
             is_choice => beside("; one expression is assigned to each register, as in `r0 = if(c, a, b)`");
+            counts_from_1 => alone("; registers are `r0` to `r7`");
             is_register && is_round => beside("; each register is assigned once, in order, as in `r0 = r0` where it stays");
             is_register => beside("; each register is assigned once, in order");
+            is_second => alone("; each register is assigned once in a block, by one expression");
             matches!(met, Some(Token::Register(_))) => beside("; each register is assigned once, and `registers` says how many there are");
             expected == This(Token::Finish) => without("; each register is assigned once, then comes `finish`");
             else None

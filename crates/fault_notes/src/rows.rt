@@ -73,7 +73,7 @@ pub(crate) const WORDS: [(&str, &str); 19] = rows! {
     "wait sync synchronize barrier" => "; all nodes do each round at once: nothing waits";
     "receive received receives recv listen get message messages msg" => SENT;
     "neighbor neighbour neighbors neighbours nbr parent child" => SENT;
-    "broadcast" => SIDES;
+    "broadcast both" => SIDES;
     "mul times mult multiply product" => PRODUCT;
     "div divide quotient" => QUOTIENT;
     "mod rem modulo" => REMAINDER;
@@ -88,7 +88,7 @@ pub(crate) const WORDS: [(&str, &str); 19] = rows! {
 };
 
 /// Facts on words in an expression.
-pub(crate) const VALUES: [(&str, (Told, &str)); 17] = rows! {
+pub(crate) const VALUES: [(&str, (Told, &str)); 18] = rows! {
     "m n t T M N delta degree deg size count" => Told::Alone, "; there is no word for the number of rounds, of nodes or of identifiers";
     "len length log log2 msb clz" => Told::Alone, "; there is no word for the number of nodes or of bits: compare with powers of 2, as in `le(4, x)`";
     "lsb ctz ffs" => Told::Alone, "; the least index of a bit that is 1 in x is `ldb(x, 0)`";
@@ -96,7 +96,8 @@ pub(crate) const VALUES: [(&str, (Told, &str)); 17] = rows! {
     "LL RR LR RL" => Told::Alone, "; what is farther away than the neighbours takes one more round";
     "old" => Told::Alone, "; a round reads the registers from before it: the old value of r0 is `r0`";
     "let where" => Told::Alone, "; values have no names: an expression is written out wherever it is read";
-    "input place position pos index" => Told::Alone, OWN;
+    "input" => Told::Alone, OWN;
+    "place position pos index" => Told::Alone, "; a node knows no place, only its identifier, which `start` reads as `id`";
     "ids near far" => Told::Alone, "; this is an option of the commands, as in `nbhd judge --ids 8 --near 2`";
     "implies" => Told::Alone, "; for 0 and 1, write `le(a, b)`";
     "left Left LEFT l prev pred previous fromLeft msgL" => Told::Beside, LEFT;

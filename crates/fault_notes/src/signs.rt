@@ -19,7 +19,7 @@ const DASH: &str = "; this is a dash or a blank that is not ASCII";
 const WIDE: &str = "; this is a sign of full width";
 
 // Signs over 127.
-const SIGNS: [Sign; 31] = signs! {
+const SIGNS: [Sign; 32] = signs! {
     "\u{a0}" => b" ", BLANK;
     "\u{202f}" => b" ", BLANK;
     "\u{200b}" => b"", DASH;
@@ -48,6 +48,7 @@ const SIGNS: [Sign; 31] = signs! {
     "\u{22c5}" => b"*", PRODUCT;
     "\u{f7}" => b"/", QUOTIENT;
     "\u{b2}" => b"**2", POWER;
+    "\u{fb01}" => b"fi", "; this is one sign for the letters fi";
     "\u{ff08}" => b"(", WIDE;
     "\u{ff09}" => b")", WIDE;
     "\u{ff0c}" => b",", WIDE;
