@@ -459,7 +459,6 @@ NOTED = [
     ("execute --ids 8", "run"),
     ("show --ids 8", "print"),
     ("formula --ids 8 --rounds 1 --channels 3 cv1.txt", "reads"),
-    ("explain C4", "docs/FAULTS.md"),
     ("check --ids 8 < cv1.txt", "shell"),
     ("./nbhd judge --ids 8", "twice"),
     ("trace --ids 8 --ring 5,1,3,7 2", "each number is the value of an option"),
