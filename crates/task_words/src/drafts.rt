@@ -30,6 +30,10 @@ const RING_FOR_IDS: Fact = Fact::Text(
 
 const FIRST: Fact = Fact::Text("the name of a command comes first, as in `nbhd check --ids 8`");
 
+const ONE_WORD: Fact = Fact::Text(
+    "quotes around all words make them one word: leave out the quotes",
+);
+
 /// An option and the text that was given as its value.
 #[derive(Drop)]
 pub(crate) struct Given {
@@ -91,6 +95,7 @@ pub(crate) fn fact_without_command(words: &[String]) -> Option<Fact> {
         },
         None if begins_with_digit(first) || first.is_empty() => Some(FIRST),
         None if first.contains('.') => Some(FILE),
+        None if first.contains(' ') => Some(ONE_WORD),
         None => None,
     }
 }

@@ -5,9 +5,12 @@ use crate::option_rows::{FAR, NEAR, OptionRow, Values};
 use std::alloc::AllocError;
 use std::fmt::Write;
 
-// Writes the list that was probably meant, and returns whether the text is a list of numbers.
+// Writes the list that was probably meant, and returns whether the text is one list of numbers.
 fn write_list(out: &mut String, text: &str) -> Result<bool, AllocError> {
     let mut is_list = false;
+    if text.contains(',') && (text.contains('/') || text.contains(';')) {
+        return Ok(false);
+    }
     for part in text.split(is_separator) {
         let part = part.trim_matches(is_around).trim_end_matches('-');
         if !part.is_empty() {
