@@ -4,13 +4,35 @@ use node_program::MAX_CHANNELS;
 use numerals::field;
 use win_index::MAX_ROUNDS;
 
-const CHANNELS: &str = "; `channels` is 1 to 4096";
+// A number of the line: its name, its range, and what is said where it is missing, where the line ends behind it, and where
+// it is out of its range.
+#[derive(Clone, Copy)]
+struct Field {
+    name: &'static [u8],
+    low: u32,
+    high: u32,
+    missing: &'static str,
+    ended: &'static str,
+    range: &'static str,
+}
 
-const SECOND: &str = "; `ids` and a number come second";
+// Rows of numbers.
+macro_rules! fields {
+    ($($name:literal $low:literal to $high:expr => $missing:literal, $ended:literal, $range:literal;)+) => {
+        [$(Field { name: $name, low: $low, high: $high, missing: $missing, ended: $ended, range: $range }),+]
+    };
+}
 
-const THIRD: &str = "; `channels` and a number come third";
+const FIRST: [Field; 3] = fields! {
+    b"rounds " 0 to MAX_ROUNDS => "; it begins with `rounds` and a number", "; `ids` and a number come second, in this line", "; `rounds` is 0 to 4";
+    b"ids " 0 to u32::MAX => "; `ids` and a number come second", "; `channels` and a number come third, in this line", "";
+    b"channels " 1 to MAX_CHANNELS => "; `channels` and a number come third", "; version 2 has `near` and `far` in this line", "; `channels` is 1 to 4096";
+};
 
-const LAST: &str = "; `far` and a number come last";
+const LAST: [Field; 2] = fields! {
+    b"near " 1 to MAX_CHANNELS => "; `near` and a number come fourth", "; `far` and a number come last, in this line", "; `near` is 1 to 4096";
+    b"far " 0 to MAX_CHANNELS => "; `far` and a number come last", "", "; `far` is 0 to 4096";
+};
 
 const MISFIT: &str =
     "; the numbers of this line do not fit one another: 0 rounds take 2 to 1024 `ids`, \
@@ -19,68 +41,35 @@ const MISFIT: &str =
 // Returns advice on the second line of a text of version 1, or else of version 2, which does not
 // have its form. The text is given from that line on.
 pub(crate) fn header_advice(is_first_version: bool, rest: &[u8]) -> &'static str {
-    let Some((rounds, rest)) = field(rest, b"rounds ", b' ') else {
-        return match field(rest, b"rounds ", b'\n') {
-            Some(_) => "; `ids` and a number come second, in this line",
-            None => "; it begins with `rounds` and a number",
-        };
-    };
-    let Some((_, rest)) = field(rest, b"ids ", b' ') else {
-        return match field(rest, b"ids ", b'\n') {
-            Some(_) => "; `channels` and a number come third, in this line",
-            None => SECOND,
-        };
-    };
-    if rounds > MAX_ROUNDS {
-        return "; `rounds` is 0 to 4";
+    match fields_advice(&FIRST, is_first_version, rest) {
+        Ok(_) if is_first_version => "; version 1 ends this line with `channels` and its number",
+        Ok(rest) => fields_advice(&LAST, true, rest)
+            .err()
+            .unwrap_or("; `far` and a number come last"),
+        Err(advice) => advice,
     }
-    if is_first_version {
-        return first_advice(rest);
-    }
-    second_advice(rest)
 }
 
-// Returns advice on what follows the number of identifiers in version 1.
-fn first_advice(rest: &[u8]) -> &'static str {
-    if let Some((channels, _)) = field(rest, b"channels ", b'\n') {
-        return channels_advice(channels);
+// Returns the text behind these numbers, or advice on the first one that does not stand there; they may be the last ones of
+// the line.
+fn fields_advice<'a>(
+    fields: &[Field],
+    are_last: bool,
+    text: &'a [u8],
+) -> Result<&'a [u8], &'static str> {
+    let mut rest = text;
+    let mut left = fields.len();
+    for row in fields {
+        left = left.saturating_sub(1);
+        let ended = field(rest, row.name, b'\n');
+        let found = field(rest, row.name, b' ').or(ended);
+        match found {
+            None => return Err(row.missing),
+            Some((number, _)) if number < row.low || number > row.high => return Err(row.range),
+            Some(_) if ended.is_some() && are_last && left == 0 => return Err(MISFIT),
+            Some(_) if ended.is_some() => return Err(row.ended),
+            Some((_, behind)) => rest = behind,
+        }
     }
-    if field(rest, b"channels ", b' ').is_some() {
-        return "; version 1 ends this line with `channels` and its number";
-    }
-    THIRD
-}
-
-// Returns advice on what follows the number of identifiers in version 2.
-fn second_advice(rest: &[u8]) -> &'static str {
-    if field(rest, b"channels ", b'\n').is_some() {
-        return "; version 2 has `near` and `far` in this line";
-    }
-    let Some((channels, rest)) = field(rest, b"channels ", b' ') else {
-        return THIRD;
-    };
-    let Some((near, rest)) = field(rest, b"near ", b' ') else {
-        return match field(rest, b"near ", b'\n') {
-            Some(_) => "; `far` and a number come last, in this line",
-            None => "; `near` and a number come fourth",
-        };
-    };
-    let Some((far, _)) = field(rest, b"far ", b'\n') else {
-        return LAST;
-    };
-    if near == 0 || near > MAX_CHANNELS {
-        return "; `near` is 1 to 4096";
-    }
-    if far > MAX_CHANNELS {
-        return "; `far` is 0 to 4096";
-    }
-    channels_advice(channels)
-}
-
-// Returns advice on a line that has its words, by its number of channels.
-fn channels_advice(channels: u32) -> &'static str {
-    if channels == 0 || channels > MAX_CHANNELS {
-        return CHANNELS;
-    }
-    MISFIT
+    Ok(rest)
 }

@@ -2,6 +2,7 @@
 #![tactic(auto)]
 
 mod headers;
+mod lines;
 mod patterns;
 mod rings;
 mod tables;
