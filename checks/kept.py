@@ -76,7 +76,7 @@ class Refusals:
 
     def __init__(self, keys):
         self.keys = keys
-        self.judge = b"".join((ROOT / "tools" / name).read_bytes() for name in JUDGES)
+        self.judge = b"".join((ROOT / "checks" / name).read_bytes() for name in JUDGES)
         with contextlib.suppress(OSError):
             CACHE.mkdir(parents=True, exist_ok=True)
             for path in CACHE.iterdir():
