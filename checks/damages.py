@@ -31,7 +31,7 @@ DAMAGES = [
     (
         "the condition of an error has a case that is always true",
         "table_formula refute",
-        "crates/table_formula/src/refuting.rt",
+        "crates/table_formula/src/refutation.rt",
         "IfErr result (IsFault formula.now text.now)",
         "IfErr result (λ f. IsFault formula.now text.now f ⊎ (f ≡ f))",
     ),

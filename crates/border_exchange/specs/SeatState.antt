@@ -1,8 +1,8 @@
 -- Seats.
 use Rattle.std.specs.Prelude.{◌≡◌, ℕ}
 use Rattle.border_exchange.specs.declared.Side.{Side}
-use Rattle.border_exchange.specs.declared.fault.PutFault.{PutFault}
-use Rattle.border_exchange.specs.declared.fault.PutFault.TheVariants.{Closed, Misplaced, OutOfMemory}
+use Rattle.border_exchange.specs.declared.border.fault.PutFault.{PutFault}
+use Rattle.border_exchange.specs.declared.border.fault.PutFault.TheVariants.{Closed, Misplaced, OutOfMemory}
 
 -- the side on which a seat puts, and the number of its puts
 pub record SeatState : Type 0 where

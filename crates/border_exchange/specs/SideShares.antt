@@ -2,8 +2,8 @@
 use Rattle.std.specs.Prelude.{ℕ}
 use Rattle.border_exchange.specs.declared.Side.{Side}
 use Rattle.border_exchange.specs.declared.Side.TheVariants.{Rightward as to_right, Leftward as to_left}
-use Rattle.border_exchange.specs.declared.seat.SideShare.{SideShare}
-use Rattle.border_exchange.specs.declared.seat.SideShare.TheVariants.{Rightward, Leftward}
+use Rattle.border_exchange.specs.declared.border.seat.SideShare.{SideShare}
+use Rattle.border_exchange.specs.declared.border.seat.SideShare.TheVariants.{Rightward, Leftward}
 
 -- the side of a share
 abbrev pub side_of_share : {R L : Type 0} → SideShare R L → Side

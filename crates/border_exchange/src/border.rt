@@ -4,8 +4,14 @@ ghost use Rattle.border_exchange.specs.InRounds.{AreInRounds};
 ghost use Rattle.border_exchange.specs.SeatState.{IsNext, IsPutFault};
 ghost use Rattle.border_exchange.specs.declared.Side.TheVariants.{Rightward, Leftward};
 
-use crate::lists::BorderLists;
-use crate::seat::Seat;
+pub(crate) mod fault;
+pub(crate) mod lists;
+pub(crate) mod seat;
+pub(crate) mod side_list;
+pub(crate) mod totals;
+
+use crate::border::lists::BorderLists;
+use crate::border::seat::Seat;
 use crate::{Dated, PutFault, Side, Totals};
 use node_program::OutOfMemory;
 use std::alloc::Global;

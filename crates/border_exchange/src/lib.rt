@@ -6,24 +6,17 @@
 ghost use Rattle.std.specs.Prelude.{◌≡◌, ℕ};
 
 mod border;
-mod fault;
-mod laws;
-mod limits;
-mod lists;
 mod message;
-mod seat;
 mod segment;
-mod side_list;
-mod totals;
 
 pub use border::Border;
-pub use fault::PutFault;
-pub use laws::segments_cover_the_ring;
-pub use limits::MAX_SEGMENTS;
+pub use border::fault::PutFault;
+pub use border::seat::Seat;
+pub use border::totals::Totals;
 pub use message::Msg;
-pub use seat::Seat;
+pub use segment::laws::segments_cover_the_ring;
+pub use segment::limits::MAX_SEGMENTS;
 pub use segment::{Segment, Strange};
-pub use totals::Totals;
 
 /// The side to which a message is sent.
 #[derive(Clone, Copy, Debug, PartialEq, Eq, Drop)]

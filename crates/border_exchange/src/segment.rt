@@ -5,6 +5,9 @@ ghost use Rattle.round_eval.specs.Rows.{rows};
 ghost use Rattle.round_eval.specs.Shapes.{IsOfShape};
 ghost use Rattle.border_exchange.specs.Segments.{RingSegment, places_of, states_of};
 
+pub(crate) mod laws;
+pub(crate) mod limits;
+
 use crate::Side;
 use crate::message::Msg;
 use lang_check::Plan;

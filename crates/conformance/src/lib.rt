@@ -23,11 +23,11 @@ mod gates;
 #[cfg(test)]
 mod hold;
 #[cfg(test)]
+mod judged_parts;
+#[cfg(test)]
 mod memo;
 #[cfg(test)]
 mod operations;
-#[cfg(test)]
-mod parts;
 #[cfg(test)]
 mod plain_runs;
 #[cfg(test)]

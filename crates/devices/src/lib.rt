@@ -5,5 +5,5 @@ pub mod chunk;
 pub mod fault;
 pub mod input;
 pub mod output;
-pub mod part;
+pub mod prefix;
 pub mod watched;

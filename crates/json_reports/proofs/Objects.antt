@@ -15,7 +15,7 @@ use Rattle.reports.specs.declared.finding.Answer.TheVariants as answer
 use Rattle.ring_problems.specs.declared.pattern.Entry.{Entry}
 use Rattle.ring_problems.specs.declared.pattern.Entry.TheVariants as entry
 use Rattle.ring_problems.specs.declared.pattern.Pattern.{Pattern}
-use Rattle.table_formula.specs.declared.fault.RefuteError.TheVariants as refute
+use Rattle.table_formula.specs.declared.refutation.fault.RefuteError.TheVariants as refute
 use Rattle.table_text.specs.declared.fault.TableFault.TheVariants as table
 use Rattle.value_trees.specs.Rows.{RoundRows, trace_rows}
 use Rattle.value_trees.specs.ValueTrees.{ValuedPart, ValueTree, value_trees}

@@ -17,7 +17,7 @@ use Rattle.ring_problems.specs.declared.pattern.Entry.TheVariants as entry
 use Rattle.ring_problems.specs.declared.pattern.Pattern.{Pattern}
 use Rattle.source_places.specs.Places.{column, line_number}
 use Rattle.table_formula.specs.Texts.{formula_text}
-use Rattle.table_formula.specs.declared.fault.RefuteError.TheVariants as refute
+use Rattle.table_formula.specs.declared.refutation.fault.RefuteError.TheVariants as refute
 use Rattle.table_text.specs.declared.fault.TableFault.{TableFault}
 use Rattle.table_text.specs.declared.fault.TableFault.TheVariants as table
 use Rattle.value_trees.specs.Rows.{RoundRows, TraceRows, trace_rows}

@@ -5,8 +5,8 @@ use Rattle.std.proofs.lemmas.Bool.{cases_eq, cases_lt}
 use Rattle.std.proofs.lemmas.Nat.Bits.{bit_at_and, bit_at_or, bit_at-lt, bit_at-zero, bit_at_clear_other, bit_at_set_same}
 use Rattle.std.specs.Int.{bit_at, bit_not}
 use Rattle.nbhd_check.specs.Masks.{HasBit}
-use Rattle.nbhd_check.specs.declared.words.Words.{Words}
-use Rattle.nbhd_check.specs.Words.{HasWords}
+use Rattle.nbhd_check.specs.declared.channel_sets.Words.{Words}
+use Rattle.nbhd_check.specs.ChannelSets.{HasWords}
 
 -- a bit of one of two sets is a bit of both together
 pub of_first : (a b bit : ℕ) → bit_at a bit ≡ 1 → bit_at (bit_or a b) bit ≡ 1

@@ -19,10 +19,10 @@ use Rattle.ring_problems.specs.TupleLists.{IsTuple, per_pair}
 use Rattle.ring_problems.proofs.Problems.{forbidden_along, third_in_run, by_test, short_extra, tuple_parts}
 use Rattle.nbhd_check.specs.ChannelsBefore.{AreBefore}
 use Rattle.nbhd_check.specs.declared.near.SecondRuns.{SecondRuns}
-use Rattle.nbhd_check.specs.declared.words.Words.{Words}
+use Rattle.nbhd_check.specs.declared.channel_sets.Words.{Words}
 use Rattle.nbhd_check.specs.Masks.{HasBit, HasBitsOf}
 use Rattle.nbhd_check.specs.PatternBits.{AreBits, cell_of}
-use Rattle.nbhd_check.specs.Words.{HasWords}
+use Rattle.nbhd_check.specs.ChannelSets.{HasWords}
 use Rattle.nbhd_check.specs.PatternSearch.{AreBroken, BeginsForbidden, IsFirstClear, IsFreeBefore, IsPairClear, IsSecondClear}
 use Rattle.nbhd_check.specs.MiddleRuns.{AreNextRuns, in_run}
 use Rattle.nbhd_check.specs.Runs.{AreFree, second_gap, second_run, wide}

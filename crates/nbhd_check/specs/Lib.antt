@@ -2,7 +2,7 @@
 -- two, and the verdicts of the judge.
 pub mod Runs
 pub mod Masks
-pub mod Words
+pub mod ChannelSets
 pub mod PatternBits
 pub mod MiddleRuns
 pub mod ChannelsBefore

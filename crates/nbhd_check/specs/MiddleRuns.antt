@@ -5,7 +5,7 @@ use Rattle.channel_tables.specs.Tables.{ChannelTable, windows_of}
 use Rattle.nbhd_check.specs.declared.middle_runs.MiddleRun.{MiddleRun}
 use Rattle.nbhd_check.specs.declared.near.SecondRuns.{SecondRuns}
 use Rattle.nbhd_check.specs.Runs.{second_gap, second_run, wide}
-use Rattle.nbhd_check.specs.Words.{HasWords}
+use Rattle.nbhd_check.specs.ChannelSets.{HasWords}
 
 -- of the channels of all windows those of a run
 abbrev pub in_run : ChannelTable → List ℕ → ℕ → List ℕ

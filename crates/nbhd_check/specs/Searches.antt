@@ -1,4 +1,4 @@
--- The searches of the judge, unit by unit: a unit is a run, but for counts the windows whose third windows are in one
+-- The searches of the judge, piece by piece: a piece is a run, but for counts the windows whose third windows are in one
 -- family, and for patterns the windows whose second windows are in one run.
 use Rattle.std.specs.Prelude.{◌≡◌, ℕ, ◌+◌, ◌*◌, ◌<◌, ◌≤◌, List, length, drop, slice_get, Some}
 use Rattle.win_index.specs.Windows.{windows}
@@ -27,22 +27,22 @@ IsBad (Patterns s) = BeginsForbidden s.now.table.now s.now.problem.now
 abbrev pub IsInRun : ChannelTable → ℕ → ℕ → Type 0
 IsInRun t run number = (run * wide t ≤ number) × (number < run * wide t + wide t)
 
--- the window with this number is in the unit with this number
-abbrev pub IsInUnit : Search → ℕ → ℕ → List ℕ → Type 0
-IsInUnit (Near s) unit number window = IsInRun s.now.table.now unit number
-IsInUnit (FarMasks s) unit number window = IsInRun s.now.table.now unit number
-IsInUnit (FarCounts s) unit number window = slice_get (shared_lists s.table.now) unit ≡ Some (drop 2 window)
-IsInUnit (Patterns s) unit number window = slice_get (windows (2 * s.now.table.now.rounds) s.now.table.now.ids) unit ≡ Some (drop 1 window)
+-- the window with this number is in the piece with this number
+abbrev pub IsInPiece : Search → ℕ → ℕ → List ℕ → Type 0
+IsInPiece (Near s) piece number window = IsInRun s.now.table.now piece number
+IsInPiece (FarMasks s) piece number window = IsInRun s.now.table.now piece number
+IsInPiece (FarCounts s) piece number window = slice_get (shared_lists s.table.now) piece ≡ Some (drop 2 window)
+IsInPiece (Patterns s) piece number window = slice_get (windows (2 * s.now.table.now.rounds) s.now.table.now.ids) piece ≡ Some (drop 1 window)
 
--- the search has at least so many units
-abbrev pub HasUnits : Search → ℕ → Type 0
-HasUnits (Near s) count = count * wide s.now.table.now ≤ length (windows_of s.now.table.now)
-HasUnits (FarMasks s) count = count * wide s.now.table.now ≤ length (windows_of s.now.table.now)
-HasUnits (FarCounts s) count = count ≤ length (shared_lists s.table.now)
-HasUnits (Patterns s) count = count * wide s.now.table.now ≤ length (windows_of s.now.table.now)
+-- the search has at least so many pieces
+abbrev pub HasPieces : Search → ℕ → Type 0
+HasPieces (Near s) count = count * wide s.now.table.now ≤ length (windows_of s.now.table.now)
+HasPieces (FarMasks s) count = count * wide s.now.table.now ≤ length (windows_of s.now.table.now)
+HasPieces (FarCounts s) count = count ≤ length (shared_lists s.table.now)
+HasPieces (Patterns s) count = count * wide s.now.table.now ≤ length (windows_of s.now.table.now)
 
--- none of the windows below `least` in a unit from low on and below high is bad
+-- none of the windows below `least` in a piece from low on and below high is bad
 abbrev pub AreFreeIn : Search → ℕ → ℕ → ℕ → Type 0
 AreFreeIn s least low high =
-    (unit number : ℕ) (window : List ℕ) → low ≤ unit → unit < high → IsInUnit s unit number window
+    (piece number : ℕ) (window : List ℕ) → low ≤ piece → piece < high → IsInPiece s piece number window
     → number < least → slice_get (windows_of (searched s)) number ≡ Some window → ¬ IsBad s window

@@ -3,6 +3,7 @@
 #![tactic(auto)]
 
 mod before;
+mod channel_sets;
 mod counts;
 mod far;
 mod far_counts;
@@ -21,7 +22,6 @@ mod problem_verdict;
 mod run_search;
 mod search;
 mod verdict;
-mod words;
 
 pub use channel_tables::{Separation, Tuples, Witness, judge_part};
 pub use laws::pairs_that_avoid_two;

@@ -4,10 +4,10 @@ ghost use Rattle.std.specs.Prelude.{◌≡◌, ℕ, ◌+◌, ◌*◌, ◌<◌, �
 ghost use Rattle.channel_tables.specs.Tables.{windows_of, IsTable};
 ghost use Rattle.nbhd_check.specs.Runs.{wide};
 
+use crate::channel_sets::{Words, words_of};
 use crate::near::{SecondRuns, channels_of, second_runs};
 use crate::parallel::part_count;
 use crate::run_search::{window_count, windows_per_run};
-use crate::words::{Words, words_of};
 use channel_tables::Table;
 use node_program::OutOfMemory;
 use std::alloc::Global;

@@ -12,14 +12,14 @@ ghost use Rattle.nbhd_check.specs.MiddleRuns.{AreMiddleRuns, AreNextRuns, IsMidd
 ghost use Rattle.nbhd_check.specs.PatternBits.{AreBits, cell_of};
 ghost use Rattle.nbhd_check.specs.PatternSearch.{IsFirstClear, IsFreeBefore, IsPairClear, IsSecondClear};
 ghost use Rattle.nbhd_check.specs.Runs.{second_gap, second_run, wide};
-ghost use Rattle.nbhd_check.specs.Words.{HasWords};
+ghost use Rattle.nbhd_check.specs.ChannelSets.{HasWords};
 
 use crate::before::channels_before;
+use crate::channel_sets::{Words, words_of};
 use crate::middle_runs::{MiddleRun, middle_runs};
 use crate::near::{SecondRuns, channels_of};
 use crate::pattern_bits::{pattern_bits, thirds_after, thirds_after_each};
 use crate::run_search::{window_count, windows_per_run};
-use crate::words::{Words, words_of};
 use channel_tables::Table;
 use node_program::OutOfMemory;
 use ring_problems::{Pattern, ProblemTuples, first_match, may_begin};

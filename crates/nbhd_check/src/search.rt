@@ -2,7 +2,7 @@
 ghost use Rattle.std.specs.Prelude.{◌≡◌, ℕ, List, ◌+◌, ◌*◌, ◌^◌, ◌<◌, ◌≤◌, Some, length, slice_get, min};
 ghost use Rattle.channel_tables.specs.Tables.{windows_of};
 ghost use Rattle.nbhd_check.specs.Runs.{AreFree, wide};
-ghost use Rattle.nbhd_check.specs.Searches.{searched, AreFreeIn, HasUnits, IsBad, IsInUnit};
+ghost use Rattle.nbhd_check.specs.Searches.{searched, AreFreeIn, HasPieces, IsBad, IsInPiece};
 
 use crate::far_counts::FarCounts;
 use crate::far_masks::FarMasks;
@@ -14,7 +14,7 @@ use channel_tables::Table;
 use std::sync::atomic::AtomicU32;
 use std::thread::Threads;
 
-/// A search for the windows of a table that are bad in some sense, unit by unit. A unit is a run, but
+/// A search for the windows of a table that are bad in some sense, piece by piece. A piece is a run, but
 /// for counts the windows whose third windows are in one family, and for patterns the windows whose
 /// second windows are in one run.
 #[derive(Clone, Copy)]
@@ -30,13 +30,13 @@ pub(crate) enum Search<'s, 'a> {
 }
 
 impl<'s, 'a> Search<'s, 'a> {
-    // Returns the number of units in which the first `most` windows are.
-    fn units(self, most: u32) -> u32
+    // Returns the number of pieces in which the first `most` windows are.
+    fn pieces(self, most: u32) -> u32
         requires { most ≤ length (windows_of (searched self)) }
-        ensures within { HasUnits self.entry result }
+        ensures within { HasPieces self.entry result }
         ensures few { result ≤ 2 ^ 22 }
         ensures all { (number : ℕ) (window : List ℕ) → number < most → slice_get (windows_of (searched self.entry)) number ≡ Some window
-            → (unit : ℕ) × (unit < result) × IsInUnit self.entry unit number window }
+            → (piece : ℕ) × (piece < result) × IsInPiece self.entry piece number window }
     {
         match self {
             Search::Near(search) => runs_of(search.table, most),
@@ -46,11 +46,11 @@ impl<'s, 'a> Search<'s, 'a> {
         }
     }
 
-    // Returns a number of windows such that none of the windows below it in a unit from `low` on and
+    // Returns a number of windows such that none of the windows below it in a piece from `low` on and
     // below `high` is bad. Gives up windows that are not below `best`, the least such number that any
     // thread has found.
-    fn free_in_units(self, low: u32, high: u32, best: &AtomicU32) -> u32
-        requires { HasUnits self high }
+    fn free_in_pieces(self, low: u32, high: u32, best: &AtomicU32) -> u32
+        requires { HasPieces self high }
         ensures { AreFreeIn self.entry result low high }
     {
         match self {
@@ -85,19 +85,19 @@ pub(crate) fn free_windows<R: Threads + Sync>(
     ensures less { result ≤ most }
     ensures free { AreFree (searched search.entry) (IsBad search.entry) 0 result }
 {
-    let units = search.units(most);
+    let pieces = search.pieces(most);
     let parts = part_count(most, threads);
-    let each = units.div_ceil(parts);
+    let each = pieces.div_ceil(parts);
     let best = AtomicU32::new(most);
     let least = least_of_parts(
         rt,
         parts,
         |part: u32| -> u32
-            requires { (part * each + each < 2 ^ 32) × HasUnits search units }
-            ensures { AreFreeIn search.entry result (part * each) (min (part * each + each) units) }
+            requires { (part * each + each < 2 ^ 32) × HasPieces search pieces }
+            ensures { AreFreeIn search.entry result (part * each) (min (part * each + each) pieces) }
         {
             let low = part * each;
-            search.free_in_units(low, (low + each).min(units), &best)
+            search.free_in_pieces(low, (low + each).min(pieces), &best)
         },
     );
     least.min(most)

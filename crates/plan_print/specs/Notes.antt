@@ -14,7 +14,7 @@ use Rattle.table_notes.specs.PatternNotes.{broken_note, idle_note}
 use Rattle.table_notes.specs.RingNotes.{place_note, ring_note, segments_note}
 use Rattle.table_notes.specs.TableNotes.{IsTableNote}
 use Rattle.table_notes.specs.VerdictNotes.{no_tuples_note, verdict_note, HasPlaces}
-use Rattle.table_formula.specs.declared.fault.RefuteError.TheVariants as refute
+use Rattle.table_formula.specs.declared.refutation.fault.RefuteError.TheVariants as refute
 use Rattle.reports.specs.Findings.{Fault, of_text, of_program, of_ring, of_place, of_segments, of_table_text, of_formula, of_refutation, Finding, refused}
 use Rattle.reports.specs.Findings as value
 use Rattle.table_formula.specs.RefutationNotes.{IsRefutationNote}

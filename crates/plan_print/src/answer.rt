@@ -13,7 +13,7 @@ ghost use Rattle.reports.specs.Report.{Finds, IsAnswerOnRing, IsDemandJudgement,
 
 use crate::first_broken::first_broken;
 use crate::first_tuples::first_witness;
-use crate::places::plan_channels;
+use crate::ring_channels::plan_channels;
 use channel_tables::Table;
 use devices::fault::EngineFault;
 use lang_check::Plan;

@@ -7,9 +7,9 @@ mod first_broken;
 mod first_tuples;
 mod found;
 pub mod note;
-mod places;
 pub mod process;
 mod report;
+mod ring_channels;
 
 pub use devices::{fault, input, output, watched};
 pub use reports::{finding, status};

@@ -23,8 +23,8 @@ use Rattle.ring_problems.specs.Demands.{patterns_of}
 use Rattle.reports.specs.Report.{Finds, IsRefusedOr, told, answered, IsJudgement, good, bad, IsProblemJudgement, solved, broken, IsAnswerOnRing, IsRunAnswer, IsExplainAnswer, IsTextRefusal, IsPrintReport, text_fault, check_fault, IsProgramReport, IsTableReport, IsOnRingByTable}
 use Rattle.table_formula.specs.Problems.{Problem}
 use Rattle.table_formula.specs.Refutations.{IsRefutation, IsFault as IsFormulaFault}
-use Rattle.table_formula.specs.declared.fault.RefuteError.{RefuteError}
-use Rattle.table_formula.specs.declared.fault.RefuteError.TheVariants as refute
+use Rattle.table_formula.specs.declared.refutation.fault.RefuteError.{RefuteError}
+use Rattle.table_formula.specs.declared.refutation.fault.RefuteError.TheVariants as refute
 use Rattle.table_formula.specs.RefutationLaws.{EachTextHasAVerdict}
 use Rattle.reports.specs.FormulaReports.{IsFormulaRefusal, IsNoRefutation}
 use Rattle.reports.specs.ProblemFaults.{HasFormula, problem as numbered}

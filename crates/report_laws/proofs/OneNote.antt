@@ -2,8 +2,8 @@
 use Rattle.std.proofs.Common.{◌≡◌, ℕ, ◌-◌, List, ◌∷◌, ◌++◌, ap, sym, ◌∙◌}
 use Rattle.source_places.specs.Places.{after_lines}
 use Rattle.source_places.specs.Shown.{marked_line}
-use Rattle.table_formula.specs.declared.fault.LineFault.{LineFault}
-use Rattle.table_formula.specs.declared.fault.RefuteError.TheVariants as refute
+use Rattle.table_formula.specs.declared.refutation.fault.LineFault.{LineFault}
+use Rattle.table_formula.specs.declared.refutation.fault.RefuteError.TheVariants as refute
 use Rattle.table_formula.specs.RefutationNotes.{line_head, IsLineNote, MayHaveAdvice}
 use Rattle.plan_print.specs.Notes.{IsNoteAs, Told, nothing, on_fault, this, told_on}
 use Rattle.reports.specs.Findings.{of_text, of_program, of_ring, of_place, of_segments, of_table_text, of_formula, of_refutation}

@@ -20,7 +20,7 @@ use Rattle.lang_check.specs.declared.acceptance.CheckFault.{CheckFault}
 use Rattle.lang_check.specs.declared.acceptance.CheckFault.TheVariants.{IdsOutOfRange, TooManyWindows, RegisterOutOfRange, IdOutsideStart, MessageOutsideStep, ChannelBound}
 use Rattle.lang_check.specs.Acceptance.{IsAccepted}
 use Rattle.lang_check.specs.Refusals.{IsFirstRefusal}
-use Rattle.border_exchange.specs.declared.limits.TheConstants.{MAX_SEGMENTS}
+use Rattle.border_exchange.specs.declared.segment.limits.TheConstants.{MAX_SEGMENTS}
 use Rattle.border_exchange.specs.SegmentCounts.{IsSegmentCount}
 
 -- the program is accepted for m identifiers, or refused

@@ -34,7 +34,7 @@ use Rattle.table_text.specs.Texts.{IsTextOf}
 use Rattle.task_words.specs.declared.task.Task.{Task}
 use Rattle.task_words.specs.declared.task.Task.TheVariants.{Print, Table, Judge, Run, Trace, Explain, Plan, Audit, Apply, Migrate, Refute}
 use Rattle.reports.specs.declared.status.Status.TheVariants.{Done, No}
-use Rattle.table_formula.specs.declared.fault.RefuteError.TheVariants as refute
+use Rattle.table_formula.specs.declared.refutation.fault.RefuteError.TheVariants as refute
 use Rattle.table_formula.specs.RefutationNotes.{MayHaveAdvice}
 use Rattle.reports.specs.Bytes.{bytes_of}
 use Rattle.reports.specs.Findings.{Fault, of_ring, of_place, of_segments, of_refutation, Finding, refused, status_of}

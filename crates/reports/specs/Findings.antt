@@ -12,7 +12,7 @@ use Rattle.ring_problems.specs.declared.pattern.Pattern.{Pattern}
 use Rattle.numerals.specs.declared.base.Base.{Base}
 use Rattle.table_formula.specs.Problems.{Problem}
 use Rattle.table_text.specs.declared.fault.TableFault.{TableFault}
-use Rattle.table_formula.specs.declared.fault.RefuteError.{RefuteError}
+use Rattle.table_formula.specs.declared.refutation.fault.RefuteError.{RefuteError}
 use Rattle.reports.specs.ProblemFaults.{problem_of}
 use Rattle.reports.specs.declared.problem.ProblemFault.{ProblemFault}
 use Rattle.reports.specs.declared.fault.Fault as declared_fault

@@ -2,8 +2,8 @@
 use Rattle.std.specs.Prelude.{◌≡◌, ◌≢◌, ℕ, List}
 use Rattle.table_formula.specs.Problems.{Problem}
 use Rattle.table_formula.specs.Refutations.{IsRefutation, IsFault}
-use Rattle.table_formula.specs.declared.fault.RefuteError.{RefuteError}
-use Rattle.table_formula.specs.declared.fault.RefuteError.TheVariants as refute
+use Rattle.table_formula.specs.declared.refutation.fault.RefuteError.{RefuteError}
+use Rattle.table_formula.specs.declared.refutation.fault.RefuteError.TheVariants as refute
 use Rattle.reports.specs.Findings.{Fault, of_formula, of_refutation, Finding}
 use Rattle.reports.specs.Findings as value
 use Rattle.reports.specs.Report.{IsRefusedOr}

@@ -4,7 +4,7 @@ use Rattle.std.specs.Io.KnownBytes.{Appends, Keeps}
 use Rattle.devices.specs.declared.fault.EngineFault.{EngineFault}
 use Rattle.devices.specs.declared.fault.EngineFault.TheVariants.{Read, Write, Memory, Thread, Stranger}
 use Rattle.devices.specs.Output.{AppendsFront}
-use Rattle.table_formula.specs.declared.fault.RefuteError.TheVariants as refute
+use Rattle.table_formula.specs.declared.refutation.fault.RefuteError.TheVariants as refute
 use Rattle.reports.specs.Findings.{Fault, of_segments, of_formula, of_refutation, Finding, refused}
 use Rattle.reports.specs.declared.fault_line.Line.{Line}
 use Rattle.reports.specs.declared.fault_line.Line.TheVariants as line

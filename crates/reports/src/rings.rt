@@ -10,7 +10,7 @@ ghost use Rattle.win_index.specs.Ring.{IsRing};
 
 use crate::fault::Fault;
 use crate::finding::{Answer, Finding, PlaceTree, RingTrace};
-use crate::places::table_channels;
+use crate::ring_channels::table_channels;
 use channel_tables::Table;
 use lang_check::Plan;
 use node_program::OutOfMemory;

@@ -2,7 +2,7 @@
 use Rattle.std.proofs.Common.{◌≡◌, ℕ, ◌<◌, List, length, arith, subst, sym, ap}
 use Rattle.border_exchange.specs.Segments.{RingSegment}
 use Rattle.ring_core.specs.Machine.{CanSend, CanAdvance}
-use Rattle.ring_core.specs.Parts.{Parts, FitTogether, MaySend, part_at, round_at, machine_of}
+use Rattle.ring_core.specs.Progress.{Parts, FitTogether, MaySend, part_at, round_at, machine_of}
 use Rattle.ring_core.proofs.Fits.{MayAdvance}
 use Rattle.ring_core.proofs.Views.{count_is, round_is, own_right_size, own_left_size, came_right_size, came_left_size}
 

@@ -6,7 +6,7 @@ use Rattle.border_exchange.specs.declared.Side.{Side}
 use Rattle.border_exchange.specs.declared.Side.TheVariants.{Rightward, Leftward}
 use Rattle.border_exchange.specs.Segments.{RingSegment}
 use Rattle.ring_core.specs.Machine.{border_before, segment_after}
-use Rattle.ring_core.specs.Parts.{Progress, Parts, IsInStep, FitTogether, MaySend, no_part, part_at, round_at, at_round, sent_by, after_sending}
+use Rattle.ring_core.specs.Progress.{Progress, Parts, IsInStep, FitTogether, MaySend, no_part, part_at, round_at, at_round, sent_by, after_sending}
 use Rattle.ring_core.proofs.Updates.{set_cases}
 
 -- new may replace part s

@@ -13,7 +13,7 @@ use Rattle.border_exchange.specs.Messages.{Heading, sent_under}
 use Rattle.border_exchange.specs.Segments.{RingSegment, first_of, places_of, states_of}
 use Rattle.border_exchange.specs.Needs.{from_left, from_right}
 use Rattle.ring_core.specs.Machine.{SegmentState, BorderState, no_messages, segment_at, left_border, right_border, border_before, segment_after, sent_right, sent_left, advanced}
-use Rattle.ring_core.specs.Parts.{Progress, Parts, FitTogether, no_part, part_at, round_at, at_round, rightward_headings, leftward_headings, headings_of, sent_by, after_sending, segment_state, values_under, rightward_values, leftward_values, machine_of}
+use Rattle.ring_core.specs.Progress.{Progress, Parts, FitTogether, no_part, part_at, round_at, at_round, rightward_headings, leftward_headings, headings_of, sent_by, after_sending, segment_state, values_under, rightward_values, leftward_values, machine_of}
 use Rattle.ring_core.proofs.Fits.{MayAdvance}
 use Rattle.ring_core.proofs.Neighbours.{before_inside, after_before, before_after}
 use Rattle.ring_core.proofs.Updates.{set_unseen, set_made}

@@ -7,7 +7,7 @@ use Rattle.border_exchange.specs.SegmentPlaces.{first_place}
 use Rattle.border_exchange.specs.declared.Side.{Side}
 use Rattle.border_exchange.specs.declared.Side.TheVariants.{Rightward, Leftward}
 use Rattle.ring_core.specs.Machine.{border_before, segment_after}
-use Rattle.ring_core.specs.Parts.{sender_of}
+use Rattle.ring_core.specs.Progress.{sender_of}
 use Rattle.border_exchange.proofs.Places.{first_place-grows, first_place-inside, first_place-all, first_place-none}
 
 self_mod : (g : ℕ) → 0 < g → g % g ≡ 0

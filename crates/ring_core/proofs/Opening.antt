@@ -6,7 +6,7 @@ use Rattle.std.proofs.lemmas.List.FromFn.{fill_by_all, length-map-range_with_len
 use Rattle.lang_check.specs.Plans.{ProgramForIds}
 use Rattle.win_index.specs.Ring.{OrientedRing}
 use Rattle.ring_core.specs.Machine.{no_places, no_messages, segment_after, opening, opening_segment}
-use Rattle.ring_core.specs.Parts.{Progress, Parts, IsInStep, FitTogether, opening_part, no_part, part_at, machine_of, segment_state, border_state, rightward_values, leftward_values}
+use Rattle.ring_core.specs.Progress.{Progress, Parts, IsInStep, FitTogether, opening_part, no_part, part_at, machine_of, segment_state, border_state, rightward_values, leftward_values}
 use Rattle.ring_core.proofs.Neighbours.{after_inside}
 
 module _ (plan : ProgramForIds) (ring : OrientedRing) (g : ℕ) where

@@ -13,7 +13,7 @@ use Rattle.border_exchange.specs.Segments.{RingSegment, first_of, places_of, sta
 use Rattle.border_exchange.specs.Needs.{to_the_left, to_the_right}
 use Rattle.ring_core.specs.Machine.{SegmentState, BorderState, Machine, segment_at, border_at, left_border, right_border, segment_after}
 use Rattle.ring_core.specs.MachinePromises.{HasGlobalStates, HasGlobalMessages, AreNear, segment_after_rounds, sent_at, heading_at}
-use Rattle.ring_core.specs.Parts.{Parts, Progress, FitTogether, AreInOrder, part_at, round_at, sent_by, sent_to, needed_to, sender_of, came_to, rightward_headings, leftward_headings, values_under, machine_of}
+use Rattle.ring_core.specs.Progress.{Parts, Progress, FitTogether, AreInOrder, part_at, round_at, sent_by, sent_to, needed_to, sender_of, came_to, rightward_headings, leftward_headings, values_under, machine_of}
 use Rattle.ring_core.proofs.Neighbours.{after_inside, before_after}
 use Rattle.ring_core.proofs.Views.{value_at, plain, count_is, plain_is, round_is, is_needed, own_rightward, own_right_size, came_leftward, came_left_size}
 

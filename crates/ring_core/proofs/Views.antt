@@ -12,7 +12,7 @@ use Rattle.border_exchange.specs.SegmentPlaces.{first_place}
 use Rattle.border_exchange.specs.Segments.{RingSegment, first_of, places_of, states_of}
 use Rattle.border_exchange.specs.Needs.{in_its_round}
 use Rattle.ring_core.specs.Machine.{SegmentState, BorderState, no_places, no_messages, segment_at, border_at, left_border, right_border, border_before, segment_after, first_state, last_state}
-use Rattle.ring_core.specs.Parts.{Progress, Parts, FitTogether, no_part, part_at, round_at, sent_to, needed_to, sender_of, rightward_headings, leftward_headings, headings_of, segment_state, values_under, rightward_values, leftward_values, border_state, machine_of}
+use Rattle.ring_core.specs.Progress.{Progress, Parts, FitTogether, no_part, part_at, round_at, sent_to, needed_to, sender_of, rightward_headings, leftward_headings, headings_of, segment_state, values_under, rightward_values, leftward_values, border_state, machine_of}
 use Rattle.border_exchange.proofs.Places.{first_place-grows, first_place-inside}
 use Rattle.ring_core.proofs.Neighbours.{before_inside, sender_inside, after_before, left_end, right_end}
 

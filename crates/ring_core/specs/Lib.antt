@@ -2,6 +2,6 @@
 -- Segments and their messages are in border_exchange.
 pub mod Machine
 pub mod MachinePromises
-pub mod Parts
+pub mod Progress
 pub mod MachineCodes
 pub mod Laws

@@ -6,7 +6,7 @@ use Rattle.win_index.specs.Ring.{OrientedRing}
 use Rattle.border_exchange.specs.Segments.{RingSegment}
 use Rattle.border_exchange.specs.Codes.{ring_code, segment_code}
 use Rattle.ring_core.specs.Machine.{SegmentState, BorderState, Machine}
-use Rattle.ring_core.specs.Parts.{Progress}
+use Rattle.ring_core.specs.Progress.{Progress}
 
 abbrev segment_state_code : Coded SegmentState
 segment_state_code =

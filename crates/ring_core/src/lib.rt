@@ -4,8 +4,8 @@
 
 mod event;
 mod laws;
-mod part;
 mod replaying;
+mod segment_progress;
 mod world;
 
 pub use event::RingEvent;

@@ -2,7 +2,7 @@
 ghost use Rattle.std.specs.Prelude.{◌≤◌, IfOk, OnOk};
 ghost use Rattle.ring_core.specs.Machine.{IsMachineOf, opening, Runs, Steps};
 ghost use Rattle.ring_core.specs.MachinePromises.{KeepsPromises};
-ghost use Rattle.ring_core.specs.Parts.{CanBeCut};
+ghost use Rattle.ring_core.specs.Progress.{CanBeCut};
 
 use crate::event::RingEvent;
 use crate::world::World;

@@ -5,10 +5,10 @@ ghost use Rattle.round_eval.specs.Rows.{rows};
 ghost use Rattle.border_exchange.specs.Segments.{states_of};
 ghost use Rattle.ring_core.specs.Machine.{Steps, CanAdvance, segment_at, left_border, right_border, opening as opening_of};
 ghost use Rattle.ring_core.specs.MachinePromises.{KeepsPromises, segment_after_rounds, sent_at, heading_at};
-ghost use Rattle.ring_core.specs.Parts.{CanBeCut, opening_part, sending, came_to, needed_to, sender_of, sent_to};
+ghost use Rattle.ring_core.specs.Progress.{CanBeCut, opening_part, sending, came_to, needed_to, sender_of, sent_to};
 
 use crate::event::RingEvent;
-use crate::part::SegmentProgress;
+use crate::segment_progress::SegmentProgress;
 use border_exchange::{Msg, Side};
 use lang_check::Plan;
 use node_program::OutOfMemory;
@@ -30,7 +30,7 @@ pub struct World<'a> {
 impl<'a> Model for World<'a> {
     ghost use Rattle.ring_core.specs.Machine.{Machine};
     ghost use Rattle.ring_core.specs.MachineCodes.{machine_code};
-    ghost use Rattle.ring_core.specs.Parts.{FitTogether, machine_of};
+    ghost use Rattle.ring_core.specs.Progress.{FitTogether, machine_of};
 
     ghost Value = { Machine };
 

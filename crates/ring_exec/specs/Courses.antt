@@ -1,7 +1,7 @@
 -- Runs on their way. No public contract cites this file.
 use Rattle.std.specs.Prelude.{◌≡◌, ◌≢◌, ℕ, ◌+◌, ◌<◌, ◌≤◌, ◌⊎◌, List, length, Option, None, Some, IsSome, IsNone, slice_get, vec_len, vec_capacity}
 use Rattle.border_exchange.specs.Segments.{RingSegment}
-use Rattle.border_exchange.specs.declared.limits.TheConstants.{MAX_SEGMENTS}
+use Rattle.border_exchange.specs.declared.segment.limits.TheConstants.{MAX_SEGMENTS}
 use Rattle.ring_exec.specs.Faults.{blamed}
 use Rattle.ring_exec.specs.Outcomes.{HasMore}
 use Rattle.round_eval.specs.declared.fault.WorkFault.TheVariants.{OutOfMemory}

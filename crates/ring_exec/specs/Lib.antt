@@ -3,7 +3,7 @@ pub mod Borders
 pub mod Courses
 pub mod Faults
 pub mod Outcomes
-pub mod Runs
+pub mod RunNeeds
 pub mod Seats
 pub mod SegmentFaults
 pub mod Sides

@@ -1,7 +1,7 @@
 -- Why a segment stops before its last round. No public contract cites this file.
 use Rattle.std.specs.Prelude.{◌≡◌}
-use Rattle.border_exchange.specs.declared.fault.PutFault.{PutFault}
-use Rattle.border_exchange.specs.declared.fault.PutFault.TheVariants as put
+use Rattle.border_exchange.specs.declared.border.fault.PutFault.{PutFault}
+use Rattle.border_exchange.specs.declared.border.fault.PutFault.TheVariants as put
 use Rattle.ring_exec.specs.declared.end.EndStop.{EndStop}
 use Rattle.ring_exec.specs.declared.end.EndStop.TheVariants as end
 use Rattle.ring_exec.specs.declared.segment_fault.RunStop.{RunStop}

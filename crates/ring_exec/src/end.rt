@@ -1,7 +1,7 @@
 //! The ends of the borders between neighbouring segments.
 ghost use Rattle.std.specs.Prelude.{◌≡◌, ◌≢◌, ◌+◌, ◌<◌, Ok, IfOk, IfErr, IsErrAnd, OnOk, MatchResult};
 ghost use Rattle.border_exchange.specs.SeatState.{IsNext};
-ghost use Rattle.border_exchange.specs.declared.fault.PutFault.TheVariants.{Misplaced};
+ghost use Rattle.border_exchange.specs.declared.border.fault.PutFault.TheVariants.{Misplaced};
 ghost use Rattle.border_exchange.specs.declared.Side.TheVariants.{Rightward, Leftward};
 ghost use Rattle.node_program.specs.declared.limits.TheConstants.{MAX_ROUNDS};
 ghost use Rattle.ring_exec.specs.Borders.{AreBlanksOf};

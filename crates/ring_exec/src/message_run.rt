@@ -4,7 +4,7 @@ ghost use Rattle.node_program.specs.GlobalRounds.{channels_of};
 ghost use Rattle.ring_exec.specs.Borders.{AreBlanksOf};
 ghost use Rattle.ring_exec.specs.Courses.{AreWaiting};
 ghost use Rattle.ring_exec.specs.Outcomes.{AreFalling};
-ghost use Rattle.ring_exec.specs.Runs.{CanRun};
+ghost use Rattle.ring_exec.specs.RunNeeds.{CanRun};
 ghost use Rattle.border_exchange.specs.SegmentCounts.{IsSegmentCount};
 ghost use Rattle.round_eval.specs.Shapes.{IsOfShape};
 

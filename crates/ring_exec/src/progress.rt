@@ -1,7 +1,7 @@
 //! How far a run is.
 ghost use Rattle.std.specs.Prelude.{◌≡◌, ◌+◌, ◌≤◌, All, Ok, Err, IfSome, MatchOption, vec_len, vec_capacity};
 ghost use Rattle.ring_exec.specs.Outcomes.{AreInOrder};
-ghost use Rattle.border_exchange.specs.declared.limits.TheConstants.{MAX_SEGMENTS};
+ghost use Rattle.border_exchange.specs.declared.segment.limits.TheConstants.{MAX_SEGMENTS};
 ghost use Rattle.ring_exec.specs.declared.fault.ThreadFault.TheVariants.{NoThread};
 
 use crate::fault::ThreadFault;

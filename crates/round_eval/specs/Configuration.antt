@@ -4,8 +4,8 @@ use Rattle.node_program.specs.Term.{ProgramTree}
 use Rattle.node_program.specs.Node.{to_left, to_right, channel}
 use Rattle.node_program.specs.GlobalRounds.{state}
 use Rattle.round_eval.specs.Rows.{rows, stretch}
-use Rattle.round_eval.specs.declared.configuration.Reading.{Reading}
-use Rattle.round_eval.specs.declared.configuration.Reading.TheVariants.{Register, Left, Right, Channel}
+use Rattle.round_eval.specs.declared.configuration.Quantity.{Quantity}
+use Rattle.round_eval.specs.declared.configuration.Quantity.TheVariants.{Register, Left, Right, Channel}
 
 -- a ring that runs a program: its identifiers from place 0 on, and the number of rounds that are done. The registers of
 -- its places follow from these
@@ -16,14 +16,14 @@ pub record RingConfiguration : Type 0 where
 
 -- for place i after the rounds that are done, in global rounds: the value of a register, the message to the left or to
 -- the right in the next round, or the channel
-abbrev pub reading : RingConfiguration → Reading → ℕ → ℕ
-reading c (Register j) i = slice_index (state c.program c.places c.round i) j
-reading c Left i = to_left c.program c.round (state c.program c.places c.round i)
-reading c Right i = to_right c.program c.round (state c.program c.places c.round i)
-reading c Channel i = channel c.program (state c.program c.places c.round i)
+abbrev pub quantity : RingConfiguration → Quantity → ℕ → ℕ
+quantity c (Register j) i = slice_index (state c.program c.places c.round i) j
+quantity c Left i = to_left c.program c.round (state c.program c.places c.round i)
+quantity c Right i = to_right c.program c.round (state c.program c.places c.round i)
+quantity c Channel i = channel c.program (state c.program c.places c.round i)
 
 -- the program has the register, or a next round
-abbrev pub CanRead : RingConfiguration → Reading → Type 0
+abbrev pub CanRead : RingConfiguration → Quantity → Type 0
 CanRead c (Register j) = j < length c.program.start
 CanRead c Left = c.round < length c.program.steps
 CanRead c Right = c.round < length c.program.steps

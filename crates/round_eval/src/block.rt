@@ -1,5 +1,8 @@
 //! Blocks of states, with the next messages of their nodes.
-use crate::block_numbers;
+
+pub(crate) mod numbers;
+pub(crate) mod source;
+
 use crate::row::{row_at, width_of};
 use lang_check::Plan;
 use std::marker::Model;
@@ -59,7 +62,7 @@ impl<'a> Block<'a> {
             lists.states.items lists.to_left.items lists.to_right.items }
         ensures { result ≡ record { plan = plan.entry.now; level = level; number = number; maker = maker } }
     {
-        let len = block_numbers::block_len(plan.shape(), level, number);
+        let len = numbers::block_len(plan.shape(), level, number);
         let BlockLists {
             states,
             to_left,

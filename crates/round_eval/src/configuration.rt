@@ -2,8 +2,8 @@
 
 ghost use Rattle.std.specs.Prelude.{◌≡◌, IfOk, length};
 
-use crate::laws::stretches_are_rows;
 use crate::node::{channel, sent_to_left, sent_to_right};
+use crate::row::laws::stretches_are_rows;
 use crate::row::{round_of_row, row_at, start_of_row, width_of};
 use lang_check::Plan;
 use node_program::OutOfMemory;
@@ -12,9 +12,9 @@ use std::marker::Model;
 use std::mem;
 use win_index::Ring;
 
-/// A number that a configuration reports of a place.
+/// A quantity of a place that a configuration tells.
 #[derive(Clone, Copy, Debug, PartialEq, Eq)]
-pub enum Reading {
+pub enum Quantity {
     /// The value of this register.
     Register(u32),
     /// Its message to the left in the next round.
@@ -54,7 +54,7 @@ impl<'a> Model for Configuration<'a> {
 impl<'a> Configuration<'a> {
     ghost use Rattle.std.specs.Prelude.{◌≡◌, ◌+◌, ◌<◌, ◌≤◌, IfOk, length};
     ghost use Rattle.node_program.specs.GlobalRounds.{state};
-    ghost use Rattle.round_eval.specs.Configuration.{reading, CanRead};
+    ghost use Rattle.round_eval.specs.Configuration.{quantity, CanRead};
 
     /// Returns the configuration before the first round. The ring must have the plan's number of
     /// identifiers. Fails with `OutOfMemory` if memory was refused.
@@ -131,17 +131,17 @@ impl<'a> Configuration<'a> {
 
     /// Returns the number `what` of a place. A register must be one of the program, and for
     /// messages the program must have a next round.
-    pub fn reading(&self, what: Reading, place: u32) -> u32
+    pub fn quantity(&self, what: Quantity, place: u32) -> u32
         requires place { place < length self.now.places }
         requires what { CanRead self.now what }
-        ensures { result ≡ reading self.now what place }
+        ensures { result ≡ quantity self.now what place }
     {
         let own = self.held_by(place);
         match what {
-            Reading::Register(register) => own[register as usize],
-            Reading::Left => sent_to_left(self.plan, self.round, own),
-            Reading::Right => sent_to_right(self.plan, self.round, own),
-            Reading::Channel => channel(self.plan, own),
+            Quantity::Register(register) => own[register as usize],
+            Quantity::Left => sent_to_left(self.plan, self.round, own),
+            Quantity::Right => sent_to_right(self.plan, self.round, own),
+            Quantity::Channel => channel(self.plan, own),
         }
     }
 

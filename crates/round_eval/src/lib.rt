@@ -4,31 +4,27 @@
 #![tactic(auto)]
 
 mod block;
-mod block_numbers;
 mod configuration;
 mod fault;
 mod gate;
-mod laws;
 mod node;
 mod rounds;
 mod row;
-mod source;
 mod value;
 mod window;
-mod window_laws;
 
+pub use block::numbers::{block_len, first_number};
+pub use block::source::Source;
 pub use block::{Block, BlockLists};
-pub use block_numbers::{block_len, first_number};
-pub use configuration::{Configuration, Reading};
+pub use configuration::{Configuration, Quantity};
 pub use fault::WorkFault;
 pub use gate::{Gate, OpenGate};
-pub use laws::{rows_are_taken, stretches_are_rows};
 pub use node::{channel, messages, sent_to_left, sent_to_right, start_state, step};
 pub use rounds::plain_run;
+pub use row::laws::{rows_are_taken, stretches_are_rows};
 pub use row::{round_of_row, row_at, start_of_row, width_of};
-pub use source::Source;
 pub use value::value_of;
-pub use window::window_state;
-pub use window_laws::{
+pub use window::laws::{
     lines_are_rows, locality, one_state_remains, states_from_parts, windows_are_within,
 };
+pub use window::window_state;

@@ -3,7 +3,7 @@ ghost use Rattle.std.specs.Prelude.{◌≡◌, length, IfOk};
 ghost use Rattle.node_program.specs.GlobalRounds.{channels_of};
 ghost use Rattle.round_eval.specs.Shapes.{IsOfShape};
 
-use crate::configuration::{Configuration, Reading};
+use crate::configuration::{Configuration, Quantity};
 use lang_check::Plan;
 use node_program::OutOfMemory;
 use std::alloc::Global;
@@ -30,7 +30,7 @@ fn channels_in(alloc: Global, places: &Configuration<'_>) -> Result<Vec<u32>, Ou
     let count = places.places();
     let mut channels = Vec::with_capacity(alloc, count as usize)?;
     for place in 0..count {
-        channels.push(places.reading(Reading::Channel, place))?;
+        channels.push(places.quantity(Quantity::Channel, place))?;
     }
     Ok(channels)
 }

@@ -5,6 +5,8 @@ ghost use Rattle.node_program.specs.Node as rounds;
 ghost use Rattle.round_eval.specs.NodeCounts.{IsNodeCount};
 ghost use Rattle.round_eval.specs.Rows.{row_after, rows};
 
+pub(crate) mod laws;
+
 use crate::node::{sent_to_left, sent_to_right, start_state, step};
 use lang_check::Plan;
 use node_program::{MAX_REGISTERS, MAX_ROUNDS};

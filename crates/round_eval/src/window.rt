@@ -4,9 +4,11 @@ ghost use Rattle.round_eval.specs.Rows.{rows};
 ghost use Rattle.round_eval.specs.Line.{middle_state, shrunk};
 ghost use Rattle.win_index.specs.Windows.{IsWindow};
 
+pub(crate) mod laws;
+
 use crate::node::{sent_to_left, sent_to_right};
 use crate::row::{round_of_row, row_at, start_of_row, width_of};
-use crate::window_laws::lines_are_rows;
+use crate::window::laws::lines_are_rows;
 use lang_check::Plan;
 use node_program::MAX_REGISTERS;
 use win_index::MAX_WINDOW_LEN;

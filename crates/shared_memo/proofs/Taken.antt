@@ -4,8 +4,8 @@ use Rattle.std.specs.Prelude.{Option, IsOk, Contains, MatchOption}
 use Rattle.std.proofs.lemmas.List.{get_or_append_left, append_assoc, get_or-append-add}
 use Rattle.std.proofs.lemmas.List.Elements.{All-push, Contains-push, Contains-append_right}
 use Rattle.std.proofs.lemmas.Option.{slice_get-get_or}
-use Rattle.shared_memo.specs.declared.job_fault.JobFault.{JobFault}
-use Rattle.shared_memo.specs.declared.worker_jobs.WorkerOutcome.{WorkerOutcome}
+use Rattle.shared_memo.specs.declared.pool.job_fault.JobFault.{JobFault}
+use Rattle.shared_memo.specs.declared.pool.worker_jobs.WorkerOutcome.{WorkerOutcome}
 use Rattle.shared_memo.specs.Outcomes.{outcome_worker, IsLowestFault, OneKnows}
 use Rattle.shared_memo.specs.Tickets.{AreNumbered}
 

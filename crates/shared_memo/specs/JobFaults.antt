@@ -1,8 +1,8 @@
 -- The faults of workers.
 use Rattle.round_eval.specs.declared.fault.WorkFault.{WorkFault}
 use Rattle.round_eval.specs.declared.fault.WorkFault.TheVariants as work
-use Rattle.shared_memo.specs.declared.job_fault.JobFault.{JobFault}
-use Rattle.shared_memo.specs.declared.job_fault.JobFault.TheVariants.{OutOfMemory, Stranger}
+use Rattle.shared_memo.specs.declared.pool.job_fault.JobFault.{JobFault}
+use Rattle.shared_memo.specs.declared.pool.job_fault.JobFault.TheVariants.{OutOfMemory, Stranger}
 
 -- the fault without what the worker knows
 abbrev pub work_fault_of : {K : Type 0} → JobFault K → WorkFault

@@ -4,8 +4,8 @@ use Rattle.round_eval.specs.declared.fault.WorkFault.{WorkFault}
 use Rattle.round_eval.specs.declared.fault.WorkFault.TheVariants as work
 use Rattle.shared_memo.specs.declared.memo.Memo.{Memo}
 use Rattle.shared_memo.specs.declared.pass.Pass.{Pass}
-use Rattle.shared_memo.specs.declared.job_fault.JobFault.{JobFault}
-use Rattle.shared_memo.specs.declared.worker_jobs.WorkerOutcome.{WorkerOutcome}
+use Rattle.shared_memo.specs.declared.pool.job_fault.JobFault.{JobFault}
+use Rattle.shared_memo.specs.declared.pool.worker_jobs.WorkerOutcome.{WorkerOutcome}
 use Rattle.shared_memo.specs.JobFaults.{work_fault_of}
 use Rattle.shared_memo.specs.Outcomes.{IsLowestFault, OneKnows}
 use Rattle.shared_memo.specs.Filled.{AreKnown, MetStranger}

@@ -1,7 +1,7 @@
 -- The outcomes of workers, one by one and together.
 use Rattle.std.specs.Prelude.{◌≡◌, ℕ, ◌<◌, List, [], Option, Result, Ok, Err, IsOk, All, Contains, MatchOption, MatchResult, length}
-use Rattle.shared_memo.specs.declared.job_fault.JobFault.{JobFault}
-use Rattle.shared_memo.specs.declared.worker_jobs.WorkerOutcome.{WorkerOutcome}
+use Rattle.shared_memo.specs.declared.pool.job_fault.JobFault.{JobFault}
+use Rattle.shared_memo.specs.declared.pool.worker_jobs.WorkerOutcome.{WorkerOutcome}
 use Rattle.shared_memo.specs.JobFaults.{OfStranger}
 use Rattle.shared_memo.specs.Tickets.{drawn, worker_of, AreNumbered}
 

@@ -6,9 +6,12 @@ ghost use Rattle.shared_memo.specs.Workers.{HasRoom, IsWorkerCount};
 ghost use Rattle.shared_memo.specs.Outcomes.{outcome_worker, IsOutcome, AreOutcomes, IsAnswerOf};
 ghost use Rattle.shared_memo.specs.Pools.{IsRoomFor};
 
+pub(crate) mod job_fault;
+pub(crate) mod worker_jobs;
+
 use crate::desk::{Desk, Ticket};
-use crate::job_fault::{JobFault, StartFault};
-use crate::worker_jobs::{Jobs, WorkerOutcome};
+use crate::pool::job_fault::{JobFault, StartFault};
+use crate::pool::worker_jobs::{Jobs, WorkerOutcome};
 use node_program::OutOfMemory;
 use round_eval::Gate;
 use std::alloc::Global;

@@ -1,8 +1,8 @@
 -- The fault of a compilation for what its workers met.
 use Rattle.round_eval.specs.declared.fault.WorkFault.{WorkFault}
 use Rattle.round_eval.specs.declared.fault.WorkFault.TheVariants as work
-use Rattle.shared_memo.specs.declared.job_fault.StartFault.{StartFault}
-use Rattle.shared_memo.specs.declared.job_fault.StartFault.TheVariants as start
+use Rattle.shared_memo.specs.declared.pool.job_fault.StartFault.{StartFault}
+use Rattle.shared_memo.specs.declared.pool.job_fault.StartFault.TheVariants as start
 use Rattle.table_fill.specs.declared.fault.FillFault.{FillFault}
 use Rattle.table_fill.specs.declared.fault.FillFault.TheVariants as fill
 

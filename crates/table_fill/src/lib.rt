@@ -6,13 +6,13 @@
 mod block_channels;
 mod cell_maker;
 mod entry_columns;
+mod entry_reader;
 mod fault;
 mod filling;
 mod laws;
 mod memo_fill;
 mod own_reader;
 mod program_windows;
-mod reading;
 mod share;
 mod shares;
 mod table_room;

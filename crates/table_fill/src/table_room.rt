@@ -1,6 +1,6 @@
 //! Memory to read a table.
 
-use crate::reading::EntryReader;
+use crate::entry_reader::EntryReader;
 use channel_tables::Table;
 use node_program::OutOfMemory;
 use round_eval::Block;

@@ -19,8 +19,8 @@ use Rattle.channel_tables.specs.Laws.{TuplesSuffice}
 use Rattle.table_formula.specs.Clauses.{is_same_value, is_true_literal}
 use Rattle.table_formula.specs.declared.literal.Literal.{Literal}
 use Rattle.node_program.specs.declared.limits.TheConstants.{MAX_CHANNELS}
-use Rattle.table_formula.specs.declared.exchange.Exchange.{Exchange}
-use Rattle.table_formula.specs.declared.exchange.Exchange.TheVariants.{Identifiers}
+use Rattle.table_formula.specs.declared.formula.exchange.Exchange.{Exchange}
+use Rattle.table_formula.specs.declared.formula.exchange.Exchange.TheVariants.{Identifiers}
 use Rattle.table_formula.specs.Problems.{Problem, IsSolution}
 use Rattle.table_formula.specs.Formula.{windows_of, variable_of, variable_count, values_of}
 use Rattle.table_formula.specs.Exchanges.{can_exchange, exchanged, mirrored, exchanged_window, exchanged_literal}

@@ -22,7 +22,7 @@ use Rattle.ring_problems.specs.Problems.{tuples, IsBad, IsSolvedEverywhere}
 use Rattle.ring_problems.proofs.Problems.{tuple_window, extra_range, forbidden_along, filter_in, get_of_in, in_filter, in_of_get, suffice, tuple_at, none_bad, tuple_place}
 use Rattle.node_program.specs.declared.limits.TheConstants.{MAX_CHANNELS}
 use Rattle.table_formula.specs.declared.literal.Literal.{Literal}
-use Rattle.table_formula.specs.declared.exchange.Exchange.TheVariants.{Identifiers, Channels, Mirror}
+use Rattle.table_formula.specs.declared.formula.exchange.Exchange.TheVariants.{Identifiers, Channels, Mirror}
 use Rattle.table_formula.specs.Clauses.{is_same_value}
 use Rattle.table_formula.specs.Formula.{values_of, variable_of, windows_of}
 use Rattle.table_formula.specs.Problems.{Problem, IsSolution}

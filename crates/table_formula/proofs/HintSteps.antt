@@ -5,10 +5,10 @@ use Rattle.std.proofs.lemmas.List.{drop_all}
 use Rattle.table_formula.specs.Clauses.{is_same, negated}
 use Rattle.table_formula.specs.Hints.{left_of, remaining_of, is_last, after_hint, outcome_of}
 use Rattle.table_formula.specs.declared.literal.Literal.{Literal}
-use Rattle.table_formula.specs.declared.marks.Remaining.{Remaining}
-use Rattle.table_formula.specs.declared.marks.Remaining.TheVariants.{Nothing, One}
-use Rattle.table_formula.specs.declared.outcome.Outcome.{Outcome}
-use Rattle.table_formula.specs.declared.outcome.Outcome.TheVariants.{Follows, EarlyConflict}
+use Rattle.table_formula.specs.declared.refutation.marks.Remaining.{Remaining}
+use Rattle.table_formula.specs.declared.refutation.marks.Remaining.TheVariants.{Nothing, One}
+use Rattle.table_formula.specs.declared.refutation.outcome.Outcome.{Outcome}
+use Rattle.table_formula.specs.declared.refutation.outcome.Outcome.TheVariants.{Follows, EarlyConflict}
 
 are_apart : (n m : ℕ) → (n ≡ m → ⊥) → (n == m) ≡ false
 are_apart n m apart =

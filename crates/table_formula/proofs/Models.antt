@@ -14,7 +14,7 @@ use Rattle.channel_tables.specs.declared.separation.Separation.{Separation}
 use Rattle.channel_tables.specs.Apart.{extra, AreClose, IsBad, IsApart}
 use Rattle.channel_tables.specs.Laws.{TuplesSuffice}
 use Rattle.table_formula.specs.Clauses.{is_same_value, is_true_literal, Holds}
-use Rattle.table_formula.specs.declared.conflict.Conflict.{Conflict}
+use Rattle.table_formula.specs.declared.formula.conflict.Conflict.{Conflict}
 use Rattle.table_formula.specs.Problems.{Problem}
 use Rattle.table_formula.specs.Formula.{windows_of, tuples_of, variable_of, has_channel, some_channel, is_close, close_to, close_pairs, conflicts_of, window_in, not_both, not_too_close, apart_formula}
 use Rattle.table_formula.specs.Laws.{HasTables}

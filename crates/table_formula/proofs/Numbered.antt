@@ -8,7 +8,7 @@ use Rattle.std.proofs.lemmas.Nat.{mul-le, div-add-mod'}
 use Rattle.std.proofs.lemmas.Option.{slice_get-get_or}
 use Rattle.std.proofs.Math.Seq.{take-suc-set}
 use Rattle.table_formula.specs.declared.literal.Literal.{Literal}
-use Rattle.table_formula.specs.declared.conflict.Conflict.{Conflict}
+use Rattle.table_formula.specs.declared.formula.conflict.Conflict.{Conflict}
 use Rattle.table_formula.specs.Problems.{Problem}
 use Rattle.table_formula.specs.Formula.{windows_of, tuples_of, variable_of, has_channel, lacks_channel, some_channel, close_pairs, conflicts_of, window_in, not_both, not_too_close, IsPair, apart_formula}
 use Rattle.table_formula.proofs.ClauseLists.{all_below, apart_length, of_windows, of_tuples, as_many_as_windows}

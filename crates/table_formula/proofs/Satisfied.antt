@@ -14,7 +14,7 @@ use Rattle.channel_tables.specs.declared.separation.Separation.{Separation}
 use Rattle.channel_tables.specs.Apart.{extra, tuples, AreClose, IsBad, IsApart, IsApartEverywhere}
 use Rattle.channel_tables.specs.Laws.{TuplesSuffice}
 use Rattle.table_formula.specs.Clauses.{is_same_value, is_true_literal, Holds}
-use Rattle.table_formula.specs.declared.conflict.Conflict.{Conflict}
+use Rattle.table_formula.specs.declared.formula.conflict.Conflict.{Conflict}
 use Rattle.table_formula.specs.Problems.{Problem, IsSolution}
 use Rattle.table_formula.specs.Formula.{windows_of, tuples_of, variable_of, values_of, has_channel, lacks_channel, some_channel, is_close, close_to, close_pairs, conflicts_of, window_in, not_both, not_too_close, apart_formula}
 use Rattle.table_formula.proofs.ClauseLists.{all_flat, all_kept, all_below, some_value, any_map, any_in_range}

@@ -7,14 +7,14 @@ use Rattle.channel_tables.specs.Tables.{ChannelTable}
 use Rattle.table_formula.specs.Clauses.{is_true_literal, Holds}
 use Rattle.table_formula.specs.Steps.{StepsAreSound}
 use Rattle.table_formula.specs.declared.literal.Literal.{Literal}
-use Rattle.table_formula.specs.declared.outcome.Outcome.{Outcome}
-use Rattle.table_formula.specs.declared.outcome.Outcome.TheVariants as outcome
+use Rattle.table_formula.specs.declared.refutation.outcome.Outcome.{Outcome}
+use Rattle.table_formula.specs.declared.refutation.outcome.Outcome.TheVariants as outcome
 use Rattle.table_formula.specs.Problems.{Problem, IsSolution}
 use Rattle.table_formula.specs.Formula.{variable_count, formula, values_of}
 use Rattle.table_formula.specs.Exchanges.{exchanged_literal}
-use Rattle.table_formula.specs.declared.exchange.Exchange.{Exchange}
+use Rattle.table_formula.specs.declared.formula.exchange.Exchange.{Exchange}
 use Rattle.table_formula.specs.Laws.{SolutionsSatisfy, ExchangesKeepSolutions}
-use Rattle.table_formula.specs.declared.fault.LineFault.TheVariants as fault
+use Rattle.table_formula.specs.declared.refutation.fault.LineFault.TheVariants as fault
 use Rattle.table_formula.specs.Lines.{Line, Comment, Deletion, Addition, line_in}
 use Rattle.table_formula.specs.Derivations.{Derivation, opening, hints_fault, line_fault, after_line, adds_empty}
 use Rattle.table_formula.specs.Refutations.{Leads}

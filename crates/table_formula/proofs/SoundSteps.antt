@@ -6,8 +6,8 @@ use Rattle.table_formula.specs.Clauses.{is_same, negated, has_literal, is_true_l
 use Rattle.table_formula.specs.Hints.{left_of, remaining_of, is_last, after_hint, outcome_of}
 use Rattle.table_formula.specs.Steps.{StepsAreSound}
 use Rattle.table_formula.specs.declared.literal.Literal.{Literal}
-use Rattle.table_formula.specs.declared.outcome.Outcome.{Outcome}
-use Rattle.table_formula.specs.declared.outcome.Outcome.TheVariants.{Follows}
+use Rattle.table_formula.specs.declared.refutation.outcome.Outcome.{Outcome}
+use Rattle.table_formula.specs.declared.refutation.outcome.Outcome.TheVariants.{Follows}
 use Rattle.table_formula.proofs.Truth.{truth, or_true, or_false, same_literals, negated_is_false}
 
 -- the literals that are known to be false are false

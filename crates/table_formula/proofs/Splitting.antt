@@ -4,7 +4,7 @@ use Rattle.std.specs.List.{onto_first}
 use Rattle.std.proofs.lemmas.Bool.Decides.{eqb_tells}
 use Rattle.std.proofs.lemmas.List.{take_all}
 use Rattle.std.proofs.lemmas.List.Splits.{slice_split-cons_yes, slice_split-cons_no}
-use Rattle.table_formula.specs.Parts.{parts_of}
+use Rattle.table_formula.specs.Split.{parts_of}
 
 differs : (x y : ℕ) → (x ≡ y → ⊥) → (x == y) ≡ false
 differs x y other = ⊎_elim (λ (yes : ((x == y) ≡ true) × (x ≡ y)). absurd (other yes.1)) (λ (no : ((x == y) ≡ false) × (x ≡ y → ⊥)). no.0) (eqb_tells x y)

@@ -2,10 +2,10 @@
 use Rattle.std.proofs.Common.{◌≡◌, ◌≢◌, ◌⊎◌, inl, inr, ℕ, ◌+◌, ◌≤◌, Bool, true, false, List, [], ◌∷◌, ◌++◌, Option, None, Some, length, refl, sym, ap, ◌∙◌, arith, append-nil}
 use Rattle.std.proofs.lemmas.Bool.{cases_order}
 use Rattle.table_formula.specs.Problems.{Problem}
-use Rattle.table_formula.specs.declared.fault.LineFault.{LineFault}
-use Rattle.table_formula.specs.declared.fault.LineFault.TheVariants.{NoEmptyClause}
-use Rattle.table_formula.specs.declared.fault.RefuteError.{RefuteError}
-use Rattle.table_formula.specs.declared.fault.RefuteError.TheVariants.{TooLong, At, OutOfMemory}
+use Rattle.table_formula.specs.declared.refutation.fault.LineFault.{LineFault}
+use Rattle.table_formula.specs.declared.refutation.fault.LineFault.TheVariants.{NoEmptyClause}
+use Rattle.table_formula.specs.declared.refutation.fault.RefuteError.{RefuteError}
+use Rattle.table_formula.specs.declared.refutation.fault.RefuteError.TheVariants.{TooLong, At, OutOfMemory}
 use Rattle.table_formula.specs.declared.limits.TheConstants.{LONGEST_REFUTATION}
 use Rattle.table_formula.specs.Words.{lines_of}
 use Rattle.table_formula.specs.Lines.{line_in}

@@ -1,6 +1,6 @@
 -- The state of a checker. No public contract cites this file.
 use Rattle.table_formula.specs.Problems.{Problem}
-use Rattle.table_formula.specs.declared.checker.Checker.{Checker}
+use Rattle.table_formula.specs.declared.refutation.checker.Checker.{Checker}
 use Rattle.table_formula.specs.Derivations.{Derivation}
 use Rattle.table_formula.specs.Stored.{clause_of}
 

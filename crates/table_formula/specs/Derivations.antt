@@ -3,14 +3,14 @@ use Rattle.std.specs.Prelude.{◌==◌, ℕ, ◌-◌, Bool, true, false, List, [
 use Rattle.std.specs.List.{list_all, list_any}
 use Rattle.table_formula.specs.Hints.{step_outcome}
 use Rattle.table_formula.specs.declared.literal.Literal.{Literal}
-use Rattle.table_formula.specs.declared.outcome.Outcome.{Outcome}
-use Rattle.table_formula.specs.declared.outcome.Outcome.TheVariants as outcome
+use Rattle.table_formula.specs.declared.refutation.outcome.Outcome.{Outcome}
+use Rattle.table_formula.specs.declared.refutation.outcome.Outcome.TheVariants as outcome
 use Rattle.table_formula.specs.Problems.{Problem}
 use Rattle.table_formula.specs.Formula.{variable_count, formula}
 use Rattle.table_formula.specs.Exchanges.{can_exchange, exchanged_literal}
-use Rattle.table_formula.specs.declared.exchange.Exchange.{Exchange}
-use Rattle.table_formula.specs.declared.fault.LineFault.{LineFault}
-use Rattle.table_formula.specs.declared.fault.LineFault.TheVariants as fault
+use Rattle.table_formula.specs.declared.formula.exchange.Exchange.{Exchange}
+use Rattle.table_formula.specs.declared.refutation.fault.LineFault.{LineFault}
+use Rattle.table_formula.specs.declared.refutation.fault.LineFault.TheVariants as fault
 use Rattle.table_formula.specs.Lines.{Line, Comment, Deletion, Addition}
 
 -- which clause each number names, and the number of the newest clause

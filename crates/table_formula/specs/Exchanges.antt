@@ -7,8 +7,8 @@ use Rattle.ring_problems.specs.declared.pattern.Entry.{Entry}
 use Rattle.ring_problems.specs.declared.pattern.Entry.TheVariants.{Wildcard, Channel}
 use Rattle.ring_problems.specs.declared.pattern.Pattern.{Pattern}
 use Rattle.table_formula.specs.declared.literal.Literal.{Literal}
-use Rattle.table_formula.specs.declared.exchange.Exchange.{Exchange}
-use Rattle.table_formula.specs.declared.exchange.Exchange.TheVariants.{Identifiers, Channels, Mirror}
+use Rattle.table_formula.specs.declared.formula.exchange.Exchange.{Exchange}
+use Rattle.table_formula.specs.declared.formula.exchange.Exchange.TheVariants.{Identifiers, Channels, Mirror}
 use Rattle.table_formula.specs.Problems.{Problem}
 use Rattle.table_formula.specs.Formula.{patterns_of, windows_of, variable_of}
 

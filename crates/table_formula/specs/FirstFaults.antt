@@ -1,11 +1,11 @@
 -- The first fault of lines, as the program finds it. No public contract cites this file.
 use Rattle.std.specs.Prelude.{ℕ, ◌+◌, Bool, List, [], ◌∷◌, Option, None, Some, if◌then◌else◌}
 use Rattle.table_formula.specs.Problems.{Problem}
-use Rattle.table_formula.specs.declared.fault.FirstFault.{FirstFault}
-use Rattle.table_formula.specs.declared.fault.LineFault.{LineFault}
-use Rattle.table_formula.specs.declared.fault.LineFault.TheVariants.{NoEmptyClause}
-use Rattle.table_formula.specs.declared.fault.RefuteError.{RefuteError}
-use Rattle.table_formula.specs.declared.fault.RefuteError.TheVariants.{At}
+use Rattle.table_formula.specs.declared.refutation.fault.FirstFault.{FirstFault}
+use Rattle.table_formula.specs.declared.refutation.fault.LineFault.{LineFault}
+use Rattle.table_formula.specs.declared.refutation.fault.LineFault.TheVariants.{NoEmptyClause}
+use Rattle.table_formula.specs.declared.refutation.fault.RefuteError.{RefuteError}
+use Rattle.table_formula.specs.declared.refutation.fault.RefuteError.TheVariants.{At}
 use Rattle.table_formula.specs.Words.{lines_of}
 use Rattle.table_formula.specs.Lines.{line_in}
 use Rattle.table_formula.specs.Derivations.{Derivation, opening, line_fault, after_line, adds_empty}

@@ -1,8 +1,8 @@
 -- What a line says, as the program keeps it. No public contract cites this file.
 use Rattle.std.specs.Prelude.{ℕ, Bool, true, false, List, Option, None, Some}
 use Rattle.table_formula.specs.declared.literal.Literal.{Literal}
-use Rattle.table_formula.specs.declared.forms.LineForm.{LineForm}
-use Rattle.table_formula.specs.declared.forms.LineForm.TheVariants as form
+use Rattle.table_formula.specs.declared.refutation.forms.LineForm.{LineForm}
+use Rattle.table_formula.specs.declared.refutation.forms.LineForm.TheVariants as form
 use Rattle.table_formula.specs.Lines.{Line, Comment, Deletion, Addition}
 
 -- what a line of this form says with this clause and these numbers, which are its hints or the deleted numbers

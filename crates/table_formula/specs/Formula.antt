@@ -14,7 +14,7 @@ use Rattle.ring_problems.specs.declared.pattern.Pattern.{Pattern}
 use Rattle.ring_problems.specs.Patterns.{is_below}
 use Rattle.ring_problems.specs.TupleLists.{tuples_below}
 use Rattle.table_formula.specs.declared.literal.Literal.{Literal}
-use Rattle.table_formula.specs.declared.conflict.Conflict.{Conflict}
+use Rattle.table_formula.specs.declared.formula.conflict.Conflict.{Conflict}
 use Rattle.table_formula.specs.Problems.{Problem}
 
 -- the windows of the last level

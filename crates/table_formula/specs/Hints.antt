@@ -2,10 +2,10 @@
 use Rattle.std.specs.Prelude.{ℕ, Bool, true, false, not, ◌||◌, List, [], ◌∷◌, Option, None, Some, filter, option_map}
 use Rattle.table_formula.specs.Clauses.{is_same, negated, has_literal}
 use Rattle.table_formula.specs.declared.literal.Literal.{Literal}
-use Rattle.table_formula.specs.declared.marks.Remaining.{Remaining}
-use Rattle.table_formula.specs.declared.marks.Remaining.TheVariants.{Nothing, One, Several}
-use Rattle.table_formula.specs.declared.outcome.Outcome.{Outcome}
-use Rattle.table_formula.specs.declared.outcome.Outcome.TheVariants.{Follows, UnknownHint, SeveralLeft, EarlyConflict, OneLeft, NoHints}
+use Rattle.table_formula.specs.declared.refutation.marks.Remaining.{Remaining}
+use Rattle.table_formula.specs.declared.refutation.marks.Remaining.TheVariants.{Nothing, One, Several}
+use Rattle.table_formula.specs.declared.refutation.outcome.Outcome.{Outcome}
+use Rattle.table_formula.specs.declared.refutation.outcome.Outcome.TheVariants.{Follows, UnknownHint, SeveralLeft, EarlyConflict, OneLeft, NoHints}
 
 -- the literals of a clause that are not known to be false
 abbrev pub left_of : (Literal → Bool) → List Literal → List Literal

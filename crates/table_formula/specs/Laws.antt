@@ -12,7 +12,7 @@ use Rattle.table_formula.specs.Limits.{IsWithinLimits}
 use Rattle.table_formula.specs.Texts.{formula_text}
 use Rattle.table_formula.specs.Dimacs.{ReadsAs}
 use Rattle.table_formula.specs.Exchanges.{can_exchange, exchanged_literal}
-use Rattle.table_formula.specs.declared.exchange.Exchange.{Exchange}
+use Rattle.table_formula.specs.declared.formula.exchange.Exchange.{Exchange}
 
 -- each table that is asked for makes all clauses hold
 abbrev pub SolutionsSatisfy : Type 0

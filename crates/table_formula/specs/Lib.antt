@@ -22,7 +22,7 @@ pub mod Derivations
 pub mod Refutations
 pub mod FirstFaults
 pub mod RefutationNotes
-pub mod Parts
+pub mod Split
 pub mod Forms
 pub mod Reader
 pub mod Added

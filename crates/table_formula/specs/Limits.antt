@@ -3,7 +3,7 @@ use Rattle.std.specs.Prelude.{◌≡◌, ℕ, ◌<◌, ◌≤◌, List, [], leng
 use Rattle.table_formula.specs.Problems.{Problem}
 use Rattle.table_formula.specs.Formula.{variable_count, tuples_of, conflicts_of, patterns_of, apart_formula, formula}
 use Rattle.ring_problems.specs.declared.pattern.Pattern.{Pattern}
-use Rattle.table_formula.specs.declared.conflict.Conflict.{Conflict}
+use Rattle.table_formula.specs.declared.formula.conflict.Conflict.{Conflict}
 use Rattle.table_formula.specs.declared.limits.TheConstants.{MAX_VARIABLES, MAX_CLAUSES}
 
 -- the formula has at most MAX_VARIABLES variables

@@ -1,10 +1,10 @@
 -- The forms of a line: a comment, a deletion, or an addition, which may be after an exchange.
 use Rattle.std.specs.Prelude.{◌==◌, ℕ, Bool, true, List, [], ◌∷◌, Option, None, Some, option_map, if◌then◌else◌}
 use Rattle.table_formula.specs.declared.literal.Literal.{Literal}
-use Rattle.table_formula.specs.declared.exchange.Exchange.{Exchange}
-use Rattle.table_formula.specs.declared.exchange.Exchange.TheVariants as exchange
-use Rattle.table_formula.specs.declared.forms.Letter.{Letter}
-use Rattle.table_formula.specs.declared.forms.Letter.TheVariants as letter
+use Rattle.table_formula.specs.declared.formula.exchange.Exchange.{Exchange}
+use Rattle.table_formula.specs.declared.formula.exchange.Exchange.TheVariants as exchange
+use Rattle.table_formula.specs.declared.refutation.forms.Letter.{Letter}
+use Rattle.table_formula.specs.declared.refutation.forms.Letter.TheVariants as letter
 use Rattle.table_formula.specs.Words.{words_of, number_in, literal_in, is_end}
 
 -- what a line says: nothing, which clauses it deletes, or which clause it adds, after which exchange if any, with which hints

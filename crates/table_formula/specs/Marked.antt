@@ -1,9 +1,9 @@
 -- Marked literals.
 use Rattle.std.specs.Prelude.{◌==◌, ℕ, ◌<◌, Bool, length, slice_index, if◌then◌else◌}
 use Rattle.table_formula.specs.declared.literal.Literal.{Literal}
-use Rattle.table_formula.specs.declared.marks.Marks.{Marks}
-use Rattle.table_formula.specs.declared.marks.Remaining.{Remaining}
-use Rattle.table_formula.specs.declared.marks.Remaining.TheVariants.{Nothing, One, Several}
+use Rattle.table_formula.specs.declared.refutation.marks.Marks.{Marks}
+use Rattle.table_formula.specs.declared.refutation.marks.Remaining.{Remaining}
+use Rattle.table_formula.specs.declared.refutation.marks.Remaining.TheVariants.{Nothing, One, Several}
 
 -- the number of the variables of the literals that can be marked
 abbrev pub variables_of : Marks → ℕ

@@ -1,14 +1,14 @@
 -- What a reader of lines has read, and what is left. No public contract cites this file.
 use Rattle.std.specs.Prelude.{◌≡◌, ◌≢◌, ℕ, ◌+◌, Bool, true, false, List, [], ◌∷◌, Option, Result, Ok, Err}
 use Rattle.std.specs.declared.alloc.AllocError.{AllocError}
-use Rattle.table_formula.specs.declared.reader.Reader.{Reader}
+use Rattle.table_formula.specs.declared.refutation.reader.Reader.{Reader}
 use Rattle.table_formula.specs.Lines.{Line, line_in}
 use Rattle.table_formula.specs.Forms.{line_of}
-use Rattle.table_formula.specs.Parts.{remaining_parts}
+use Rattle.table_formula.specs.Split.{parts_left}
 
 -- the lines that are left
 abbrev pub lines_left : Reader → List (List ℕ)
-lines_left reader = remaining_parts reader.left
+lines_left reader = parts_left reader.left
 
 -- how many lines were read
 abbrev pub lines_read : Reader → ℕ

@@ -1,8 +1,8 @@
 -- Where memory was refused to check the lines of a text. No public contract cites this file.
 use Rattle.std.specs.Prelude.{◌≡◌, ◌≢◌, ◌⊎◌, true, [], Option, None}
 use Rattle.table_formula.specs.Problems.{Problem}
-use Rattle.table_formula.specs.declared.fault.RefuteError.{RefuteError}
-use Rattle.table_formula.specs.declared.reader.Reader.{Reader}
+use Rattle.table_formula.specs.declared.refutation.fault.RefuteError.{RefuteError}
+use Rattle.table_formula.specs.declared.refutation.reader.Reader.{Reader}
 use Rattle.table_formula.specs.Derivations.{Derivation, line_fault, after_line}
 use Rattle.table_formula.specs.FirstFaults.{first_fault}
 use Rattle.table_formula.specs.Forms.{is_addition}

@@ -1,8 +1,8 @@
 -- The statements of the laws of this crate.
 use Rattle.std.specs.Prelude.{◌≡◌, ◌≢◌, ◌⊎◌, ◌↔◌, ℕ, ◌<◌, List, length}
 use Rattle.table_formula.specs.Problems.{Problem, IsImpossible}
-use Rattle.table_formula.specs.declared.fault.RefuteError.{RefuteError}
-use Rattle.table_formula.specs.declared.fault.RefuteError.TheVariants.{TooLong, OutOfMemory}
+use Rattle.table_formula.specs.declared.refutation.fault.RefuteError.{RefuteError}
+use Rattle.table_formula.specs.declared.refutation.fault.RefuteError.TheVariants.{TooLong, OutOfMemory}
 use Rattle.table_formula.specs.declared.limits.TheConstants.{LONGEST_REFUTATION}
 use Rattle.table_formula.specs.Refutations.{IsRefutation, IsFault}
 

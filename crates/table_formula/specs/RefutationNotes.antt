@@ -3,10 +3,10 @@ use Rattle.std.specs.Prelude.{◌≡◌, ℕ, ◌-◌, ◌++◌, List, [], ◌�
 use Rattle.std.specs.Fmt.{decimal}
 use Rattle.source_places.specs.Places.{after_lines}
 use Rattle.source_places.specs.Shown.{marked_line}
-use Rattle.table_formula.specs.declared.fault.LineFault.{LineFault}
-use Rattle.table_formula.specs.declared.fault.LineFault.TheVariants as line_fault
-use Rattle.table_formula.specs.declared.fault.RefuteError.{RefuteError}
-use Rattle.table_formula.specs.declared.fault.RefuteError.TheVariants as refute
+use Rattle.table_formula.specs.declared.refutation.fault.LineFault.{LineFault}
+use Rattle.table_formula.specs.declared.refutation.fault.LineFault.TheVariants as line_fault
+use Rattle.table_formula.specs.declared.refutation.fault.RefuteError.{RefuteError}
+use Rattle.table_formula.specs.declared.refutation.fault.RefuteError.TheVariants as refute
 
 -- what is wrong with a line of a refutation
 abbrev pub line_cause : LineFault → List ℕ

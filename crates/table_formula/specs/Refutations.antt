@@ -1,10 +1,10 @@
 -- Which texts are refutations of the formula of a problem, and the first fault of another text.
 use Rattle.std.specs.Prelude.{◌≡◌, ◌⊎◌, ℕ, ◌+◌, ◌<◌, ◌≤◌, false, true, List, [], ◌∷◌, ◌++◌, None, Some, length}
 use Rattle.table_formula.specs.Problems.{Problem}
-use Rattle.table_formula.specs.declared.fault.LineFault.{LineFault}
-use Rattle.table_formula.specs.declared.fault.LineFault.TheVariants.{NoEmptyClause}
-use Rattle.table_formula.specs.declared.fault.RefuteError.{RefuteError}
-use Rattle.table_formula.specs.declared.fault.RefuteError.TheVariants.{TooLong, At, OutOfMemory}
+use Rattle.table_formula.specs.declared.refutation.fault.LineFault.{LineFault}
+use Rattle.table_formula.specs.declared.refutation.fault.LineFault.TheVariants.{NoEmptyClause}
+use Rattle.table_formula.specs.declared.refutation.fault.RefuteError.{RefuteError}
+use Rattle.table_formula.specs.declared.refutation.fault.RefuteError.TheVariants.{TooLong, At, OutOfMemory}
 use Rattle.table_formula.specs.declared.limits.TheConstants.{LONGEST_REFUTATION}
 use Rattle.table_formula.specs.Words.{lines_of}
 use Rattle.table_formula.specs.Lines.{line_in}

@@ -3,7 +3,7 @@ use Rattle.std.specs.Prelude.{◌≡◌, ℕ, Bool, List, Option, IfSome, All}
 use Rattle.table_formula.specs.Clauses.{Holds}
 use Rattle.table_formula.specs.Hints.{step_outcome}
 use Rattle.table_formula.specs.declared.literal.Literal.{Literal}
-use Rattle.table_formula.specs.declared.outcome.Outcome.TheVariants.{Follows}
+use Rattle.table_formula.specs.declared.refutation.outcome.Outcome.TheVariants.{Follows}
 
 -- a clause that follows from the clauses of the hints holds wherever these hold
 abbrev pub StepsAreSound : Type 0

@@ -2,7 +2,7 @@
 use Rattle.std.specs.Prelude.{ℕ, false, List, Option, None, length, nat_lt, slice_index_or, if◌then◌else◌}
 use Rattle.table_formula.specs.declared.literal.Literal.{Literal}
 use Rattle.table_formula.specs.Formula.{formula}
-use Rattle.table_formula.specs.declared.clauses.Clauses.{Clauses}
+use Rattle.table_formula.specs.declared.refutation.clauses.Clauses.{Clauses}
 use Rattle.table_formula.specs.Added.{added_clause}
 use Rattle.table_formula.specs.Derivations.{opening}
 

@@ -8,11 +8,17 @@ ghost use Rattle.table_formula.specs.Problems.{problem_of};
 ghost use Rattle.table_formula.specs.Limits.{IsWithinLimits};
 ghost use Rattle.table_formula.specs.FormulaFaults.{IsFormulaFault};
 
-use crate::conflict::{Conflict, conflict_count, conflicts_in};
-use crate::exchange::{Exchange, exchanged_number, other_of};
+pub(crate) mod conflict;
+pub(crate) mod exchange;
+pub(crate) mod laws;
+pub(crate) mod pattern_exchange;
+pub(crate) mod text;
+
+use crate::formula::conflict::{Conflict, conflict_count, conflicts_in};
+use crate::formula::exchange::{Exchange, exchanged_number, other_of};
+use crate::formula::pattern_exchange::ChannelMap;
 use crate::limits::{MAX_CLAUSES, MAX_VARIABLES};
 use crate::literal::Literal;
-use crate::pattern_exchange::ChannelMap;
 use channel_tables::{Separation, TupleLists};
 use node_program::MAX_CHANNELS;
 use ring_problems::{Entry, Pattern, tuple_count, tuple_extra, write_tuple};

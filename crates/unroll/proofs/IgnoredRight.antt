@@ -8,7 +8,7 @@ use Rattle.node_program.specs.Term.{Term, Literal, Identifier, LeftMessage, Righ
 use Rattle.node_program.specs.declared.tree.Round as code
 use Rattle.node_program.specs.Value.{value}
 use Rattle.node_program.specs.declared.tree.Expr.{Expr}
-use Rattle.unroll.specs.Reading.{reads_right, assignments_read_right, round_reads_right}
+use Rattle.unroll.specs.RightReads.{reads_right, assignments_read_right, round_reads_right}
 
 -- the value of an expression that does not read the message from the right, with two such messages
 module _ (own : List ℕ) (left right other : ℕ) where

@@ -8,5 +8,5 @@ pub mod Room
 pub mod Below
 pub mod MakeFaults
 pub mod Parts
-pub mod Reading
+pub mod RightReads
 pub mod WideColumns

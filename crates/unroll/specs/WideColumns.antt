@@ -12,7 +12,7 @@ use Rattle.round_eval.specs.Line.{middle_state}
 use Rattle.round_eval.specs.Entries.{Entries}
 use Rattle.round_eval.specs.HeldStates.{first_states}
 use Rattle.unroll.specs.Parts.{window_in, IsKnownBlock, KnowsBelow, EndsAt}
-use Rattle.unroll.specs.Reading.{round_reads_right}
+use Rattle.unroll.specs.RightReads.{round_reads_right}
 use Rattle.unroll.specs.declared.scratch.Scratch.{Scratch}
 use Rattle.unroll.specs.declared.run.Run.{Run}
 use Rattle.unroll.specs.declared.upper_block.UpperBlock.{UpperBlock}

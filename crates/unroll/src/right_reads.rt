@@ -2,7 +2,7 @@
 ghost use Rattle.std.specs.Prelude.{◌≡◌, ℕ, ◌<◌, true, length, slice_index_or};
 ghost use Rattle.std.specs.List.{list_any};
 ghost use Rattle.node_program.specs.Term.{term_of};
-ghost use Rattle.unroll.specs.Reading.{reads_right, round_reads_right};
+ghost use Rattle.unroll.specs.RightReads.{reads_right, round_reads_right};
 
 use lang_check::Plan;
 use node_program::{Expr, MAX_ROUNDS};

@@ -1,6 +1,6 @@
 //! Blocks above level 0, which are made from those one level below.
 ghost use Rattle.std.specs.Prelude.{◌≡◌, ◌+◌, ◌<◌, ◌^◌, true, false, length};
-ghost use Rattle.unroll.specs.Reading.{round_reads_right};
+ghost use Rattle.unroll.specs.RightReads.{round_reads_right};
 ghost use Rattle.win_index.specs.Blocks.{block_count, window_count};
 ghost use Rattle.round_eval.specs.BlockStates.{block_len};
 

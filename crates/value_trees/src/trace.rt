@@ -1,13 +1,13 @@
 //! The trace of a ring: the registers and the messages of its places, round by round.
 
 ghost use Rattle.std.specs.Prelude.{◌≡◌, ◌+◌, ◌<◌, length, map, IfOk, OnOk};
-ghost use Rattle.round_eval.specs.Configuration.{reading, CanRead};
+ghost use Rattle.round_eval.specs.Configuration.{quantity, CanRead};
 ghost use Rattle.value_trees.specs.Rows.{of_places, register_rows, round_rows, rounds_rows, trace_rows};
 ghost use Rattle.value_trees.specs.Rows.{items_of, rows_of_round, rows_of};
 
 use lang_check::Plan;
 use node_program::OutOfMemory;
-use round_eval::{Configuration, Reading};
+use round_eval::{Configuration, Quantity};
 use std::alloc::{AllocError, Global};
 use win_index::Ring;
 
@@ -42,7 +42,7 @@ pub fn trace_of(alloc: Global, plan: &Plan, ring: &Ring) -> Result<Trace, OutOfM
     let mut places = Configuration::new(alloc, plan, ring)?;
     let start = registers_of(alloc, &places)?;
     let rounds = rounds_of(alloc, &mut places, plan.shape().rounds())?;
-    let finish = numbers_of(alloc, &places, Reading::Channel)?;
+    let finish = numbers_of(alloc, &places, Quantity::Channel)?;
     Ok(Trace {
         start,
         rounds,
@@ -76,8 +76,8 @@ fn next_round(alloc: Global, places: &mut Configuration<'_>) -> Result<RoundTrac
         ≡ round_rows places.old.program places.old.places places.old.round) }
     ensures done { OnOk result (places.new ≡ record places.old { round = places.old.round + 1 }) }
 {
-    let left = numbers_of(alloc, places, Reading::Left)?;
-    let right = numbers_of(alloc, places, Reading::Right)?;
+    let left = numbers_of(alloc, places, Quantity::Left)?;
+    let right = numbers_of(alloc, places, Quantity::Right)?;
     places.advance();
     let registers = registers_of(alloc, places)?;
     Ok(RoundTrace {
@@ -94,7 +94,7 @@ fn registers_of(alloc: Global, places: &Configuration<'_>) -> Result<Vec<Vec<u32
 {
     let mut rows = Vec::with_capacity(alloc, places.registers() as usize)?;
     for register in 0..places.registers() {
-        rows.push(numbers_of(alloc, places, Reading::Register(register))?)?;
+        rows.push(numbers_of(alloc, places, Quantity::Register(register))?)?;
     }
     Ok(rows)
 }
@@ -103,14 +103,14 @@ fn registers_of(alloc: Global, places: &Configuration<'_>) -> Result<Vec<Vec<u32
 fn numbers_of(
     alloc: Global,
     places: &Configuration<'_>,
-    what: Reading,
+    what: Quantity,
 ) -> Result<Vec<u32>, AllocError>
     requires { CanRead places.now what }
-    ensures { IfOk result (λ numbers. numbers.items ≡ of_places places.now.places (reading places.now what)) }
+    ensures { IfOk result (λ numbers. numbers.items ≡ of_places places.now.places (quantity places.now what)) }
 {
     let mut numbers = Vec::with_capacity(alloc, places.places() as usize)?;
     for place in 0..places.places() {
-        numbers.push(places.reading(what, place))?;
+        numbers.push(places.quantity(what, place))?;
     }
     Ok(numbers)
 }

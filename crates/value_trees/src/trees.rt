@@ -13,7 +13,7 @@ ghost use Rattle.value_trees.specs.ValueTrees.{value_trees, tree_value};
 use crate::parts::{TreePart, push_parts};
 use lang_check::Plan;
 use node_program::{Env, Expr, MAX_DEPTH, OutOfMemory, Round};
-use round_eval::{Configuration, Reading};
+use round_eval::{Configuration, Quantity};
 use std::alloc::{AllocError, Global};
 use win_index::Ring;
 
@@ -72,7 +72,7 @@ pub fn trees_of<'p>(
         program.steps(),
         &mut places,
     )?;
-    let last = reading(places.held_by(place), 0, 0);
+    let last = environment(places.held_by(place), 0, 0);
     trees.push(tree_of(
         alloc,
         places.round(),
@@ -96,7 +96,7 @@ fn knowing(id: u32) -> Env<'static>
 }
 
 // Returns what an expression reads during and after the rounds: the registers and both messages.
-fn reading(registers: &[u32], left: u32, right: u32) -> Env<'_>
+fn environment(registers: &[u32], left: u32, right: u32) -> Env<'_>
     ensures { env_of result ≡ node.reading_messages registers.now left right }
 {
     Env {
@@ -147,11 +147,17 @@ fn push_round<'p>(
 {
     let Explained { alloc, place } = explained;
     let own = places.held_by(place);
-    let before = reading(own, 0, 0);
+    let before = environment(own, 0, 0);
     trees.push(tree_of(alloc, number, Given::Left, before, &round.left)?)?;
     trees.push(tree_of(alloc, number, Given::Right, before, &round.right)?)?;
     let (left, right) = received(places, place);
-    push_assigned(trees, alloc, reading(own, left, right), number, &round.next)
+    push_assigned(
+        trees,
+        alloc,
+        environment(own, left, right),
+        number,
+        &round.next,
+    )
 }
 
 // Returns the messages to a place in the next round, from its left and from its right neighbour.
@@ -167,8 +173,8 @@ fn received(places: &Configuration<'_>, place: u32) -> (u32, u32)
     let left = (u64::from(place) + count - 1) % count;
     let right = (u64::from(place) + 1) % count;
     (
-        places.reading(Reading::Right, left as u32),
-        places.reading(Reading::Left, right as u32),
+        places.quantity(Quantity::Right, left as u32),
+        places.quantity(Quantity::Left, right as u32),
     )
 }
 

@@ -1,6 +1,6 @@
 use Rattle.std.proofs.Common.{subst, arith}
 use Rattle.nbhd_check.specs.Runs.{SecondRunsOf}
-use Rattle.nbhd_check.specs.Words.{HasWords}
+use Rattle.nbhd_check.specs.ChannelSets.{HasWords}
 use Rattle.nbhd_check.proofs.MiddleSteps.{next_known, next_small}
 use Rattle.nbhd_check.proofs.RunSteps.{run_end}
 use Rattle.nbhd_check.proofs.middle_runs.middle_run.Goals as goal

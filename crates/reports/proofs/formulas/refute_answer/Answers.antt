@@ -1,7 +1,7 @@
 use Rattle.std.proofs.Common.{◌≢◌, refl, rules, subst}
 use Rattle.table_formula.specs.Problems.{Problem}
 use Rattle.table_formula.specs.Refutations.{IsFault}
-use Rattle.table_formula.specs.declared.fault.RefuteError.TheVariants as refute
+use Rattle.table_formula.specs.declared.refutation.fault.RefuteError.TheVariants as refute
 use Rattle.reports.specs.Report.{told, answered}
 use Rattle.reports.specs.Findings.{of_refutation}
 use Rattle.reports.proofs.formulas.refute_answer.Goals as goal

@@ -1,7 +1,7 @@
 use Rattle.std.proofs.Common.{List, ◌∷◌, [], ◌++◌, map, sym, ◌∙◌, ap, arith}
 use Rattle.std.specs.List.{range_with_len}
 use Rattle.std.proofs.lemmas.List.FromFn.{map-range_with_len_more}
-use Rattle.ring_core.specs.Parts.{Progress, opening_part}
+use Rattle.ring_core.specs.Progress.{Progress, opening_part}
 use Rattle.ring_core.proofs.world.opening_parts.Goals as goal
 
 pub loop-index-preserved : goal.loop-index-preserved

@@ -1,6 +1,6 @@
 use Rattle.std.proofs.Common.{◌≡◌, map}
 use Rattle.std.specs.List.{range_with_len}
-use Rattle.ring_core.specs.Parts.{opening_part}
+use Rattle.ring_core.specs.Progress.{opening_part}
 use Rattle.ring_core.proofs.world.opening_parts.Given as goal
 
 abbrev pub invariant-loop-index : goal.invariant-loop-index

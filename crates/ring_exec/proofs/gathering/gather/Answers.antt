@@ -6,7 +6,7 @@ use Rattle.win_index.specs.declared.limits.TheConstants.{MAX_IDS}
 use Rattle.node_program.specs.GlobalRounds.{channel_at}
 use Rattle.border_exchange.specs.SegmentPlaces.{first_place}
 use Rattle.border_exchange.specs.Segments.{RingSegment, first_of, places_of}
-use Rattle.border_exchange.specs.declared.limits.TheConstants.{MAX_SEGMENTS}
+use Rattle.border_exchange.specs.declared.segment.limits.TheConstants.{MAX_SEGMENTS}
 use Rattle.ring_exec.proofs.gathering.gather.Goals as goal
 
 pub loop-index-init : goal.loop-index-init

@@ -1,6 +1,6 @@
 use Rattle.std.proofs.Common.{◌≡◌, List, length}
 use Rattle.std.specs.Vec.Iter.{into_iter_items, into_iter_len}
-use Rattle.shared_memo.specs.declared.worker_jobs.WorkerOutcome.{WorkerOutcome}
+use Rattle.shared_memo.specs.declared.pool.worker_jobs.WorkerOutcome.{WorkerOutcome}
 use Rattle.shared_memo.proofs.Taken.{Taken}
 use Rattle.shared_memo.proofs.pool.answer_of.Given as goal
 

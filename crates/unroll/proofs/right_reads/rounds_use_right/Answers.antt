@@ -4,7 +4,7 @@ use Rattle.std.proofs.lemmas.Option.{slice_get-map, slice_get_read}
 use Rattle.std.specs.Option.{option_map}
 use Rattle.std.specs.Prelude.{slice_set}
 use Rattle.node_program.specs.Term.{step_of}
-use Rattle.unroll.specs.Reading.{round_reads_right}
+use Rattle.unroll.specs.RightReads.{round_reads_right}
 use Rattle.unroll.proofs.IgnoredRight.{round_reads}
 use Rattle.unroll.proofs.right_reads.rounds_use_right.Goals as goal
 

@@ -1,6 +1,6 @@
 use Rattle.std.proofs.Common.{◌≡◌, ℕ, ◌<◌, true, length, get_or}
 use Rattle.node_program.specs.declared.limits.TheConstants.{MAX_ROUNDS}
-use Rattle.unroll.specs.Reading.{round_reads_right}
+use Rattle.unroll.specs.RightReads.{round_reads_right}
 use Rattle.unroll.proofs.right_reads.rounds_use_right.Given as goal
 
 -- the rounds so far

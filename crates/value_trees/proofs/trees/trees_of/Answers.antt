@@ -25,7 +25,7 @@ returns c =
     ∙ ap (λ (s : RingConfiguration). map tree_value c.push_assigned.new.trees.items ++ trees_of_rounds s.program s.places i 0 s.program.steps) held in
     let after = c.in_ok-push_rounds.ensures.done ∙ ap (λ (s : RingConfiguration). record s { round = length s.program.steps }) held in
     let own = c.held_by.ensures.value ∙ ap (λ (s : RingConfiguration). state s.program s.places s.round i) after in
-    let reads = c.reading-last.ensures ∙ ap (λ registers. reading_messages registers 0 0) own in
+    let reads = c.environment-last.ensures ∙ ap (λ registers. reading_messages registers 0 0) own in
     let finish = c.finish.ensures.value ∙ ap (λ (t : ProgramTree). t.finish) program in
     let number = c.round.ensures.value ∙ ap (λ (s : RingConfiguration). s.round) after in
     let last = c.in_ok-tree_of.ensures ∙ (λ k. tree_at (number k) Channel (reads k) (finish k)) in

@@ -4,7 +4,7 @@ use Rattle.nbhd_check.specs.Masks.{HasBitsOf}
 use Rattle.nbhd_check.specs.MiddleRuns.{in_run}
 use Rattle.nbhd_check.specs.PatternSearch.{IsSecondClear}
 use Rattle.nbhd_check.specs.Runs.{second_gap, second_run, wide}
-use Rattle.nbhd_check.specs.Words.{HasWords}
+use Rattle.nbhd_check.specs.ChannelSets.{HasWords}
 use Rattle.nbhd_check.proofs.BeforeSteps.{HasCell, has_cell}
 use Rattle.nbhd_check.proofs.PatternSteps.{clear_by_words, has_once, has_rest, nothing}
 use Rattle.nbhd_check.proofs.patterns.PatternSearch.may_be_broken_at.Goals.{Start}

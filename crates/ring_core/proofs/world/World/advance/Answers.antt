@@ -3,7 +3,7 @@ use Rattle.std.proofs.lemmas.List.{get_or_default}
 use Rattle.border_exchange.specs.Needs.{from_left, from_right}
 use Rattle.ring_core.specs.Machine.{Machine, CanAdvance, Steps, segment_at}
 use Rattle.ring_core.specs.MachinePromises.{segment_after_rounds}
-use Rattle.ring_core.specs.Parts.{Progress, Parts, no_part, part_at, at_round, machine_of}
+use Rattle.ring_core.specs.Progress.{Progress, Parts, no_part, part_at, at_round, machine_of}
 use Rattle.ring_core.specs.declared.event.RingEvent.TheVariants.{Advance}
 use Rattle.ring_core.proofs.Fits.{MayAdvance}
 use Rattle.ring_core.proofs.Enabled.{is_part, may_advance, unfinished}

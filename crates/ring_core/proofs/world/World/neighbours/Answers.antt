@@ -1,7 +1,7 @@
 use Rattle.std.proofs.Common.{◌≡◌, ◌<◌, length, subst, sym}
 use Rattle.ring_core.specs.Machine.{Machine}
 use Rattle.ring_core.specs.MachinePromises.{segment_after_rounds}
-use Rattle.ring_core.specs.Parts.{needed_to, sender_of, sent_to}
+use Rattle.ring_core.specs.Progress.{needed_to, sender_of, sent_to}
 use Rattle.ring_core.proofs.Readings.{is_part, neighbours_send}
 use Rattle.ring_core.proofs.world.World.neighbours.Goals as goal
 

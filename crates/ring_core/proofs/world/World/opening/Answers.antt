@@ -1,5 +1,5 @@
 use Rattle.std.proofs.Common.{List, subst, sym, ◌∙◌, ap}
-use Rattle.ring_core.specs.Parts.{Progress, FitTogether, machine_of}
+use Rattle.ring_core.specs.Progress.{Progress, FitTogether, machine_of}
 use Rattle.ring_core.proofs.Opening.{opening_fits, opening_machine}
 use Rattle.ring_core.proofs.world.World.opening.Goals as goal
 

@@ -1,7 +1,7 @@
 use Rattle.std.proofs.Common.{◌≡◌, ◌<◌, length, subst, sym, ◌∙◌, ap}
 use Rattle.std.proofs.lemmas.List.{get_or_default}
 use Rattle.ring_core.specs.Machine.{Machine, left_border, right_border}
-use Rattle.ring_core.specs.Parts.{Progress, Parts, no_part, part_at}
+use Rattle.ring_core.specs.Progress.{Progress, Parts, no_part, part_at}
 use Rattle.ring_core.proofs.Views.{own_right_size, own_left_size}
 use Rattle.ring_core.proofs.Enabled.{is_part}
 use Rattle.ring_core.proofs.world.World.part.Goals.{After-index}

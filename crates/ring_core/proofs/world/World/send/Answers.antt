@@ -1,7 +1,7 @@
 use Rattle.std.proofs.Common.{◌≡◌, ◌<◌, length, subst, sym, ◌∙◌, ap, rules}
 use Rattle.std.proofs.lemmas.List.{get_or_default}
 use Rattle.ring_core.specs.Machine.{Machine, Steps}
-use Rattle.ring_core.specs.Parts.{Progress, Parts, MaySend, no_part, part_at, sent_by, after_sending, sending, machine_of}
+use Rattle.ring_core.specs.Progress.{Progress, Parts, MaySend, no_part, part_at, sent_by, after_sending, sending, machine_of}
 use Rattle.ring_core.proofs.Events.{after, sent_fits, sent_steps, idle}
 use Rattle.ring_core.proofs.world.World.send.Goals.{In_ok-send}
 use Rattle.ring_core.proofs.world.World.send.Goals as goal

@@ -3,7 +3,7 @@ use Rattle.border_exchange.specs.declared.Side.TheVariants.{Rightward, Leftward}
 use Rattle.border_exchange.specs.Segments.{RingSegment}
 use Rattle.ring_core.specs.Machine.{BorderState}
 use Rattle.ring_core.specs.MachinePromises.{sent_at}
-use Rattle.ring_core.specs.Parts.{rightward_headings, leftward_headings}
+use Rattle.ring_core.specs.Progress.{rightward_headings, leftward_headings}
 use Rattle.ring_core.proofs.Readings.{same_border, values_are}
 use Rattle.ring_core.proofs.world.World.sent.Goals as goal
 

@@ -1,0 +1,10 @@
+//! Texts in buffers.
+ghost use Rattle.std.specs.Prelude.{◌≤◌, length};
+
+/// A text: the first `len` bytes of a buffer.
+#[derive(Clone, Copy)]
+pub struct Prefix<'a> {
+    pub buffer: &'a [u8],
+    pub len: usize,
+    pub ghost short: { len ≤ length buffer.now },
+}

@@ -1,5 +1,0 @@
-use Rattle.reports.proofs.TableLines.{one_list}
-use Rattle.reports.proofs.places.one_list_of_channels.Goals as goal
-
-pub returns : goal.returns
-returns c = one_list

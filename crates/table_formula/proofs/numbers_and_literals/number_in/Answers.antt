@@ -1,5 +1,0 @@
-use Rattle.table_formula.proofs.Numbers.{value_is_number}
-use Rattle.table_formula.proofs.numbers_and_literals.number_in.Goals as goal
-
-pub returns : goal.returns
-returns c = value_is_number c.args.word.now c.decimal_value.result c.decimal_value.ensures
