@@ -18,8 +18,8 @@ DAMAGES = [
         "an equivalence on errors says one direction",
         "ring_exec run",
         "crates/ring_exec/src/message_run.rt",
-        "(fault ≡ RunFault.SegmentsOutOfRange) ↔ (¬ IsSegmentCount",
-        "(fault ≡ RunFault.SegmentsOutOfRange) → (¬ IsSegmentCount",
+        "↔ (¬ IsSegmentCount segments (length ring",
+        "→ (¬ IsSegmentCount segments (length ring",
     ),
     (
         "the case of an error lacks its condition",

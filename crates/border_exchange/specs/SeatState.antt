@@ -14,8 +14,8 @@ pub record IsNext {M : Type 0} (side_of : M → Side) (round_of : M → ℕ) (se
   pub side : side_of m ≡ seat.side
   pub round : round_of m ≡ seat.puts
 
--- what a fault of a put says of the message: a misplaced one is not the next one of the seat, and memory is only wanted for
--- the next one
+-- what a fault of a put says of the message: a misplaced one is not the next one of the seat, and memory is only
+-- wanted for the next one
 abbrev pub IsPutFault : {M : Type 0} → (M → Side) → (M → ℕ) → SeatState → M → PutFault → Type 0
 IsPutFault side_of round_of seat m Closed = Unit {0}
 IsPutFault side_of round_of seat m Misplaced = ¬ IsNext side_of round_of seat m

@@ -75,7 +75,8 @@ impl<'a> Msg<'a> {
         side: Side,
         round: u32,
     ) -> bool
-        ensures { IsTrue result ↔ (heading_of self.now ≡ record { plan = plan.now; ring = ring.now; place = place; side = side; round = round }) }
+        ensures { IsTrue result ↔ (heading_of self.now
+            ≡ record { plan = plan.now; ring = ring.now; place = place; side = side; round = round }) }
     {
         place == self.place
             && side == self.side

@@ -48,9 +48,16 @@ impl<'a> Model for Segment<'a> {
 
     ghost coded = { segment_code };
 
-    ghost view = { λ s. record { plan = s.plan.now; ring = s.ring.now; segments = s.segments; index = s.index; round = s.round } };
+    ghost view = { λ s. record {
+      plan = s.plan.now;
+      ring = s.ring.now;
+      segments = s.segments;
+      index = s.index;
+      round = s.round;
+    } };
 
-    ghost invariant = { λ s. KeepsSegment (record { plan = s.plan.now; ring = s.ring.now; segments = s.segments; index = s.index; round = s.round })
+    ghost invariant = { λ s. KeepsSegment
+        (record { plan = s.plan.now; ring = s.ring.now; segments = s.segments; index = s.index; round = s.round })
         s.first s.end (vec_len s.spare) s.states.items };
 }
 
@@ -71,7 +78,8 @@ impl<'a> Segment<'a> {
         requires shape { IsOfShape ring.now plan.now }
         requires segments { segments ≤ length ring.now.places }
         requires index { index < segments }
-        ensures { IfOk result (λ s. s ≡ record { plan = plan.now; ring = ring.now; segments = segments; index = index; round = 0 }) }
+        ensures { IfOk result (λ s. s
+            ≡ record { plan = plan.now; ring = ring.now; segments = segments; index = index; round = 0 }) }
     {
         let places = ring.len();
         let first = index * places / segments;
@@ -121,7 +129,8 @@ impl<'a> Segment<'a> {
     /// Returns whether it is the segment with this index, of `segments`, of a run of this plan on
     /// this ring.
     pub fn is_of(&self, plan: &Plan, ring: &Ring, segments: u32, index: u32) -> bool
-        ensures { IsTrue result ↔ (self.now ≡ record { plan = plan.now; ring = ring.now; segments = segments; index = index; round = self.now.round }) }
+        ensures { IsTrue result ↔ (self.now
+            ≡ record { plan = plan.now; ring = ring.now; segments = segments; index = index; round = self.now.round }) }
     {
         self.segments == segments
             && self.index == index
@@ -165,7 +174,8 @@ impl<'a> Segment<'a> {
     /// is then unchanged.
     pub fn advance(&mut self, left: Msg<'a>, right: Msg<'a>) -> Result<(), Strange>
         requires { self.old.round < length self.old.plan.program.steps }
-        ensures exactly { IsOk result ↔ ((heading_of left.entry ≡ from_left self.old) × (heading_of right.entry ≡ from_right self.old)) }
+        ensures exactly { IsOk result
+            ↔ ((heading_of left.entry ≡ from_left self.old) × (heading_of right.entry ≡ from_right self.old)) }
         ensures advanced { OnOk result (self.new ≡ record self.old { round = self.old.round + 1 }) }
         ensures unchanged { OnErr result (self.new ≡ self.old) }
     {

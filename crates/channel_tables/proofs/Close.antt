@@ -10,7 +10,8 @@ apart_not_close distance (Some c) (Some d) apart close = omega arith
 apart_not_close distance (Some c) None apart close = close
 apart_not_close distance None b apart close = close
 
-apart_of_not_close : (distance : ℕ) (a b : Option ℕ) → IsSome a → IsSome b → ¬ AreClose distance a b → AreApart distance a b
+apart_of_not_close : (distance : ℕ) (a b : Option ℕ) → IsSome a → IsSome b → ¬ AreClose distance a b
+    → AreApart distance a b
 apart_of_not_close distance (Some c) (Some d) some_a some_b other =
     let none : ¬ (abs_diff c d < distance) = other in
     omega arith
@@ -58,24 +59,29 @@ closer less distance None b le close = absurd close
 abbrev pub AreTooClose : Separation → Option ℕ → Option ℕ → Option ℕ → Type 0
 AreTooClose s a b c = AreClose s.near a b ⊎ AreClose s.far a c
 
-pub too_close_along : (s : Separation) {a b c d e f : Option ℕ} → a ≡ d → b ≡ e → (2 ≤ extra s → c ≡ f) → AreTooClose s a b c → AreTooClose s d e f
+pub too_close_along : (s : Separation) {a b c d e f : Option ℕ} → a ≡ d → b ≡ e → (2 ≤ extra s → c ≡ f)
+    → AreTooClose s a b c → AreTooClose s d e f
 too_close_along s {a} {b} {c} {d} {e} {f} first second third close =
     ⊎_elim (λ (near : AreClose s.near a b). inl (close_along s.near first second near))
     (λ (far : AreClose s.far a c). inr (close_along s.far first (third (two_of_far s a c far)) far)) close
 
-pub too_close_for_more : (less s : Separation) (a b c : Option ℕ) → less.near ≤ s.near → less.far ≤ s.far → AreTooClose less a b c → AreTooClose s a b c
+pub too_close_for_more : (less s : Separation) (a b c : Option ℕ) → less.near ≤ s.near → less.far ≤ s.far
+    → AreTooClose less a b c → AreTooClose s a b c
 too_close_for_more less s a b c near far close =
     ⊎_elim (λ (own : AreClose less.near a b). inl (closer less.near s.near a b near own))
     (λ (own : AreClose less.far a c). inr (closer less.far s.far a c far own)) close
 
 pub same_of_too_close : (a b c : Option ℕ) → AreTooClose (record { near = 1; far = 0 }) a b c → a ≡ b
 same_of_too_close a b c close =
-    ⊎_elim (same_of_close a b) (λ (far : AreClose 0 a c). let some = some_distance 0 a c far in absurd (omega arith)) close
+    ⊎_elim (same_of_close a b)
+    (λ (far : AreClose 0 a c). let some = some_distance 0 a c far in absurd (omega arith)) close
 
-pub apart_not_too_close : (s : Separation) (a b c : Option ℕ) → AreApart s.near a b × AreApart s.far a c → ¬ AreTooClose s a b c
+pub apart_not_too_close : (s : Separation) (a b c : Option ℕ) → AreApart s.near a b × AreApart s.far a c
+    → ¬ AreTooClose s a b c
 apart_not_too_close s a b c apart = ⊎_elim (apart_not_close s.near a b apart.0) (apart_not_close s.far a c apart.1)
 
 pub apart_of_not_too_close :
-    (s : Separation) (a b c : Option ℕ) → IsSome a → IsSome b → IsSome c → ¬ AreTooClose s a b c → AreApart s.near a b × AreApart s.far a c
+    (s : Separation) (a b c : Option ℕ) → IsSome a → IsSome b → IsSome c → ¬ AreTooClose s a b c
+    → AreApart s.near a b × AreApart s.far a c
 apart_of_not_too_close s a b c some_a some_b some_c other =
     (apart_of_not_close s.near a b some_a some_b (λ close. other (inl close)), apart_of_not_close s.far a c some_a some_c (λ close. other (inr close)))

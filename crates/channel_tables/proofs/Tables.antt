@@ -1,6 +1,7 @@
--- What other crates cite of tables: tables that are begun, the channels of windows, channels that are close, and tuples. Of the files
--- here they import this one alone.
-use Rattle.std.proofs.Common.{◌≡◌, ℕ, ◌+◌, ◌*◌, ◌<◌, ◌≤◌, ◌++◌, Bool, true, false, Option, List, length, All, slice_get, slice_index, Some, IsSome, arith, refl}
+-- What other crates cite of tables: tables that are begun, the channels of windows, channels that are close, and
+-- tuples. Of the files here they import this one alone.
+use Rattle.std.proofs.Common.{◌≡◌, ℕ, ◌+◌, ◌*◌, ◌<◌, ◌≤◌, ◌++◌, Bool, true, false, Option, List, length, All, slice_get}
+use Rattle.std.proofs.Common.{slice_index, Some, IsSome, arith, refl}
 use Rattle.std.proofs.lemmas.Bool.{OnTrue_at, OnFalse_at}
 use Rattle.win_index.specs.Arcs.{window_around}
 use Rattle.win_index.specs.Ring.{IsRing}
@@ -27,17 +28,21 @@ begun_with = BegunTables.begun_with
 
 -- the channel of the window with a number is the entry with that number
 pub channel_at :
-    (t : ChannelTable) (n : ℕ) (window : List ℕ) → slice_get (windows_of t) n ≡ Some window → channel_of t window ≡ Some (slice_index t.entries n)
+    (t : ChannelTable) (n : ℕ) (window : List ℕ) → slice_get (windows_of t) n ≡ Some window
+    → channel_of t window ≡ Some (slice_index t.entries n)
 channel_at = Witnesses.channel_at
 
 -- each window of a ring has a channel
-pub channel_around : (t : ChannelTable) (ring : List ℕ) (place : ℕ) → IsRing t.ids t.rounds ring → IsSome (channel_of t (window_around ring t.rounds place))
+pub channel_around : (t : ChannelTable) (ring : List ℕ) (place : ℕ) → IsRing t.ids t.rounds ring
+    → IsSome (channel_of t (window_around ring t.rounds place))
 channel_around = Witnesses.channel_around
 
 -- the window after one that is not the last has the next number
 pub next_item :
-    (t : ChannelTable) (number : ℕ) (replaced : Bool) (old new : List ℕ) → IsReplaced (2 * t.rounds + 1) t.ids replaced old new
-    → slice_get (windows_of t) number ≡ Some old → number + 1 < length (windows_of t) → slice_get (windows_of t) (number + 1) ≡ Some new
+    (t : ChannelTable) (number : ℕ) (replaced : Bool) (old new : List ℕ)
+    → IsReplaced (2 * t.rounds + 1) t.ids replaced old new
+    → slice_get (windows_of t) number ≡ Some old → number + 1 < length (windows_of t)
+    → slice_get (windows_of t) (number + 1) ≡ Some new
 next_item t number true old new is item lt = OnTrue_at refl is.next number item
 next_item t number false old new is item lt = absurd (omega (arith, OnFalse_at refl is.last number item))
 
@@ -47,7 +52,8 @@ pub window_of_shape : (t : ChannelTable) (rounds ids : ℕ) (window : List ℕ) 
 window_of_shape t rounds ids window rounds_is ids_is is = rw (rounds_is, ids_is) is
 
 -- a step to the next run for the numbers of the shape is one for the table
-pub step_of_run : (t : ChannelTable) (rounds ids : ℕ) (replaced : Bool) (old new : List ℕ) → rounds ≡ t.rounds → ids ≡ t.ids
+pub step_of_run : (t : ChannelTable) (rounds ids : ℕ) (replaced : Bool) (old new : List ℕ)
+    → rounds ≡ t.rounds → ids ≡ t.ids
     → IsReplacedByRun (2 * rounds + 1) ids replaced old new → IsReplacedByRun (2 * t.rounds + 1) t.ids replaced old new
 step_of_run t rounds ids replaced old new rounds_is ids_is is = rw (rounds_is, ids_is) at is
 
@@ -70,12 +76,14 @@ pub two_of_far : (s : Separation) (a b : Option ℕ) → AreClose s.far a b → 
 two_of_far = Close.two_of_far
 
 -- channels that are apart are not too close
-pub apart_not_too_close : (s : Separation) (a b c : Option ℕ) → AreApart s.near a b × AreApart s.far a c → ¬ AreTooClose s a b c
+pub apart_not_too_close : (s : Separation) (a b c : Option ℕ) → AreApart s.near a b × AreApart s.far a c
+    → ¬ AreTooClose s a b c
 apart_not_too_close = Close.apart_not_too_close
 
 -- channels of three windows are apart if they are not too close
 pub apart_of_not_too_close :
-    (s : Separation) (a b c : Option ℕ) → IsSome a → IsSome b → IsSome c → ¬ AreTooClose s a b c → AreApart s.near a b × AreApart s.far a c
+    (s : Separation) (a b c : Option ℕ) → IsSome a → IsSome b → IsSome c → ¬ AreTooClose s a b c
+    → AreApart s.near a b × AreApart s.far a c
 apart_of_not_too_close = Close.apart_of_not_too_close
 
 -- ---- tuples
@@ -87,5 +95,6 @@ all_runs t s =
     (falling-add t.ids (2 * t.rounds + 1) (extra s))
 
 -- a table is apart everywhere if none of its tuples is bad
-pub none_is_apart : (t : ChannelTable) (s : Separation) (count : ℕ) → count ≡ length (tuples t s) → NoneIsBad t s 0 count → IsApartEverywhere t s
+pub none_is_apart : (t : ChannelTable) (s : Separation) (count : ℕ) → count ≡ length (tuples t s)
+    → NoneIsBad t s 0 count → IsApartEverywhere t s
 none_is_apart = Witnesses.none_is_apart

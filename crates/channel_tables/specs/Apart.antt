@@ -46,7 +46,8 @@ IsApart t s = All (λ tuple. ¬ IsBad t s tuple) (tuples t s)
 -- places at distance two by far; if far is 0, any two channels are that far apart
 abbrev pub IsApartEverywhere : ChannelTable → Separation → Type 0
 IsApartEverywhere t s =
-    (ring : List ℕ) (place : ℕ) → IsRing t.ids t.rounds ring → 2 * t.rounds + 1 + extra s ≤ length ring → place < length ring
+    (ring : List ℕ) (place : ℕ) → IsRing t.ids t.rounds ring → 2 * t.rounds + 1 + extra s ≤ length ring
+    → place < length ring
     → let channel_at : ℕ → Option ℕ = λ step. channel_of t (window_around ring t.rounds (place + step)) in
     AreApart s.near (channel_of t (window_around ring t.rounds place)) (channel_at 1)
     × AreApart s.far (channel_of t (window_around ring t.rounds place)) (channel_at 2)

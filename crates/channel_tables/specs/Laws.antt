@@ -16,7 +16,8 @@ TuplesSuffice = (t : ChannelTable) (s : Separation) → IsApart t s ↔ IsApartE
 -- a bad tuple of a table of t rounds, taken as a ring, breaks the separation at the places t and t+1, or t and t+2
 abbrev pub BadTuplesAreRings : Type 0
 BadTuplesAreRings =
-    (table : ChannelTable) (s : Separation) (tuple : List ℕ) → IsWindow (2 * table.rounds + 1 + extra s) table.ids tuple → IsBad table s tuple
+    (table : ChannelTable) (s : Separation) (tuple : List ℕ) → IsWindow (2 * table.rounds + 1 + extra s) table.ids tuple
+    → IsBad table s tuple
     → let t = table.rounds in
     let channel_at : ℕ → Option ℕ = λ place. channel_of table (window_around tuple t place) in
     IsRing table.ids t tuple
@@ -33,13 +34,15 @@ OneApartIsGood = (t : ChannelTable) → IsApartEverywhere t (record { near = 1; 
 -- a table has at most one witness
 abbrev pub OneWitness : Type 0
 OneWitness =
-    (t : ChannelTable) (s : Separation) (ring other : List ℕ) (i j c d : ℕ × ℕ) → IsWitness t s ring i c → IsWitness t s other j d
+    (t : ChannelTable) (s : Separation) (ring other : List ℕ) (i j c d : ℕ × ℕ) → IsWitness t s ring i c
+    → IsWitness t s other j d
     → (ring ≡ other) × (i ≡ j) × (c ≡ d)
 
 -- a table whose channels are apart everywhere has none
 abbrev pub ApartTablesHaveNoWitness : Type 0
 ApartTablesHaveNoWitness =
-    (t : ChannelTable) (s : Separation) (ring : List ℕ) (places channels : ℕ × ℕ) → IsApartEverywhere t s → IsWitness t s ring places channels → ⊥
+    (t : ChannelTable) (s : Separation) (ring : List ℕ) (places channels : ℕ × ℕ) → IsApartEverywhere t s
+    → IsWitness t s ring places channels → ⊥
 
 -- the ring of a witness is a ring, and has both places
 abbrev pub WitnessesAreOnRings : Type 0

@@ -8,7 +8,8 @@ use Rattle.channel_tables.specs.Tables.{ChannelTable, channel_of}
 -- for each list of `2t+2` distinct identifiers, the channels of the first and the last window differ
 abbrev pub IsProper : ChannelTable → Type 0
 IsProper t =
-    All (λ tuple. channel_of t (part_at t.rounds 0 tuple) ≢ channel_of t (part_at t.rounds 1 tuple)) (windows (2 * t.rounds + 2) t.ids)
+    All (λ tuple. channel_of t (part_at t.rounds 0 tuple) ≢ channel_of t (part_at t.rounds 1 tuple))
+    (windows (2 * t.rounds + 2) t.ids)
 
 -- on each ring the channels of neighbours differ
 abbrev pub IsGoodEverywhere : ChannelTable → Type 0

@@ -8,7 +8,8 @@ use Rattle.channel_tables.specs.Apart.{AreClose, IsLeastBad}
 -- the distance of the second place of a no from place t: 1 if the neighbours there are closer than near, else 2
 abbrev pub IsStep : ChannelTable → Separation → List ℕ → ℕ → Type 0
 IsStep t s ring step =
-    let close = AreClose s.near (channel_of t (window_around ring t.rounds t.rounds)) (channel_of t (window_around ring t.rounds (t.rounds + 1))) in
+    let close = AreClose s.near (channel_of t (window_around ring t.rounds t.rounds))
+    (channel_of t (window_around ring t.rounds (t.rounds + 1))) in
     (close × (step ≡ 1)) ⊎ ((¬ close) × (step ≡ 2))
 
 -- the ring is the least bad tuple, and the two places, with their channels, are those at which it breaks the separation

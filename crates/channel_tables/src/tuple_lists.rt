@@ -45,7 +45,8 @@ impl TupleLists {
     pub fn write(self, number: u64, out: &mut [u32])
         requires below { number < length (windows (2 * self.shape.rounds + 1 + extra self.separation) self.shape.ids) }
         requires room { length out.old ≡ 2 * self.shape.rounds + 1 + extra self.separation }
-        ensures item { slice_get (windows (2 * self.shape.rounds + 1 + extra self.separation) self.shape.ids) number ≡ Some out.new }
+        ensures item { slice_get (windows (2 * self.shape.rounds + 1 + extra self.separation) self.shape.ids) number
+            ≡ Some out.new }
         ensures tuple { IsWindow (2 * self.shape.rounds + 1 + extra self.separation) self.shape.ids out.new }
     {
         self.shape.tuple(self.extra(), number, out);
@@ -55,7 +56,8 @@ impl TupleLists {
     /// is the last.
     pub fn write_next(self, tuple: &mut [u32]) -> bool
         requires { IsWindow (2 * self.shape.rounds + 1 + extra self.separation) self.shape.ids tuple.old }
-        ensures { IsReplaced (2 * self.shape.rounds + 1 + extra self.separation) self.shape.ids result tuple.old tuple.new }
+        ensures { IsReplaced (2 * self.shape.rounds + 1 + extra self.separation) self.shape.ids result
+            tuple.old tuple.new }
     {
         self.shape.after(self.extra(), tuple)
     }

@@ -1,10 +1,12 @@
 //! The tuples that the judge tests, one by one.
-ghost use Rattle.std.specs.Prelude.{◌≡◌, ℕ, List, ◌+◌, ◌*◌, ◌<◌, ◌≤◌, ◌⊎◌, IfNone, IfOk, IfSome, MatchOption, Option, Some, length, slice_get};
+ghost use Rattle.std.specs.Prelude.{◌≡◌, ℕ, List, ◌+◌, ◌*◌, ◌<◌, ◌≤◌, ◌⊎◌, IfNone, IfOk, IfSome, MatchOption, Option};
+ghost use Rattle.std.specs.Prelude.{Some, length, slice_get};
 ghost use Rattle.win_index.specs.declared.limits.TheConstants.{MAX_IDS, MAX_TUPLE_LEN};
 ghost use Rattle.win_index.specs.Windows.{IsWindow};
 ghost use Rattle.win_index.specs.Arcs.{part_at};
 ghost use Rattle.channel_tables.specs.Tables.{channel_of};
-ghost use Rattle.channel_tables.specs.Apart.{extra, run_len, tuples, AreClose, IsApartEverywhere, IsBad, NoneIsBad, IsLeastBad};
+ghost use Rattle.channel_tables.specs.Apart.{extra, run_len, tuples, AreClose, IsApartEverywhere, IsBad};
+ghost use Rattle.channel_tables.specs.Apart.{NoneIsBad, IsLeastBad};
 ghost use Rattle.channel_tables.specs.Searches.{IsLeastIn};
 ghost use Rattle.channel_tables.specs.Witnesses.{IsWitness};
 
@@ -108,7 +110,8 @@ impl<'a, W: Windows> Tuples<'a, W> {
         requires below { number < length (tuples (W.table self.windows.now) self.separation) }
         requires room { length out.old ≡ 2 * (W.table self.windows.now).rounds + 1 + extra self.separation }
         ensures item { slice_get (tuples (W.table self.entry.windows.now) self.entry.separation) number ≡ Some out.new }
-        ensures tuple { IsWindow (2 * (W.table self.entry.windows.now).rounds + 1 + extra self.entry.separation) (W.table self.entry.windows.now).ids out.new }
+        ensures tuple { IsWindow (2 * (W.table self.entry.windows.now).rounds + 1 + extra self.entry.separation)
+            (W.table self.entry.windows.now).ids out.new }
     {
         self.lists().write(number, out);
     }
@@ -116,7 +119,8 @@ impl<'a, W: Windows> Tuples<'a, W> {
     // Like `least_bad`. `tuple` is the tuple with number `low`, and is advanced in place.
     fn scan(self, tuple: &mut [u32], low: u64, high: u64) -> Option<u64>
         requires first { slice_get (tuples (W.table self.windows.now) self.separation) low ≡ Some tuple.old }
-        requires tuple { IsWindow (2 * (W.table self.windows.now).rounds + 1 + extra self.separation) (W.table self.windows.now).ids tuple.old }
+        requires tuple { IsWindow (2 * (W.table self.windows.now).rounds + 1 + extra self.separation)
+            (W.table self.windows.now).ids tuple.old }
         requires within { high ≤ length (tuples (W.table self.windows.now) self.separation) }
         ensures { IsLeastIn (W.table self.entry.windows.now) self.entry.separation low high result }
     {
@@ -134,7 +138,8 @@ impl<'a, W: Windows> Tuples<'a, W> {
     // are too close, else 2; or `None` if it keeps the separation.
     #[tactic(auto, unfolding(crate::specs::Apart::IsBad))]
     fn broken_step(self, tuple: &[u32]) -> Option<u32>
-        requires { IsWindow (2 * (W.table self.windows.now).rounds + 1 + extra self.separation) (W.table self.windows.now).ids tuple.now }
+        requires { IsWindow (2 * (W.table self.windows.now).rounds + 1 + extra self.separation)
+            (W.table self.windows.now).ids tuple.now }
         ensures none { IfNone result (¬ IsBad (W.table self.entry.windows.now) self.entry.separation tuple.now) }
         ensures bad { IfSome result (λ _. IsBad (W.table self.entry.windows.now) self.entry.separation tuple.now) }
         ensures step { IfSome result (λ step. let t = W.table self.entry.windows.now in
@@ -158,8 +163,10 @@ impl<'a, W: Windows> Tuples<'a, W> {
     // Returns the channel of the window at this offset in a tuple.
     fn channel_from(self, tuple: &[u32], offset: usize) -> u32
         requires offset { offset ≤ extra self.separation }
-        requires tuple { IsWindow (2 * (W.table self.windows.now).rounds + 1 + extra self.separation) (W.table self.windows.now).ids tuple.now }
-        ensures { channel_of (W.table self.entry.windows.now) (part_at (W.table self.entry.windows.now).rounds offset tuple.now) ≡ Some result }
+        requires tuple { IsWindow (2 * (W.table self.windows.now).rounds + 1 + extra self.separation)
+            (W.table self.windows.now).ids tuple.now }
+        ensures { channel_of (W.table self.entry.windows.now)
+            (part_at (W.table self.entry.windows.now).rounds offset tuple.now) ≡ Some result }
     {
         self.windows
             .channel_of_window(self.lists().window_in(tuple, offset))
@@ -171,7 +178,9 @@ impl<'a, W: Windows> Tuples<'a, W> {
     #[tactic(auto, using(crate::proofs::Witnesses::bad_is_not_apart))]
     pub fn witness(self, alloc: Global, number: u64) -> Result<Witness, OutOfMemory>
         requires { (tuple : List ℕ) × IsLeastBad (W.table self.windows.now) self.separation 0 number tuple }
-        ensures ring { IfOk result (λ witness. IsLeastBad (W.table self.entry.windows.now) self.entry.separation 0 number witness.ring.items) }
+        ensures ring { IfOk result
+            (λ witness. IsLeastBad (W.table self.entry.windows.now) self.entry.separation 0 number
+            witness.ring.items) }
         ensures witness { IfOk result (λ witness. IsWitness (W.table self.entry.windows.now) self.entry.separation
             witness.ring.items witness.places witness.channels) }
         ensures not_apart { ¬ IsApartEverywhere (W.table self.entry.windows.now) self.entry.separation }

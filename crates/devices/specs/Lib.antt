@@ -1,4 +1,5 @@
--- The definitions that the contracts cite: a device and its note, what reading takes and what writing leaves, and exit statuses.
+-- The definitions that the contracts cite: a device and its note, what reading takes and what writing leaves, and
+-- exit statuses.
 pub mod Watched
 pub mod Input
 pub mod Output

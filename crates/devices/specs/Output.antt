@@ -21,21 +21,24 @@ abbrev pub IsWrittenSoFar : Option (List ℕ) → Option (List ℕ) → List ℕ
 IsWrittenSoFar old new waiting text = (sent : List ℕ) × Appends old new sent × (sent ++ waiting ≡ text)
 
 -- A text was written whole, or else, if a write failed, a prefix of it. There is no other fault.
-pub record SendsText {T : Type 0} (text : List ℕ) (before after : Option (List ℕ)) (failed : Bool) (result : Result T EngineFault) : Type 0 where
+pub record SendsText {T : Type 0} (text : List ℕ) (before after : Option (List ℕ)) (failed : Bool)
+    (result : Result T EngineFault) : Type 0 where
   pub ok : OnOk result (Appends before after text)
   pub front : OnErr result (AppendsFront before after text)
   pub fault : FailsByWrites result failed
 
--- A text was written up to the bytes that wait, which are its end, or else, if a write failed, a prefix of it. There is no
--- other fault.
-pub record SendsSoFar {T : Type 0} (text waiting : List ℕ) (before after : Option (List ℕ)) (failed : Bool) (result : Result T EngineFault) : Type 0 where
+-- A text was written up to the bytes that wait, which are its end, or else, if a write failed, a prefix of it.
+-- There is no other fault.
+pub record SendsSoFar {T : Type 0} (text waiting : List ℕ) (before after : Option (List ℕ)) (failed : Bool)
+    (result : Result T EngineFault) : Type 0 where
   pub ok : OnOk result (IsWrittenSoFar before after waiting text)
   pub front : OnErr result (AppendsFront before after text)
   pub fault : FailsByWrites result failed
 
--- A text was written whole, or else, after Write, a prefix of it, and after Memory nothing. It is Write exactly if a write
--- failed.
-pub record WritesText {T : Type 0} (text : List ℕ) (before after : Option (List ℕ)) (failed : Bool) (result : Result T OutFault) : Type 0 where
+-- A text was written whole, or else, after Write, a prefix of it, and after Memory nothing. It is Write exactly if
+-- a write failed.
+pub record WritesText {T : Type 0} (text : List ℕ) (before after : Option (List ℕ)) (failed : Bool)
+    (result : Result T OutFault) : Type 0 where
   pub ok : OnOk result (Appends before after text)
   pub front : IsErrOf result Write → AppendsFront before after text
   pub no_memory : IsErrOf result Memory → Keeps before after

@@ -1,5 +1,6 @@
 -- A reader or a writer with the count of its calls, and a note of the failure of one.
-use Rattle.std.specs.Prelude.{◌≡◌, ℕ, ◌+◌, ◌-◌, ◌^◌, min, ◌⊎◌, ◌↔◌, ◌==◌, ◌&&◌, Bool, true, nat_lt, List, length, if◌then◌else◌, Option, is_some, Result, Ok, Err, IfErr, IsErrOf, IsTrue, MatchResult}
+use Rattle.std.specs.Prelude.{◌≡◌, ℕ, ◌+◌, ◌-◌, ◌^◌, min, ◌⊎◌, ◌↔◌, ◌==◌, ◌&&◌, Bool, true, nat_lt, List, length}
+use Rattle.std.specs.Prelude.{if◌then◌else◌, Option, is_some, Result, Ok, Err, IfErr, IsErrOf, IsTrue, MatchResult}
 use Rattle.std.specs.Result.{result_err, result_map_both}
 use Rattle.std.specs.IoError.{error_kind}
 use Rattle.std.specs.declared.io.Error.{Error}
@@ -25,14 +26,16 @@ has_failed watched = is_some (failure_of watched)
 abbrev pub calls_of : {D : Type 0} → Watched D → ℕ
 calls_of watched = watched.calls
 
--- the number of bytes that a device answers to a call that offered it these bytes, or the kind of its failure: that of its error, or
--- `WriteZero` if it took none of the bytes
+-- the number of bytes that a device answers to a call that offered it these bytes, or the kind of its failure: that
+-- of its error, or `WriteZero` if it took none of the bytes
 abbrev pub outcome_of : List ℕ → Result ℕ Error → Result ℕ ErrorKind
 outcome_of offered (Ok count) = if count == 0 && nat_lt 0 (length offered) then Err WriteZero else Ok count
 outcome_of offered (Err error) = Err (error_kind error)
 
--- a call with this outcome is noted: it is counted, its failure is the note, and the result is its number of bytes or this fault
-pub record IsNoted {D : Type 0} (outcome : Result ℕ ErrorKind) (fault : EngineFault) (old new : Watched D) (result : Result ℕ EngineFault) : Type 0 where
+-- a call with this outcome is noted: it is counted, its failure is the note, and the result is its number of bytes
+-- or this fault
+pub record IsNoted {D : Type 0} (outcome : Result ℕ ErrorKind) (fault : EngineFault) (old new : Watched D)
+    (result : Result ℕ EngineFault) : Type 0 where
   pub result_is : result ≡ result_map_both (λ count. count) (λ _. fault) outcome
   pub failure_is : failure_of new ≡ result_err outcome
   pub counted : calls_of new ≡ min (calls_of old + 1) (2 ^ 64 - 1)
@@ -43,7 +46,8 @@ abbrev pub Notes : {T E : Type 0} → Result T E → Option ErrorKind → Option
 Notes result old new = MatchResult result (λ _. new ≡ old) (λ _. is_some new ≡ true)
 
 -- a call of the device: it is counted, and if it fails, its fault is this one, and it is noted
-pub record IsCall {D T : Type 0} (fault : EngineFault) (old new : Watched D) (result : Result T EngineFault) : Type 0 where
+pub record IsCall {D T : Type 0} (fault : EngineFault) (old new : Watched D)
+    (result : Result T EngineFault) : Type 0 where
   pub fault_is : IfErr result (λ f. f ≡ fault)
   pub noted : Notes result (failure_of old) (failure_of new)
   pub counted : calls_of new ≡ min (calls_of old + 1) (2 ^ 64 - 1)

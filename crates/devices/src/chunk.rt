@@ -98,7 +98,8 @@ impl Chunk {
     /// then written, and the chunk is unchanged.
     pub fn send<W: Write>(&mut self, writer: &mut Watched<W>) -> Result<(), EngineFault>
         requires { has_failed writer.old ≡ false }
-        ensures sent { SendsText self.old (W.contents (device_of writer.old)) (W.contents (device_of writer.new)) (has_failed writer.new) result }
+        ensures sent { SendsText self.old (W.contents (device_of writer.old)) (W.contents (device_of writer.new))
+            (has_failed writer.new) result }
         ensures empty { OnOk result (self.new ≡ []) }
         ensures kept { OnErr result (self.new ≡ self.old) }
     {
@@ -117,7 +118,8 @@ impl Chunk {
     ) -> Result<(), EngineFault>
         requires short { room ≤ CHUNK_LEN }
         requires working { has_failed writer.old ≡ false }
-        ensures sent { SendsSoFar self.old self.new (W.contents (device_of writer.old)) (W.contents (device_of writer.new)) (has_failed writer.new) result }
+        ensures sent { SendsSoFar self.old self.new (W.contents (device_of writer.old))
+            (W.contents (device_of writer.new)) (has_failed writer.new) result }
         ensures room { OnOk result (length self.new + room ≤ CHUNK_LEN) }
         ensures kept { OnErr result (self.new ≡ self.old) }
     {
@@ -132,7 +134,8 @@ impl Chunk {
 pub fn write_at(bytes: &mut [u8], start: usize, text: &[u8])
     requires room { start + length text.now ≤ length bytes.old }
     ensures len { length bytes.new ≡ length bytes.old }
-    ensures fronts { (n : ℕ) → n ≤ length text.now → take (start + n) bytes.new ≡ take start bytes.old ++ take n text.now }
+    ensures fronts { (n : ℕ) → n ≤ length text.now
+        → take (start + n) bytes.new ≡ take start bytes.old ++ take n text.now }
 {
     bytes[start..start + text.len()].copy_from_slice(text);
 }

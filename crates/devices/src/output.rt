@@ -14,7 +14,8 @@ use std::io::Write;
 /// written, and nothing else.
 pub fn send<W: Write>(writer: &mut Watched<W>, bytes: &[u8]) -> Result<(), EngineFault>
     requires { has_failed writer.old ≡ false }
-    ensures { SendsText bytes.now (W.contents (device_of writer.old)) (W.contents (device_of writer.new)) (has_failed writer.new) result }
+    ensures { SendsText bytes.now (W.contents (device_of writer.old)) (W.contents (device_of writer.new))
+        (has_failed writer.new) result }
 {
     let mut sent = 0;
     while sent < bytes.len() {

@@ -1,5 +1,7 @@
 -- Each event keeps the invariant of the fill machine, its plan and its number of workers.
-use Rattle.std.proofs.Common.{◌≡◌, ◌≢◌, ℕ, ◌+◌, ◌<◌, ◌≤◌, ◌⊎◌, Bool, true, false, cond, eqb, Option, None, Some, IsSome, List, [], ◌∷◌, ◌++◌, length, get_or, set, replicate, refl, sym, ap, ◌∙◌, subst, inl, inr, ⊎_elim, arith, length-set, get_or-set_same, get_or-set_other}
+use Rattle.std.proofs.Common.{◌≡◌, ◌≢◌, ℕ, ◌+◌, ◌<◌, ◌≤◌, ◌⊎◌, Bool, true, false, cond, eqb, Option, None, Some, IsSome}
+use Rattle.std.proofs.Common.{List, [], ◌∷◌, ◌++◌, length, get_or, set, replicate, refl, sym, ap, ◌∙◌, subst, inl, inr}
+use Rattle.std.proofs.Common.{⊎_elim, arith, length-set, get_or-set_same, get_or-set_other}
 use mathlib.Core.Logic.{dite}
 use native.Mathlib.Decide.{ℕ_discrete}
 use Rattle.std.proofs.lemmas.Bool.{false≢true, cases_lt, eqb-true}
@@ -12,7 +14,9 @@ use Rattle.shared_memo.specs.PlanJobs.{job_count, job_of}
 use Rattle.round_eval.specs.BlockStates.{MadeBlock}
 use Rattle.fill_core.specs.declared.state.FillEvent.{FillEvent}
 use Rattle.fill_core.specs.declared.state.FillEvent.TheVariants.{Draw, Look, Install}
-use Rattle.fill_core.specs.FillMachine.{Worker, Machine, idle, opening, nobody, worker, cell_of, CanDraw, drawn, stopped, CanLook, put_down, learned, looked, CanInstall, block_by, installed, Steps, Runs}
+use Rattle.fill_core.specs.FillMachine.{Worker, Machine, idle, opening, nobody, worker, cell_of, CanDraw, drawn}
+use Rattle.fill_core.specs.FillMachine.{stopped, CanLook, put_down, learned, looked, CanInstall, block_by, installed}
+use Rattle.fill_core.specs.FillMachine.{Steps, Runs}
 use Rattle.fill_core.specs.FillPromises.{HoldsJobs, MarkedAreFull, IsConsistent, Follows, IsFilledWhenStopped}
 
 abbrev is_full : List (Option MadeBlock) → ℕ → Type 0
@@ -23,7 +27,8 @@ replaced s w v cells next = record { plan = s.plan; cells = cells; next = next; 
 
 -- a property of worker w replaced by v, and of all workers of s, holds of all workers after the replacement
 each_worker :
-    (P : ℕ → Worker → Type 0) (l : List Worker) (w : ℕ) (v : Worker) → w < length l → P w v → ((u : ℕ) → P u (get_or l u nobody))
+    (P : ℕ → Worker → Type 0) (l : List Worker) (w : ℕ) (v : Worker) → w < length l → P w v
+    → ((u : ℕ) → P u (get_or l u nobody))
     → (u : ℕ) → P u (get_or (set l w v) u nobody)
 each_worker P l w v inside own others = λ u.
     dite (ℕ_discrete u w)
@@ -44,7 +49,8 @@ record Keeps (s : Machine) (w : ℕ) (v : Worker) (cells : List (Option MadeBloc
   dropped : (job : ℕ) → (worker s w).hand ≡ Some job → (v.hand ≡ Some job) ⊎ is_full cells job
   ended : v.stopped ≡ true → (job_count s.plan ≤ next) × (v.hand ≡ None)
 
-keeps : (s : Machine) (w : ℕ) (v : Worker) (cells : List (Option MadeBlock)) (next : ℕ) → IsConsistent s → Keeps s w v cells next → Follows s (replaced s w v cells next)
+keeps : (s : Machine) (w : ℕ) (v : Worker) (cells : List (Option MadeBlock)) (next : ℕ) → IsConsistent s
+    → Keeps s w v cells next → Follows s (replaced s w v cells next)
 keeps s w v cells next h k =
     record {
       plan = refl;
@@ -52,7 +58,8 @@ keeps s w v cells next h k =
       consistent = record {
         cells = k.holds;
         some_worker = omega (arith, count, h.some_worker);
-        marks = λ u lt. each (λ u x. u < length s.workers → length x.knows ≡ n) (λ _. k.marks) h.marks u (omega (arith, count, lt));
+        marks = λ u lt. each (λ u x. u < length s.workers → length x.knows ≡ n) (λ _. k.marks) h.marks u
+            (omega (arith, count, lt));
         known = each (λ u x. MarkedAreFull cells x.knows) k.known (λ u job e. k.grows job (h.known u job e));
         few = k.few;
         placed = λ job lt. placed job (k.new_job job lt);
@@ -60,10 +67,12 @@ keeps s w v cells next h k =
             each (λ u x. x.hand ≡ Some job → (worker t y).hand ≡ Some job → u ≡ y)
             (λ mine. each (λ z x. x.hand ≡ Some job → w ≡ z) (λ _. refl) (λ z its. sole z job its (k.hand job mine)) y)
             (λ u its. each (λ z x. x.hand ≡ Some job → u ≡ z) (λ mine. sym (sole u job its (k.hand job mine))) (λ z other. h.one_hand u z job its other) y) u;
-        below = each (λ u x. (job : ℕ) → x.hand ≡ Some job → job < next) (λ job mine. below job (k.hand job mine)) (λ u job its. omega (arith, h.below u job its, k.onward));
+        below = each (λ u x. (job : ℕ) → x.hand ≡ Some job → job < next) (λ job mine. below job (k.hand job mine))
+            (λ u job its. omega (arith, h.below u job its, k.onward));
         ended = λ u lt.
             each (λ u x. u < length s.workers → x.stopped ≡ true → (n ≤ next) × (x.hand ≡ None)) (λ _. k.ended)
-            (λ u lt e. let end = h.ended u lt e in (omega (arith, end.0, k.onward), end.1)) u (omega (arith, count, lt));
+            (λ u lt e. let end = h.ended u lt e in (omega (arith, end.0, k.onward), end.1)) u
+            (omega (arith, count, lt));
       };
     }
   where
@@ -87,7 +96,8 @@ keeps s w v cells next h k =
     kept job is (inr full) = inl full
 
     held : (job u : ℕ) → worker t u ≡ worker t u → (worker s u).hand ≡ Some job → IsPlaced job
-    held job = each (λ u x. worker t u ≡ x → (worker s u).hand ≡ Some job → IsPlaced job) (λ is old. kept job is (k.dropped job old))
+    held job = each (λ u x. worker t u ≡ x → (worker s u).hand ≡ Some job → IsPlaced job)
+        (λ is old. kept job is (k.dropped job old))
         (λ u is old. inr (u, ap (λ (x : Worker). x.hand) is ∙ old))
 
     stays : (job : ℕ) → is_full s.cells job ⊎ ((u : ℕ) × ((worker s u).hand ≡ Some job)) → IsPlaced job
@@ -98,7 +108,8 @@ keeps s w v cells next h k =
     placed job (inl before) = stays job (h.placed job before)
     placed job (inr now) = kept job (get_or-set_same s.workers w v nobody k.inside) (inl now)
 
-    sole : (z job : ℕ) → (worker s z).hand ≡ Some job → ((worker s w).hand ≡ Some job) ⊎ ((job ≡ s.next) × (s.next < next)) → w ≡ z
+    sole : (z job : ℕ) → (worker s z).hand ≡ Some job
+        → ((worker s w).hand ≡ Some job) ⊎ ((job ≡ s.next) × (s.next < next)) → w ≡ z
     sole z job its (inl old) = h.one_hand w z job old its
     sole z job its (inr fresh) = absurd (omega (arith, fresh.0, h.below z job its))
 
@@ -125,7 +136,8 @@ follows_drawn s w h can more =
       ended = λ e. absurd (false≢true (sym can.active ∙ e));
     })
 
-follows_stopped : (s : Machine) (w : ℕ) → IsConsistent s → CanDraw s w → job_count s.plan ≤ s.next → Follows s (stopped s w)
+follows_stopped : (s : Machine) (w : ℕ) → IsConsistent s → CanDraw s w → job_count s.plan ≤ s.next
+    → Follows s (stopped s w)
 follows_stopped s w h can done =
     keeps s w (record (worker s w) { stopped = true }) s.cells s.next h (record {
       onward = omega arith;
@@ -160,8 +172,10 @@ put_down_or job j (Some other) e = either (eqb other job) refl
 
 -- a worker knows one more job, whose cell is full then
 follows_learned :
-    (s : Machine) (w job : ℕ) (cells : List (Option MadeBlock)) → IsConsistent s → w < length s.workers → HoldsJobs s.plan cells
-    → ((j : ℕ) → is_full s.cells j → is_full cells j) → is_full cells job → Follows s (replaced s w (learned job (worker s w)) cells s.next)
+    (s : Machine) (w job : ℕ) (cells : List (Option MadeBlock)) → IsConsistent s → w < length s.workers
+    → HoldsJobs s.plan cells
+    → ((j : ℕ) → is_full s.cells j → is_full cells j) → is_full cells job
+    → Follows s (replaced s w (learned job (worker s w)) cells s.next)
 follows_learned s w job cells h inside holds grows full =
     let v : Worker = worker s w in
     let here : (j : ℕ) → j ≡ job → is_full cells j = λ j same. subst (is_full cells) (sym same) full in
@@ -178,11 +192,13 @@ follows_learned s w job cells h inside holds grows full =
       hand = λ j e. inl (put_down_was job j v.hand e);
       new_job = λ j lt. inl lt;
       dropped = λ j e.
-          ⊎_elim (λ (still : put_down job v.hand ≡ Some j). inl still) (λ (same : j ≡ job). inr (here j same)) (put_down_or job j v.hand e);
+          ⊎_elim (λ (still : put_down job v.hand ≡ Some j). inl still) (λ (same : j ≡ job). inr (here j same))
+          (put_down_or job j v.hand e);
       ended = λ e. let end = h.ended w inside e in (end.0, ap (put_down job) end.1);
     })
 
-follows_looked : (s : Machine) (w level number job : ℕ) → IsConsistent s → CanLook s w level number job → Follows s (looked s w job)
+follows_looked : (s : Machine) (w level number job : ℕ) → IsConsistent s → CanLook s w level number job
+    → Follows s (looked s w job)
 follows_looked s w level number job h can =
     follows_learned s w job s.cells h can.is_worker h.cells (λ j full. full)
     (subst (λ (o : Option ℕ). IsSome (cell_of s.cells o)) can.is_job can.full)
@@ -193,11 +209,14 @@ follows_installed :
 follows_installed s w level number job law h can =
     let b : MadeBlock = block_by s.plan level number w in
     let t : ℕ = length s.plan.program.steps in
-    let within = slice_get_within (jobs_of s.plan.ids t) job (level, number) ((law s.plan.ids t level number job).0 can.is_job) in
+    let within = slice_get_within (jobs_of s.plan.ids t) job (level, number)
+    ((law s.plan.ids t level number job).0 can.is_job) in
     let cells : List (Option MadeBlock) = set s.cells job (Some b) in
-    let own : get_or cells job None ≡ Some b = get_or-set_same s.cells job (Some b) None (omega (arith, within, h.cells.size)) in
+    let own : get_or cells job None ≡ Some b =
+    get_or-set_same s.cells job (Some b) None (omega (arith, within, h.cells.size)) in
     let full : is_full cells job = subst (λ (o : Option MadeBlock). IsSome o) (sym own) refl in
-    let still : (j : ℕ) → j ≢ job → get_or cells j None ≡ get_or s.cells j None = λ j other. get_or-set_other s.cells job j (Some b) None other in
+    let still : (j : ℕ) → j ≢ job → get_or cells j None ≡ get_or s.cells j None =
+    λ j other. get_or-set_other s.cells job j (Some b) None other in
     follows_learned s w job cells h can.is_worker (record {
       size = length-set s.cells job (Some b) ∙ h.cells.size;
       filled = λ j x e.
@@ -205,7 +224,8 @@ follows_installed s w level number job law h can =
           (λ same.
           let is : b ≡ x = same_Some b x (sym own ∙ ap (λ (i : ℕ). get_or cells i None) (sym same) ∙ e) in (
             sym (ap (λ (y : MadeBlock). y.plan) is),
-            ap (λ (y : MadeBlock). job_of s.plan y.level y.number) (sym is) ∙ can.is_job ∙ ap (λ (i : ℕ). Some i) (sym same),
+            ap (λ (y : MadeBlock). job_of s.plan y.level y.number) (sym is) ∙ can.is_job
+                ∙ ap (λ (i : ℕ). Some i) (sym same),
           ))
           (λ other. h.cells.filled j x (sym (still j other) ∙ e));
     })
@@ -223,13 +243,15 @@ step_follows : (e : FillEvent) (s t : Machine) (law : JobsStandAtNumbers) → Is
 step_follows (Draw w) s t law h (inl one) = along s (drawn s w) t (follows_drawn s w h one.0 one.1) one.2
 step_follows (Draw w) s t law h (inr (inl one)) = along s (stopped s w) t (follows_stopped s w h one.0 one.1) one.2
 step_follows (Draw w) s t law h (inr (inr none)) = along s s t (unchanged s h) none.1
-step_follows (Look w level number) s t law h (inl one) = along s (looked s w one.0) t (follows_looked s w level number one.0 h one.1) one.2
+step_follows (Look w level number) s t law h (inl one) =
+    along s (looked s w one.0) t (follows_looked s w level number one.0 h one.1) one.2
 step_follows (Look w level number) s t law h (inr none) = along s s t (unchanged s h) none.1
 step_follows (Install w level number) s t law h (inl one) =
     along s (installed s w level number one.0) t (follows_installed s w level number one.0 law h one.1) one.2
 step_follows (Install w level number) s t law h (inr none) = along s s t (unchanged s h) none.1
 
-runs_follow : (es : List FillEvent) (s t : Machine) (law : JobsStandAtNumbers) → IsConsistent s → Runs s es t → Follows s t
+runs_follow : (es : List FillEvent) (s t : Machine) (law : JobsStandAtNumbers) → IsConsistent s
+    → Runs s es t → Follows s t
 runs_follow [] s t law h run = along s s t (unchanged s h) run
 runs_follow (e ∷ es) s t law h run =
     let first = step_follows e s run.0 law h run.1 in
@@ -237,14 +259,16 @@ runs_follow (e ∷ es) s t law h run =
     record { plan = rest.plan ∙ first.plan; workers = rest.workers ∙ first.workers; consistent = rest.consistent }
 
 -- one more event
-pub runs_more : (es : List FillEvent) (e : FillEvent) (s m t : Machine) → Runs s es m → Steps m e t → Runs s (es ++ e ∷ []) t
+pub runs_more : (es : List FillEvent) (e : FillEvent) (s m t : Machine) → Runs s es m → Steps m e t
+    → Runs s (es ++ e ∷ []) t
 runs_more [] e s m t is step = (t, subst (λ (x : Machine). Steps x e t) is step, refl)
 runs_more (x ∷ xs) e s m t run step = (run.0, run.1, runs_more xs e run.0 m t run.2 step)
 
 -- a list of one value
 all_alike : {X : Type 0} (n i : ℕ) (d : X) → get_or (replicate n d) i d ≡ d
 all_alike n i d =
-    ⊎_elim (λ (lt : i < n). get_or-replicate n i d d lt) (λ (le : n ≤ i). get_or_past (replicate n d) i d (omega (arith, length-replicate n d))) (cases_lt i n)
+    ⊎_elim (λ (lt : i < n). get_or-replicate n i d d lt)
+    (λ (le : n ≤ i). get_or_past (replicate n d) i d (omega (arith, length-replicate n d))) (cases_lt i n)
 
 opening_is_consistent : (plan : ProgramForIds) (workers : ℕ) → 1 ≤ workers → IsConsistent (opening plan workers)
 opening_is_consistent plan workers some =
@@ -255,9 +279,11 @@ opening_is_consistent plan workers some =
     ⊎_elim (λ (lt : w < workers). subst P (sym (get_or-replicate workers w (idle n) nobody lt)) own)
     (λ (le : workers ≤ w). subst P (sym (get_or_past (replicate workers (idle n)) w nobody (omega (arith, count)))) past)
     (cases_lt w workers) in
-    let is_idle : (w : ℕ) → w < length s.workers → worker s w ≡ idle n = λ w lt. get_or-replicate workers w (idle n) nobody (omega (arith, count, lt)) in
+    let is_idle : (w : ℕ) → w < length s.workers → worker s w ≡ idle n =
+    λ w lt. get_or-replicate workers w (idle n) nobody (omega (arith, count, lt)) in
     let free : (w : ℕ) → (worker s w).hand ≡ None = each (λ v. v.hand ≡ None) refl refl in
-    let new : (w job : ℕ) → get_or (worker s w).knows job false ≡ false = each (λ v. (job : ℕ) → get_or v.knows job false ≡ false) (λ job. all_alike n job false) (λ job. refl) in
+    let new : (w job : ℕ) → get_or (worker s w).knows job false ≡ false =
+    each (λ v. (job : ℕ) → get_or v.knows job false ≡ false) (λ job. all_alike n job false) (λ job. refl) in
     record {
       cells = record { size = length-replicate n None; filled = λ job b e. absurd (none-some b (sym (all_alike n job None) ∙ e)) };
       some_worker = omega (arith, count);
@@ -271,17 +297,22 @@ opening_is_consistent plan workers some =
     }
 
 pub replay_follows :
-    (es : List FillEvent) (plan : ProgramForIds) (workers : ℕ) (t : Machine) (law : JobsStandAtNumbers) → 1 ≤ workers → Runs (opening plan workers) es t
+    (es : List FillEvent) (plan : ProgramForIds) (workers : ℕ) (t : Machine) (law : JobsStandAtNumbers) → 1 ≤ workers
+    → Runs (opening plan workers) es t
     → Follows (opening plan workers) t
-replay_follows es plan workers t law some run = runs_follow es (opening plan workers) t law (opening_is_consistent plan workers some) run
+replay_follows es plan workers t law some run =
+    runs_follow es (opening plan workers) t law (opening_is_consistent plan workers some) run
 
-pub as_many : (plan : ProgramForIds) (workers : ℕ) (t : Machine) → Follows (opening plan workers) t → length t.workers ≡ workers
+pub as_many : (plan : ProgramForIds) (workers : ℕ) (t : Machine) → Follows (opening plan workers) t
+    → length t.workers ≡ workers
 as_many plan workers t f = f.workers ∙ length-replicate workers (idle (job_count plan))
 
 -- a number with a job in hand is that of a worker
 holder : (l : List Worker) (w job : ℕ) → (get_or l w nobody).hand ≡ Some job → w < length l
 holder l w job e =
-    ⊎_elim (λ (lt : w < length l). lt) (λ (le : length l ≤ w). absurd (none-some job (ap (λ (v : Worker). v.hand) (sym (get_or_past l w nobody le)) ∙ e)))
+    ⊎_elim (λ (lt : w < length l). lt)
+    (λ (le : length l ≤ w). absurd
+    (none-some job (ap (λ (v : Worker). v.hand) (sym (get_or_past l w nobody le)) ∙ e)))
     (cases_lt w (length l))
 
 pub filled_when_stopped : (s : Machine) → IsConsistent s → IsFilledWhenStopped s

@@ -1,5 +1,6 @@
 -- A worker in the code's state and in the machine.
-use Rattle.std.proofs.Common.{◌≡◌, ℕ, ◌<◌, false, Option, None, Some, List, map, length, get_or, set, refl, sym, ap, ◌∙◌, arith}
+use Rattle.std.proofs.Common.{◌≡◌, ℕ, ◌<◌, false, Option, None, Some, List, map, length, get_or, set, refl, sym, ap}
+use Rattle.std.proofs.Common.{◌∙◌, arith}
 use Rattle.std.specs.Prelude.{is_some}
 use Rattle.std.proofs.lemmas.Bool.{false≢true}
 use Rattle.std.proofs.lemmas.List.{get_or-map, map-set, length-map}
@@ -14,7 +15,11 @@ pub record Seen (hands : List Hand) (w : ℕ) (h : Hand) : Type 0 where
 
 pub seen : (hands : List Hand) (w : ℕ) (h : Hand) → w < length hands → h ≡ get_or hands w h → Seen hands w h
 seen hands w h below is =
-    record { inside = omega (arith, below, length-map hands worker_of); is = get_or-map worker_of hands w h nobody below ∙ ap worker_of (sym is) }
+    record {
+      inside = omega (arith, below, length-map hands worker_of);
+      is = get_or-map worker_of hands w h nobody below
+          ∙ ap worker_of (sym is);
+    }
 
 -- worker w is replaced by f of it
 pub seen_set :

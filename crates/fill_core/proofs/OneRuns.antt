@@ -29,8 +29,10 @@ one_step (Draw w) s t u (inr (inr a)) (inr (inr b)) = a.1 ∙ sym b.1
 one_step (Look w level number) s t u a b =
     one_change s t u (CanLook s w level number) (looked s w) (λ i j x y. same_Some i j (sym x.is_job ∙ y.is_job)) a b
 one_step (Install w level number) s t u a b =
-    one_change s t u (CanInstall s w level number) (installed s w level number) (λ i j x y. same_Some i j (sym x.is_job ∙ y.is_job)) a b
+    one_change s t u (CanInstall s w level number) (installed s w level number)
+    (λ i j x y. same_Some i j (sym x.is_job ∙ y.is_job)) a b
 
 pub one_run : OneRun
 one_run s t u [] a b = a ∙ sym b
-one_run s t u (e ∷ es) a b = one_run a.0 t u es a.2 (subst (λ (m : Machine). Runs m es u) (one_step e s b.0 a.0 b.1 a.1) b.2)
+one_run s t u (e ∷ es) a b =
+    one_run a.0 t u es a.2 (subst (λ (m : Machine). Runs m es u) (one_step e s b.0 a.0 b.1 a.1) b.2)

@@ -1,5 +1,6 @@
 -- The fill machine: workers that draw jobs and fill the jobs' cells with blocks, one event after another.
-use Rattle.std.specs.Prelude.{◌≡◌, ℕ, ◌+◌, ◌<◌, ◌≤◌, ◌==◌, ◌⊎◌, Bool, true, false, cond, List, [], ◌∷◌, Option, None, Some, IsSome, length, replicate, slice_index_or, slice_set, refl}
+use Rattle.std.specs.Prelude.{◌≡◌, ℕ, ◌+◌, ◌<◌, ◌≤◌, ◌==◌, ◌⊎◌, Bool, true, false, cond, List, [], ◌∷◌, Option, None}
+use Rattle.std.specs.Prelude.{Some, IsSome, length, replicate, slice_index_or, slice_set, refl}
 use Rattle.std.specs.Coded.{Coded, code_by, coded×, coded_ℕ, coded_list, coded_option, coded_bool}
 use Rattle.lang_check.specs.Plans.{ProgramForIds, plan_code}
 use Rattle.unroll.specs.Below.{IsBelow}
@@ -35,7 +36,8 @@ abbrev pub machine_code : Coded Machine
 machine_code =
     code_by (ProgramForIds × (List (Option MadeBlock) × (ℕ × List Worker)))
     (coded× plan_code (coded× (coded_list (coded_option block_code)) (coded× coded_ℕ (coded_list worker_code))))
-    (λ s. (s.plan, (s.cells, (s.next, s.workers)))) (λ t. record { plan = t.0; cells = t.1.0; next = t.1.1.0; workers = t.1.1.1 }) (λ _. refl)
+    (λ s. (s.plan, (s.cells, (s.next, s.workers))))
+    (λ t. record { plan = t.0; cells = t.1.0; next = t.1.1.0; workers = t.1.1.1 }) (λ _. refl)
 
 -- at first all cells are empty, no job is drawn, no worker has a job in hand or is stopped, and none knows a block
 abbrev pub idle : ℕ → Worker
@@ -43,7 +45,12 @@ idle jobs = record { hand = None; stopped = false; knows = replicate jobs false 
 
 abbrev pub opening : ProgramForIds → ℕ → Machine
 opening plan workers =
-    record { plan = plan; cells = replicate (job_count plan) None; next = 0; workers = replicate workers (idle (job_count plan)) }
+    record {
+      plan = plan;
+      cells = replicate (job_count plan) None;
+      next = 0;
+      workers = replicate workers (idle (job_count plan));
+    }
 
 -- worker w; a number that no worker has reads as a stopped worker that has no job in hand and knows no block
 abbrev pub nobody : Worker
@@ -105,7 +112,8 @@ looked s w job = record s { workers = slice_set s.workers w (learned job (worker
 
 -- the marked jobs include all blocks below the block of this level and number
 abbrev pub MarksBelow : ProgramForIds → List Bool → ℕ → ℕ → Type 0
-MarksBelow plan marks level number = (low c : ℕ) → IsBelow plan.ids level number low c → is_marked marks (job_of plan low c) ≡ true
+MarksBelow plan marks level number = (low c : ℕ) → IsBelow plan.ids level number low c
+    → is_marked marks (job_of plan low c) ≡ true
 
 -- worker w may install the block of a level and a number, which is that of the job: the cell is empty, and the
 -- worker knows all blocks below

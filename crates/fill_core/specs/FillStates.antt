@@ -10,4 +10,9 @@ worker_of h = record { hand = h.job; stopped = h.stopped; knows = h.knows.items 
 
 -- the machine of these fields
 abbrev pub machine_of : FillState → Machine
-machine_of w = record { plan = w.plan.now; cells = w.cells.items; next = w.next; workers = map worker_of w.workers.items }
+machine_of w = record {
+  plan = w.plan.now;
+  cells = w.cells.items;
+  next = w.next;
+  workers = map worker_of w.workers.items;
+}

@@ -46,7 +46,8 @@ impl<'a> FillState<'a> {
         number: u32,
     ) -> Result<(), OutOfMemory>
         requires { IsConsistent (machine_of self.old) }
-        ensures { OnOk result (Steps (machine_of self.old) (FillEvent.Install worker level number) (machine_of self.new)) }
+        ensures { OnOk result (Steps (machine_of self.old) (FillEvent.Install worker level number)
+            (machine_of self.new)) }
     {
         jobs_have_numbers();
         let Some(job) = self.plan.shape().job_number(level, number) else {

@@ -74,7 +74,8 @@ impl<'a> FillWorld<'a> {
     /// there is no such block. It is the plan's block of this level and number, so it holds the
     /// states of that block's windows.
     pub fn cell(&self, level: u32, number: u32) -> Option<&Block<'a>>
-        ensures value { MatchOption result (cell_at self.now level number ≡ None) (λ b. cell_at self.now level number ≡ Some b.now) }
+        ensures value { MatchOption result (cell_at self.now level number ≡ None) (λ b. cell_at self.now level number
+            ≡ Some b.now) }
         ensures block { IfSome result (λ b. IsKeyedBlock self.now.plan level number b.now) }
     {
         jobs_have_numbers();

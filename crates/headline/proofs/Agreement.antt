@@ -1,5 +1,6 @@
 -- The judge's yes, which is about a table, is about the channels of global rounds.
-use Rattle.std.proofs.Common.{◌≡◌, ℕ, ◌+◌, ◌-◌, ◌*◌, ◌%◌, ◌<◌, ◌≤◌, ◌↔◌, Option, List, length, map, slice_index, Some, add-zero, arith, subst, sym, ◌∙◌, ap, ⊎_elim}
+use Rattle.std.proofs.Common.{◌≡◌, ℕ, ◌+◌, ◌-◌, ◌*◌, ◌%◌, ◌<◌, ◌≤◌, ◌↔◌, Option, List, length, map, slice_index, Some}
+use Rattle.std.proofs.Common.{add-zero, arith, subst, sym, ◌∙◌, ap, ⊎_elim}
 use Rattle.std.specs.Int.{abs_diff}
 use Rattle.std.specs.List.{range_with_len}
 use Rattle.std.proofs.lemmas.Bool.{cases_lt}
@@ -28,7 +29,8 @@ turned x start count =
     λ i. map (λ k. slice_index x (further k i)) (range_with_len 0 count)
 
 -- places can be counted on for a turn
-window_at : (x : List ℕ) (t place : ℕ) → place < length x + length x → t ≤ length x → window_around x t place ≡ window_around x t (place % length x)
+window_at : (x : List ℕ) (t place : ℕ) → place < length x + length x → t ≤ length x
+    → window_around x t place ≡ window_around x t (place % length x)
 window_at x t place lt short =
     let n = length x in
     ⊎_elim
@@ -58,7 +60,8 @@ two_right x i lt =
     (cases_lt (i + 1) n)
 
 -- two channels that are apart
-apart_of : (distance : ℕ) (a b : Option ℕ) (c d : ℕ) → a ≡ Some c → b ≡ Some d → AreApart distance a b ↔ (distance ≤ abs_diff c d)
+apart_of : (distance : ℕ) (a b : Option ℕ) (c d : ℕ) → a ≡ Some c → b ≡ Some d
+    → AreApart distance a b ↔ (distance ≤ abs_diff c d)
 apart_of distance a b c d first second = (
   λ apart. subst (AreApart distance (Some c)) second (subst (λ o. AreApart distance o b) first apart),
   λ apart. subst (λ o. AreApart distance o b) (sym first) (subst (AreApart distance (Some c)) (sym second) apart),
@@ -84,7 +87,8 @@ module _ (p : ProgramTree) (m : ℕ) (table : ChannelTable) (agrees : TableAgree
   abbrev channel_there : List ℕ → ℕ → Option ℕ
   channel_there x place = channel_of table (window_around x (length p.steps) place)
 
-  next_channel : (x : List ℕ) (i : ℕ) → IsRing m (length p.steps) x → i < length x → channel_there x (i + 1) ≡ Some (channel_at p x (right_of x i))
+  next_channel : (x : List ℕ) (i : ℕ) → IsRing m (length p.steps) x → i < length x
+      → channel_there x (i + 1) ≡ Some (channel_at p x (right_of x i))
   next_channel x i ring lt =
       let long = ring.long in
       ap (channel_of table) (window_at x (length p.steps) (i + 1) (omega arith) (omega arith))
@@ -95,10 +99,12 @@ module _ (p : ProgramTree) (m : ℕ) (table : ChannelTable) (agrees : TableAgree
   second_channel x i ring lt =
       let long = ring.long in
       ap (channel_of table) (window_at x (length p.steps) (i + 2) (omega arith) (omega arith))
-      ∙ agrees x ((i + 2) % length x) ring (mod-lt (i + 2) (omega arith)) ∙ ap (λ k. Some (channel_at p x k)) (sym (two_right x i lt))
+      ∙ agrees x ((i + 2) % length x) ring (mod-lt (i + 2) (omega arith))
+      ∙ ap (λ k. Some (channel_at p x k)) (sym (two_right x i lt))
 
 -- three channels are forbidden exactly if the same three are
-forbidden_of : (problem : List Pattern) (a b c d e f : Option ℕ) → a ≡ d → b ≡ e → c ≡ f → IsForbidden problem a b c ↔ IsForbidden problem d e f
+forbidden_of : (problem : List Pattern) (a b c d e f : Option ℕ) → a ≡ d → b ≡ e → c ≡ f
+    → IsForbidden problem a b c ↔ IsForbidden problem d e f
 forbidden_of problem a b c d e f first second third = (
   λ bad. (bad.0, bad.1, bad.2, (subst (Fits bad.1.first) first bad.3.0, subst (Fits bad.1.second) second bad.3.1, subst (Fits bad.1.third) third bad.3.2)),
   λ bad. (
@@ -111,20 +117,25 @@ forbidden_of problem a b c d e f first second third = (
 
 -- a table that agrees with global rounds solves a problem if and only if the channels of global rounds do
 pub solving_tables :
-    (p : ProgramTree) (m : ℕ) (problem : List Pattern) (table : ChannelTable) → table.ids ≡ m → table.rounds ≡ length p.steps → TableAgrees p m table
+    (p : ProgramTree) (m : ℕ) (problem : List Pattern) (table : ChannelTable) → table.ids ≡ m
+    → table.rounds ≡ length p.steps → TableAgrees p m table
     → IsSolvedEverywhere table problem ↔ ChannelsSolve p m problem
 solving_tables p m problem table ids rounds agrees =
     let t = length p.steps in
     let Broken : (x : List ℕ) (i r : ℕ) → Type 0 =
-    λ x i r. IsForbidden problem (channel_of table (window_around x r (i + 0))) (channel_of table (window_around x r (i + 1)))
+    λ x i r. IsForbidden problem (channel_of table (window_around x r (i + 0)))
+    (channel_of table (window_around x r (i + 1)))
     (channel_of table (window_around x r (i + 2))) in
     let same : (x : List ℕ) (i : ℕ) → IsRing m t x → i < length x → Broken x i t
-    ↔ IsForbidden problem (Some (channel_at p x i)) (Some (channel_at p x (right_of x i))) (Some (channel_at p x (right_of x (right_of x i)))) =
+    ↔ IsForbidden problem (Some (channel_at p x i)) (Some (channel_at p x (right_of x i)))
+    (Some (channel_at p x (right_of x (right_of x i)))) =
     λ x i ring lt.
-    forbidden_of problem _ _ _ _ _ _ (ap (channel_there p m table agrees x) (add-zero i) ∙ agrees x i ring lt) (next_channel p m table agrees x i ring lt)
+    forbidden_of problem _ _ _ _ _ _ (ap (channel_there p m table agrees x) (add-zero i) ∙ agrees x i ring lt)
+    (next_channel p m table agrees x i ring lt)
     (second_channel p m table agrees x i ring lt) in (
       λ good x i ring lt bad.
-          let on = subst (λ (m : ℕ). IsRing m table.rounds x) (sym ids) (subst (λ (r : ℕ). IsRing m r x) (sym rounds) ring) in
+          let on = subst (λ (m : ℕ). IsRing m table.rounds x) (sym ids)
+          (subst (λ (r : ℕ). IsRing m r x) (sym rounds) ring) in
           good x i on lt (subst (Broken x i) (sym rounds) ((same x i ring lt).1 bad)),
       λ solve x i ring lt bad.
           let on = subst (λ (m : ℕ). IsRing m t x) ids (subst (λ (r : ℕ). IsRing table.ids r x) rounds ring) in
@@ -133,7 +144,8 @@ solving_tables p m problem table ids rounds agrees =
 
 -- the channels of a table that agrees with global rounds are apart everywhere if and only if those of global rounds are
 pub good_tables :
-    (p : ProgramTree) (m : ℕ) (s : Separation) (table : ChannelTable) → table.ids ≡ m → table.rounds ≡ length p.steps → TableAgrees p m table
+    (p : ProgramTree) (m : ℕ) (s : Separation) (table : ChannelTable) → table.ids ≡ m → table.rounds ≡ length p.steps
+    → TableAgrees p m table
     → IsApartEverywhere table s ↔ ChannelsAreApart p m s
 good_tables p m s table ids rounds agrees =
     let t = length p.steps in
@@ -143,7 +155,8 @@ good_tables p m s table ids rounds agrees =
     let Apart : (x : List ℕ) (i r : ℕ) → Type 0 =
     λ x i r. AreApart s.near (at' x r i) (at' x r (i + 1)) × AreApart s.far (at' x r i) (at' x r (i + 2)) in (
       λ good x i ring long lt.
-          let on = subst (λ (m : ℕ). IsRing m table.rounds x) (sym ids) (subst (λ (r : ℕ). IsRing m r x) (sym rounds) ring) in
+          let on = subst (λ (m : ℕ). IsRing m table.rounds x) (sym ids)
+          (subst (λ (r : ℕ). IsRing m r x) (sym rounds) ring) in
           let apart : Apart x i table.rounds = good x i on (omega (arith, long, rounds)) lt in
           let here : Apart x i t = subst (Apart x i) rounds apart in (
             (apart_of s.near _ _ _ _ (agrees x i ring lt) (one x i ring lt)).0 here.0,

@@ -31,20 +31,24 @@ pub record RunAgrees (p : ProgramTree) (ring channels : List ℕ) : Type 0 where
 -- at least far at distance two
 abbrev pub ChannelsAreApart : ProgramTree → ℕ → Separation → Type 0
 ChannelsAreApart p m s =
-    (ring : List ℕ) (place : ℕ) → IsRing m (length p.steps) ring → 2 * length p.steps + 1 + extra s ≤ length ring → place < length ring
+    (ring : List ℕ) (place : ℕ) → IsRing m (length p.steps) ring → 2 * length p.steps + 1 + extra s ≤ length ring
+    → place < length ring
     → (s.near ≤ abs_diff (channel_at p ring place) (channel_at p ring (right_of ring place)))
     × (s.far ≤ abs_diff (channel_at p ring place) (channel_at p ring (right_of ring (right_of ring place))))
 
--- on every such ring no pattern matches the channels of a place, of its right neighbour and of the right neighbour of that one
+-- on every such ring no pattern matches the channels of a place, of its right neighbour and of the right neighbour
+-- of that one
 abbrev pub ChannelsSolve : ProgramTree → ℕ → List Pattern → Type 0
 ChannelsSolve p m problem =
     (ring : List ℕ) (place : ℕ) → IsRing m (length p.steps) ring → place < length ring
     → let channel : ℕ → Option ℕ = λ i. Some (channel_at p ring i) in
-    ¬ IsForbidden problem (channel place) (channel (right_of ring place)) (channel (right_of ring (right_of ring place)))
+    ¬ IsForbidden problem (channel place) (channel (right_of ring place))
+    (channel (right_of ring (right_of ring place)))
 
 -- the table and the run agree with global rounds, and the judge says yes exactly if channels are apart; its no is the
 -- least bad tuple
-pub record IsHeadline (p : ProgramTree) (m : ℕ) (s : Separation) (ring channels : List ℕ) (table : ChannelTable) (verdict : Verdict) : Type 0 where
+pub record IsHeadline (p : ProgramTree) (m : ℕ) (s : Separation) (ring channels : List ℕ) (table : ChannelTable)
+    (verdict : Verdict) : Type 0 where
   pub table_agrees : TableAgrees p m table
   pub run_agrees : RunAgrees p ring channels
   pub yes : (verdict ≡ Yes) ↔ ChannelsAreApart p m s

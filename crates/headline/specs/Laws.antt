@@ -15,12 +15,14 @@ use Rattle.headline.specs.Headline.{ChannelsAreApart, ChannelsSolve}
 
 -- the table of a program keeps a separation on every ring if and only if the channels of global rounds do
 abbrev pub ProgramTablesAreApart : Type 0
-ProgramTablesAreApart = (p : ProgramTree) (m : ℕ) (s : Separation) → IsApartEverywhere (table_of p m) s ↔ ChannelsAreApart p m s
+ProgramTablesAreApart = (p : ProgramTree) (m : ℕ) (s : Separation) → IsApartEverywhere (table_of p m) s
+    ↔ ChannelsAreApart p m s
 
 -- the table of a program solves a problem on every ring if and only if the channels of global rounds do
 abbrev pub ProgramTablesSolve : Type 0
 ProgramTablesSolve =
-    (p : ProgramTree) (m : ℕ) (problem : List Pattern) → IsSolvedEverywhere (table_of p m) problem ↔ ChannelsSolve p m problem
+    (p : ProgramTree) (m : ℕ) (problem : List Pattern) → IsSolvedEverywhere (table_of p m) problem
+    ↔ ChannelsSolve p m problem
 
 -- if a table keeps a separation on every ring, its channels on a ring with at least as many nodes as a tuple are as far
 -- apart

@@ -65,9 +65,12 @@ pub fn compile_run_and_judge<'a, R: Threads + Wait + Sync, G: Gate + Sync>(
     gate: &'a G,
 ) -> Result<Findings, FindingsFault>
     requires shape { IsOfShape ring.now plan.now }
-    ensures headline { IfOk result (λ found. IsHeadline plan.now.program plan.now.ids separation ring.now.places found.channels.items found.table found.verdict) }
+    ensures headline { IfOk result
+        (λ found. IsHeadline plan.now.program plan.now.ids separation ring.now.places found.channels.items
+        found.table found.verdict) }
     ensures in_range { OnOk result (IsWorkerCount workers × IsSegmentCount segments (length ring.now.places)) }
-    ensures workers { IfErr result (λ fault. (fault ≡ FindingsFault.Table FillFault.WorkersOutOfRange) ↔ (¬ IsWorkerCount workers)) }
+    ensures workers { IfErr result (λ fault. (fault ≡ FindingsFault.Table FillFault.WorkersOutOfRange)
+        ↔ (¬ IsWorkerCount workers)) }
     ensures segments { IfErr result (λ fault. (fault ≡ FindingsFault.Run RunFault.SegmentsOutOfRange)
         ↔ (IsWorkerCount workers × ¬ IsSegmentCount segments (length ring.now.places))) }
 {
@@ -91,7 +94,8 @@ pub fn compile_run_and_judge<'a, R: Threads + Wait + Sync, G: Gate + Sync>(
 // segments.
 fn in_range(ring: &Ring, workers: u32, segments: u32) -> Result<(), FindingsFault>
     ensures ok { OnOk result (IsWorkerCount workers × IsSegmentCount segments (length ring.now.places)) }
-    ensures workers { IfErr result (λ fault. (fault ≡ FindingsFault.Table FillFault.WorkersOutOfRange) ↔ (¬ IsWorkerCount workers)) }
+    ensures workers { IfErr result (λ fault. (fault ≡ FindingsFault.Table FillFault.WorkersOutOfRange)
+        ↔ (¬ IsWorkerCount workers)) }
     ensures segments { IfErr result (λ fault. (fault ≡ FindingsFault.Run RunFault.SegmentsOutOfRange)
         ↔ (IsWorkerCount workers × ¬ IsSegmentCount segments (length ring.now.places))) }
 {
@@ -115,7 +119,8 @@ fn compiled<R: Threads + Wait + Sync, G: Gate + Sync>(
     ensures table { IfOk result (λ table. table ≡ table_of plan.now.program plan.now.ids) }
     ensures agrees { IfOk result (TableAgrees plan.now.program plan.now.ids) }
     ensures in_range { OnOk result (IsWorkerCount workers) }
-    ensures workers { IfErr result (λ fault. fault ≡ FindingsFault.Table FillFault.WorkersOutOfRange → ¬ IsWorkerCount workers) }
+    ensures workers { IfErr result (λ fault. fault ≡ FindingsFault.Table FillFault.WorkersOutOfRange
+        → ¬ IsWorkerCount workers) }
     ensures no_run { IfErr result (λ fault. (why : RunFault) → ¬ fault ≡ FindingsFault.Run why) }
 {
     let Ok(memo) = Memo::new(alloc, plan) else {

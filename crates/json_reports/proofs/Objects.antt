@@ -8,7 +8,8 @@ use Rattle.json.specs.Tree.{depth, items_depth, members_depth}
 use Rattle.lang_check.specs.declared.acceptance.CheckFault.{CheckFault}
 use Rattle.lang_check.specs.declared.acceptance.CheckFault.TheVariants as check
 use Rattle.reports.specs.Bytes.{places_from, shown}
-use Rattle.reports.specs.Findings.{Fault, answer_of, of_text, of_program, of_ring, of_place, of_segments, of_table_text, of_formula, of_refutation}
+use Rattle.reports.specs.Findings.{Fault, answer_of, of_text, of_program, of_ring, of_place, of_segments, of_table_text}
+use Rattle.reports.specs.Findings.{of_formula, of_refutation}
 use Rattle.reports.specs.ProblemFaults.{problem_of}
 use Rattle.reports.specs.declared.finding.Answer.{Answer}
 use Rattle.reports.specs.declared.finding.Answer.TheVariants as answer
@@ -20,16 +21,21 @@ use Rattle.table_text.specs.declared.fault.TableFault.TheVariants as table
 use Rattle.value_trees.specs.Rows.{RoundRows, trace_rows}
 use Rattle.value_trees.specs.ValueTrees.{ValuedPart, ValueTree, value_trees}
 use Rattle.win_index.specs.declared.ring.RingFault.TheVariants as ring
-use Rattle.json_reports.specs.Json.{answer_fields, check_fields, json_bytes, demand_fields, entry_value, fault_fields, note_fields, part_value, pattern_value, place_fields, round_value, table_fields, tree_value}
+use Rattle.json_reports.specs.Json.{answer_fields, check_fields, json_bytes, demand_fields, entry_value, fault_fields}
+use Rattle.json_reports.specs.Json.{note_fields, part_value, pattern_value, place_fields, round_value}
+use Rattle.json_reports.specs.Json.{table_fields, tree_value}
 use Rattle.json_reports.specs.Reports.{IsRead, IsReadBack}
-use Rattle.json_reports.specs.Values.{Field, array_of, items_of, json_text, members_of, numbers, numeral, object_of, rows}
+use Rattle.json_reports.specs.Values.{Field, array_of, items_of, json_text, members_of, numbers, numeral}
+use Rattle.json_reports.specs.Values.{object_of, rows}
 
 -- values that are so deep make an array that is one deeper
-mapped_depth : {A : Type 0} (f : A → Json) (most : ℕ) → ((x : A) → depth (f x) ≤ most) → (xs : List A) → items_depth (items_of (map f xs)) ≤ most
+mapped_depth : {A : Type 0} (f : A → Json) (most : ℕ) → ((x : A) → depth (f x) ≤ most) → (xs : List A)
+    → items_depth (items_of (map f xs)) ≤ most
 mapped_depth f most each [] = omega arith
 mapped_depth f most each (x ∷ xs) = let rest = mapped_depth f most each xs in omega (arith, each x, rest)
 
-array_depth : {A : Type 0} (f : A → Json) (most : ℕ) → ((x : A) → depth (f x) ≤ most) → (xs : List A) → depth (array_of (map f xs)) ≤ suc most
+array_depth : {A : Type 0} (f : A → Json) (most : ℕ) → ((x : A) → depth (f x) ≤ most) → (xs : List A)
+    → depth (array_of (map f xs)) ≤ suc most
 array_depth f most each xs = let items = mapped_depth f most each xs in omega (arith, items)
 
 numbers_depth : (ns : List ℕ) → depth (numbers ns) ≤ 1
@@ -39,10 +45,12 @@ rows_depth : (nss : List (List ℕ)) → depth (rows nss) ≤ 2
 rows_depth = array_depth numbers 1 numbers_depth
 
 -- members of two lists
-joined_depth : (most : ℕ) (fs gs : List Field) → members_depth (members_of fs) ≤ most → members_depth (members_of gs) ≤ most
+joined_depth : (most : ℕ) (fs gs : List Field) → members_depth (members_of fs) ≤ most
+    → members_depth (members_of gs) ≤ most
     → members_depth (members_of (fs ++ gs)) ≤ most
 joined_depth most [] gs first second = second
-joined_depth most (f ∷ fs) gs first second = let rest = joined_depth most fs gs (omega (arith, first)) second in omega (arith, first, rest)
+joined_depth most (f ∷ fs) gs first second =
+    let rest = joined_depth most fs gs (omega (arith, first)) second in omega (arith, first, rest)
 
 entry_depth : (e : Entry) → depth (entry_value e) ≤ 0
 entry_depth entry.Wildcard = omega arith
@@ -76,10 +84,12 @@ demand_shallow : (s : Separation) (ps : List Pattern) → Shallow (demand_fields
 demand_shallow s [] = omega arith
 demand_shallow s (p ∷ ps) = let patterns = array_depth pattern_value 1 pattern_depth (p ∷ ps) in omega (arith, patterns)
 
--- The report of an answer is the text of one object and a line feed; it is read back if the object is, which is shallow.
+-- The report of an answer is the text of one object and a line feed; it is read back if the object is, which is
+-- shallow.
 record IsObjectOf (a : Answer) : Type 0 where
   bytes : (text : List ℕ) (note : Option (List ℕ))
-      → json_bytes text (answer_of a) note ≡ json_text (object_of (answer_fields (answer_of a) ++ note_fields note)) ++ 10 ∷ []
+      → json_bytes text (answer_of a) note
+      ≡ json_text (object_of (answer_fields (answer_of a) ++ note_fields note)) ++ 10 ∷ []
   read : (text : List ℕ) (note : Option (List ℕ))
       → IsRead (object_of (answer_fields (answer_of a) ++ note_fields note)) → IsReadBack text (answer_of a) note
   shallow : Shallow (answer_fields (answer_of a))
@@ -87,11 +97,14 @@ record IsObjectOf (a : Answer) : Type 0 where
 answer_object : (a : Answer) → IsObjectOf a
 answer_object (answer.Accepted ids rounds most bound windows) =
     record { bytes = λ text note. refl; read = λ text note is. is; shallow = omega arith }
-answer_object (answer.Program p) = record { bytes = λ text note. refl; read = λ text note is. is; shallow = omega arith }
-answer_object (answer.Yes tuples nodes ids) = record { bytes = λ text note. refl; read = λ text note is. is; shallow = omega arith }
+answer_object (answer.Program p) =
+    record { bytes = λ text note. refl; read = λ text note is. is; shallow = omega arith }
+answer_object (answer.Yes tuples nodes ids) =
+    record { bytes = λ text note. refl; read = λ text note is. is; shallow = omega arith }
 answer_object (answer.No s w) =
     let r = numbers_depth w.ring.items in record { bytes = λ text note. refl; read = λ text note is. is; shallow = omega (arith, r) }
-answer_object (answer.Solved tuples idle) = record { bytes = λ text note. refl; read = λ text note is. is; shallow = omega arith }
+answer_object (answer.Solved tuples idle) =
+    record { bytes = λ text note. refl; read = λ text note is. is; shallow = omega arith }
 answer_object (answer.Broken w known idle) =
     let p = pattern_depth w.pattern in
     let r = numbers_depth w.ring.items in
@@ -134,7 +147,8 @@ check_shallow (check.ChannelBound bound) = omega arith
 fault_shallow : (text : List ℕ) (f : Fault) → Shallow (fault_fields text f)
 fault_shallow text (of_text k offset) = omega arith
 fault_shallow text (of_program p ids f) =
-    let both = joined_depth 4 (check_fields f) (place_fields text (place_of_cause text f)) (check_shallow f) (place_shallow text (place_of_cause text f)) in
+    let both = joined_depth 4 (check_fields f) (place_fields text (place_of_cause text f)) (check_shallow f)
+    (place_shallow text (place_of_cause text f)) in
     omega (arith, both)
 fault_shallow text (of_ring m t places ring.TooShort) = omega arith
 fault_shallow text (of_ring m t places ring.TooLong) = omega arith
@@ -155,22 +169,27 @@ note_shallow : (note : Option (List ℕ)) → Shallow (note_fields note)
 note_shallow None = omega arith
 note_shallow (Some note) = omega arith
 
-with_note : (fs : List Field) (note : Option (List ℕ)) → Shallow fs → depth (object_of (fs ++ note_fields note)) ≤ max_depth
-with_note fs note shallow = let both = joined_depth 4 fs (note_fields note) shallow (note_shallow note) in omega (arith, both)
+with_note : (fs : List Field) (note : Option (List ℕ)) → Shallow fs
+    → depth (object_of (fs ++ note_fields note)) ≤ max_depth
+with_note fs note shallow =
+    let both = joined_depth 4 fs (note_fields note) shallow (note_shallow note) in omega (arith, both)
 
 -- objects of findings, with a note, can be read
-pub answer_depth : (a : Answer) (note : Option (List ℕ)) → depth (object_of (answer_fields (answer_of a) ++ note_fields note)) ≤ max_depth
+pub answer_depth : (a : Answer) (note : Option (List ℕ))
+    → depth (object_of (answer_fields (answer_of a) ++ note_fields note)) ≤ max_depth
 answer_depth a note = let object = answer_object a in with_note (answer_fields (answer_of a)) note object.shallow
 
 pub answer_bytes : (text : List ℕ) (a : Answer) (note : Option (List ℕ))
-    → json_bytes text (answer_of a) note ≡ json_text (object_of (answer_fields (answer_of a) ++ note_fields note)) ++ 10 ∷ []
+    → json_bytes text (answer_of a) note
+    ≡ json_text (object_of (answer_fields (answer_of a) ++ note_fields note)) ++ 10 ∷ []
 answer_bytes text a = let object = answer_object a in object.bytes text
 
 pub answer_read : (text : List ℕ) (a : Answer) (note : Option (List ℕ))
     → IsRead (object_of (answer_fields (answer_of a) ++ note_fields note)) → IsReadBack text (answer_of a) note
 answer_read text a = let object = answer_object a in object.read text
 
-pub fault_depth : (text : List ℕ) (f : Fault) (note : Option (List ℕ)) → depth (object_of (fault_fields text f ++ note_fields note)) ≤ max_depth
+pub fault_depth : (text : List ℕ) (f : Fault) (note : Option (List ℕ))
+    → depth (object_of (fault_fields text f ++ note_fields note)) ≤ max_depth
 fault_depth text f note = with_note (fault_fields text f) note (fault_shallow text f)
 
 pub table_depth : (t : ChannelTable) (s : Separation) → depth (object_of (table_fields t s)) ≤ max_depth

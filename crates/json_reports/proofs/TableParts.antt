@@ -15,10 +15,12 @@ use Rattle.json_reports.specs.Values.{numeral, object_of, value_tokens}
 use Rattle.json_reports.proofs.Closings.{array_tokens}
 
 -- channels behind another one, and the end
-rest_is : (ns : List ℕ) → print_from true (value_tokens (map numeral ns) ++ end_array ∷ end_object ∷ []) ≡ flat_map entry_text ns ++ codes "]}"
+rest_is : (ns : List ℕ) → print_from true (value_tokens (map numeral ns) ++ end_array ∷ end_object ∷ [])
+    ≡ flat_map entry_text ns ++ codes "]}"
 unfolding print_from
 rest_is [] = refl
-rest_is (n ∷ ns) = ap (λ (text : List ℕ). 44 ∷ (decimal n ++ text)) (rest_is ns) ∙ ap (λ (text : List ℕ). 44 ∷ text) (sym (append_assoc (decimal n) (flat_map entry_text ns) (codes "]}")))
+rest_is (n ∷ ns) = ap (λ (text : List ℕ). 44 ∷ (decimal n ++ text)) (rest_is ns)
+    ∙ ap (λ (text : List ℕ). 44 ∷ text) (sym (append_assoc (decimal n) (flat_map entry_text ns) (codes "]}")))
 
 -- the table of these numbers
 abbrev table : (ids rounds channels : ℕ) → List ℕ → ChannelTable
@@ -26,11 +28,13 @@ table ids rounds channels entries = record { ids = ids; rounds = rounds; channel
 
 tokens_are : (ids rounds channels : ℕ) (entries : List ℕ) (s : Separation)
     → json_tokens (object_of (table_fields (table ids rounds channels entries) s))
-    ≡ head_tokens (table ids rounds channels entries) s ++ (value_tokens (map numeral (drop 1 entries)) ++ end_array ∷ end_object ∷ [])
+    ≡ head_tokens (table ids rounds channels entries) s
+    ++ (value_tokens (map numeral (drop 1 entries)) ++ end_array ∷ end_object ∷ [])
 tokens_are ids rounds channels [] s = refl
 tokens_are ids rounds channels (n ∷ ns) s =
     ap (λ ts. head_tokens (table ids rounds channels (n ∷ [])) s ++ ts)
-    (ap (λ ts. ts ++ end_object ∷ []) (array_tokens (map numeral ns)) ∙ append_assoc (value_tokens (map numeral ns)) (end_array ∷ []) (end_object ∷ []))
+    (ap (λ ts. ts ++ end_object ∷ []) (array_tokens (map numeral ns))
+    ∙ append_assoc (value_tokens (map numeral ns)) (end_array ∷ []) (end_object ∷ []))
 
 rest_printed : (ids rounds channels : ℕ) (entries : List ℕ) (s : Separation)
     → print_from (fold (λ _ u. ends u) false (head_tokens (table ids rounds channels entries) s))
@@ -41,7 +45,8 @@ rest_printed ids rounds channels [] s = refl
 rest_printed ids rounds channels (n ∷ ns) s = rest_is ns
 
 parts_are : (ids rounds channels : ℕ) (entries : List ℕ) (s : Separation)
-    → head_text (table ids rounds channels entries) s ++ rest_text (drop 1 entries) ≡ table_json (table ids rounds channels entries) s
+    → head_text (table ids rounds channels entries) s ++ rest_text (drop 1 entries)
+    ≡ table_json (table ids rounds channels entries) s
 parts_are ids rounds channels entries s =
     let t = table ids rounds channels entries in
     let rest = value_tokens (map numeral (drop 1 entries)) ++ end_array ∷ end_object ∷ [] in

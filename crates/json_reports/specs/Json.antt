@@ -10,7 +10,8 @@ use Rattle.lang_check.specs.declared.acceptance.CheckFault.TheVariants as check
 use Rattle.node_lang.specs.Printed.{own_word, printed}
 use Rattle.reports.specs.Bytes.{places_from, shown}
 use Rattle.reports.specs.Codes.{code_of, subject_of}
-use Rattle.reports.specs.Findings.{Fault, of_text, of_program, of_ring, of_place, of_segments, of_table_text, of_formula, of_refutation, Finding}
+use Rattle.reports.specs.Findings.{Fault, of_text, of_program, of_ring, of_place, of_segments, of_table_text}
+use Rattle.reports.specs.Findings.{of_formula, of_refutation, Finding}
 use Rattle.reports.specs.Findings as value
 use Rattle.ring_problems.specs.declared.pattern.Entry.{Entry}
 use Rattle.ring_problems.specs.declared.pattern.Entry.TheVariants as entry
@@ -49,7 +50,8 @@ pattern_value p = array_of (entries_of p)
 
 -- the messages of a round and the registers after it
 abbrev pub round_fields : RoundRows → List Field
-round_fields r = (codes "left", numbers r.left) ∷ (codes "right", numbers r.right) ∷ (codes "registers", rows r.registers) ∷ []
+round_fields r = (codes "left", numbers r.left) ∷ (codes "right", numbers r.right)
+    ∷ (codes "registers", rows r.registers) ∷ []
 
 abbrev pub round_value : RoundRows → Json
 round_value r = object_of (round_fields r)
@@ -143,7 +145,8 @@ answer_fields (value.refused f) = []
 -- the line and the column of the byte at an offset of a text, if there is one
 abbrev pub place_fields : List ℕ → Option ℕ → List Field
 place_fields text None = []
-place_fields text (Some offset) = numbered (codes "line") (line_number text offset) ∷ numbered (codes "column") (column text offset) ∷ []
+place_fields text (Some offset) = numbered (codes "line") (line_number text offset)
+    ∷ numbered (codes "column") (column text offset) ∷ []
 
 -- the byte at an offset of a text
 abbrev pub byte_fields : List ℕ → ℕ → List Field
@@ -181,7 +184,8 @@ detail_fields text _ = []
 -- the fields of a refusal of this text
 abbrev pub fault_fields : List ℕ → Fault → List Field
 fault_fields text f =
-    kind (codes "fault") ∷ (codes "of", string (subject_of f)) ∷ (codes "code", string (code_of f)) ∷ detail_fields text f
+    kind (codes "fault") ∷ (codes "of", string (subject_of f)) ∷ (codes "code", string (code_of f))
+    ∷ detail_fields text f
 
 -- the fields of what was found in this text
 abbrev pub fields_of : List ℕ → Finding → List Field

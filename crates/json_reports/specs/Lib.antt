@@ -1,5 +1,5 @@
--- The definitions that the contracts cite: JSON values and their texts, what is appended to a writer, findings as JSON, the parts
--- of a table's text, and reports.
+-- The definitions that the contracts cite: JSON values and their texts, what is appended to a writer, findings as
+-- JSON, the parts of a table's text, and reports.
 pub mod Values
 pub mod Puts
 pub mod Json

@@ -16,7 +16,8 @@ abbrev pub IsReadBack : List ℕ → Finding → Option (List ℕ) → Type 0
 IsReadBack text (value.formula p) noted = ⊤
 IsReadBack text f noted = IsRead (json_of text f noted)
 
--- the bytes are the text of an object with these members and a line feed, and a JSON reader finds the object in the text
+-- the bytes are the text of an object with these members and a line feed, and a JSON reader finds the object in the
+-- text
 pub record IsObject (fields : List Field) (bytes : List ℕ) : Type 0 where
   pub text : bytes ≡ json_text (object_of fields) ++ 10 ∷ []
   pub read : IsRead (object_of fields)

@@ -16,7 +16,8 @@ table_json t s = json_text (object_of (table_fields t s)) ++ 10 ∷ []
 -- its tokens up to the channel of the first window
 abbrev pub head_tokens : ChannelTable → Separation → List Token
 head_tokens t s =
-    begin_object ∷ (field_tokens (table_head t s) ++ key (codes "entries") ∷ begin_array ∷ value_tokens (map numeral (take 1 t.entries)))
+    begin_object ∷ (field_tokens (table_head t s) ++ key (codes "entries") ∷ begin_array
+    ∷ value_tokens (map numeral (take 1 t.entries)))
 
 abbrev pub head_text : ChannelTable → Separation → List ℕ
 head_text t s = print (head_tokens t s)

@@ -72,7 +72,8 @@ pub(crate) fn put_sizes(
 
 // Appends the bound of the channels of a program, and the number of windows.
 fn put_bounds(writer: &mut Writer, bound: u32, windows: u32) -> Result<(), AllocError>
-    ensures { PutsFields result writer.old writer.new (numbered (codes "bound") bound ∷ numbered (codes "windows") windows ∷ []) }
+    ensures { PutsFields result writer.old writer.new
+        (numbered (codes "bound") bound ∷ numbered (codes "windows") windows ∷ []) }
 {
     put_number(writer, "bound", bound)?;
     put_number(writer, "windows", windows)
@@ -133,7 +134,8 @@ fn put_refuted(writer: &mut Writer, numbers: &ProblemNumbers) -> Result<(), Allo
 
 // Appends the members of a demand.
 fn put_demand(writer: &mut Writer, demand: &Demand) -> Result<(), AllocError>
-    ensures { PutsFields result writer.old writer.new (demand_fields (separation_of demand.now) (forbidden_of demand.now)) }
+    ensures { PutsFields result writer.old writer.new
+        (demand_fields (separation_of demand.now) (forbidden_of demand.now)) }
 {
     let forbidden = demand.forbidden();
     if forbidden.is_empty() {

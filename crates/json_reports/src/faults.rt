@@ -1,6 +1,7 @@
 //! The members of a refusal. Each call fails only if memory was refused.
 
-ghost use Rattle.json_reports.specs.Json.{byte_fields, check_fields, detail_fields, fault_fields, place_fields, ring_fields, table_fault_fields};
+ghost use Rattle.json_reports.specs.Json.{byte_fields, check_fields, detail_fields, fault_fields, place_fields};
+ghost use Rattle.json_reports.specs.Json.{ring_fields, table_fault_fields};
 ghost use Rattle.json_reports.specs.Puts.{PutsFields};
 ghost use Rattle.reports.specs.Findings.{fault_of};
 ghost use Rattle.std.specs.Prelude.{Some};

@@ -1,6 +1,7 @@
 //! The members of a no, and patterns. Each call fails only if memory was refused.
 
-ghost use Rattle.json_reports.specs.Json.{entries_of, entry_value, no_fields, pattern_value, separation_fields, witness_fields};
+ghost use Rattle.json_reports.specs.Json.{entries_of, entry_value, no_fields, pattern_value};
+ghost use Rattle.json_reports.specs.Json.{separation_fields, witness_fields};
 ghost use Rattle.json_reports.specs.Puts.{PutsFields, PutsValues};
 ghost use Rattle.json_reports.specs.Values.{array_of};
 ghost use Rattle.reports.specs.Bytes.{places_from, shown};
@@ -32,9 +33,11 @@ pub(crate) fn put_no(
 
 // Appends the members of a no to a problem.
 pub(crate) fn put_broken(writer: &mut Writer, witness: &PatternWitness) -> Result<(), AllocError>
-    ensures { PutsFields result writer.old writer.new (no_fields ((codes "pattern", pattern_value witness.now.pattern) ∷ []) witness.now.ring.items
+    ensures { PutsFields result writer.old writer.new
+        (no_fields ((codes "pattern", pattern_value witness.now.pattern) ∷ []) witness.now.ring.items
         (places_from witness.now.ring.items witness.now.place (shown witness.now.pattern))
-        (take (shown witness.now.pattern) (witness.now.channels.0 ∷ witness.now.channels.1 ∷ witness.now.channels.2 ∷ []))) }
+        (take (shown witness.now.pattern)
+        (witness.now.channels.0 ∷ witness.now.channels.1 ∷ witness.now.channels.2 ∷ []))) }
 {
     put_text(writer, "kind", "no")?;
     put_pattern_field(writer, "pattern", witness.pattern)?;
@@ -45,7 +48,8 @@ pub(crate) fn put_broken(writer: &mut Writer, witness: &PatternWitness) -> Resul
 fn put_match(writer: &mut Writer, witness: &PatternWitness) -> Result<(), AllocError>
     ensures { PutsFields result writer.old writer.new (witness_fields witness.now.ring.items
         (places_from witness.now.ring.items witness.now.place (shown witness.now.pattern))
-        (take (shown witness.now.pattern) (witness.now.channels.0 ∷ witness.now.channels.1 ∷ witness.now.channels.2 ∷ []))) }
+        (take (shown witness.now.pattern)
+        (witness.now.channels.0 ∷ witness.now.channels.1 ∷ witness.now.channels.2 ∷ []))) }
 {
     let count = shown_len(witness.pattern);
     let places = places_of(witness);

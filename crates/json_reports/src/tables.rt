@@ -36,7 +36,8 @@ pub(crate) fn write_table<W: Write>(
     writer: &mut Watched<W>,
 ) -> Result<(), EngineFault>
     requires { has_failed writer.old ≡ false }
-    ensures writes { WritesBytes (table_json report.now.table report.now.separation) (W.contents (device_of writer.old)) (W.contents (device_of writer.new)) (has_failed writer.new) result }
+    ensures writes { WritesBytes (table_json report.now.table report.now.separation) (W.contents (device_of writer.old))
+        (W.contents (device_of writer.new)) (has_failed writer.new) result }
     ensures reads { OnOk result (IsRead (object_of (table_fields report.now.table report.now.separation))) }
 {
     let head = head_text(alloc, &report.table, report.separation)?;
@@ -89,7 +90,8 @@ fn write_parts<W: Write>(
 ) -> Result<(), EngineFault>
     requires working { has_failed writer.old ≡ false }
     requires empty { chunk.old ≡ [] }
-    ensures { SendsText (head.now ++ rest_text (drop 1 entries.now)) (W.contents (device_of writer.old)) (W.contents (device_of writer.new)) (has_failed writer.new) result }
+    ensures { SendsText (head.now ++ rest_text (drop 1 entries.now)) (W.contents (device_of writer.old))
+        (W.contents (device_of writer.new)) (has_failed writer.new) result }
 {
     send(writer, head)?;
     write_rest(writer, chunk, others(entries))
@@ -113,7 +115,8 @@ fn write_rest<W: Write>(
 ) -> Result<(), EngineFault>
     requires working { has_failed writer.old ≡ false }
     requires empty { chunk.old ≡ [] }
-    ensures { SendsText (rest_text entries.now) (W.contents (device_of writer.old)) (W.contents (device_of writer.new)) (has_failed writer.new) result }
+    ensures { SendsText (rest_text entries.now) (W.contents (device_of writer.old)) (W.contents (device_of writer.new))
+        (has_failed writer.new) result }
 {
     let mut first = 0;
     while first < entries.len() {

@@ -1,6 +1,7 @@
 //! The members of an explanation. Each call fails only if memory was refused.
 
-ghost use Rattle.json_reports.specs.Json.{explanation_fields, given_name, part_fields, part_value as part_json, tree_fields, tree_value as tree_json};
+ghost use Rattle.json_reports.specs.Json.{explanation_fields, given_name, part_fields, part_value as part_json};
+ghost use Rattle.json_reports.specs.Json.{tree_fields, tree_value as tree_json};
 ghost use Rattle.json_reports.specs.Puts.{PutsFields, PutsValues};
 ghost use Rattle.json_reports.specs.Values.{array_of};
 ghost use Rattle.json.specs.Json.{string};
@@ -47,7 +48,8 @@ fn put_place_trees(
 
 // Appends the trees of an explanation.
 fn put_trees(alloc: Global, writer: &mut Writer, trees: &[ValueTree<'_>]) -> Result<(), AllocError>
-    ensures { PutsFields result writer.old writer.new ((codes "trees", array_of (map tree_json (map tree_value trees.now))) ∷ []) }
+    ensures { PutsFields result writer.old writer.new
+        ((codes "trees", array_of (map tree_json (map tree_value trees.now))) ∷ []) }
 {
     writer.key("trees")?;
     put_tree_array(alloc, writer, trees)
@@ -124,7 +126,8 @@ fn given_name(alloc: Global, given: Given) -> Result<String, AllocError>
 
 // Appends the parts of an expression.
 fn put_parts(alloc: Global, writer: &mut Writer, parts: &[TreePart<'_>]) -> Result<(), AllocError>
-    ensures { PutsFields result writer.old writer.new ((codes "parts", array_of (map part_json (map part_value parts.now))) ∷ []) }
+    ensures { PutsFields result writer.old writer.new
+        ((codes "parts", array_of (map part_json (map part_value parts.now))) ∷ []) }
 {
     writer.key("parts")?;
     put_part_array(alloc, writer, parts)
@@ -182,7 +185,8 @@ fn put_part_fields(
 
 // Appends the word of an expression.
 fn put_word(alloc: Global, writer: &mut Writer, expression: &Expr) -> Result<(), AllocError>
-    ensures { PutsFields result writer.old writer.new ((codes "word", string (own_word (term_of expression.now))) ∷ []) }
+    ensures { PutsFields result writer.old writer.new
+        ((codes "word", string (own_word (term_of expression.now))) ∷ []) }
 {
     let mut word = String::new(alloc);
     write_word(&mut word, expression)?;

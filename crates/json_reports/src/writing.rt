@@ -50,7 +50,8 @@ pub fn write_json<R: Threads + Sync, W: Write>(
     writer: &mut Watched<W>,
 ) -> Result<(), EngineFault>
     requires { has_failed writer.old ≡ false }
-    ensures writes { WritesBytes (report_bytes report.entry) (W.contents (device_of writer.old)) (W.contents (device_of writer.new)) (has_failed writer.new) result }
+    ensures writes { WritesBytes (report_bytes report.entry) (W.contents (device_of writer.old))
+        (W.contents (device_of writer.new)) (has_failed writer.new) result }
     ensures reads { OnOk result (IsReportRead report.entry) }
 {
     match report.finding {
@@ -69,7 +70,8 @@ pub fn write_json<R: Threads + Sync, W: Write>(
 
 // Returns the JSON text of an answer with a note, and a line feed.
 fn answer_text(alloc: Global, answer: &Answer, note: Option<&str>) -> Result<Vec<u8>, OutOfMemory>
-    ensures { IfOk result (λ bytes. IsObject (answer_fields (answer_of answer.now) ++ note_fields (option_map (λ n. n.now) note.entry)) bytes.items) }
+    ensures { IfOk result (λ bytes. IsObject
+        (answer_fields (answer_of answer.now) ++ note_fields (option_map (λ n. n.now) note.entry)) bytes.items) }
 {
     let mut writer = Writer::new(Vec::new(alloc));
     writer.begin_object()?;
@@ -85,7 +87,9 @@ fn fault_text(
     fault: &Fault,
     note: Option<&str>,
 ) -> Result<Vec<u8>, AllocError>
-    ensures { IfOk result (λ bytes. IsObject (fault_fields text.now (fault_of fault.now) ++ note_fields (option_map (λ n. n.now) note.entry)) bytes.items) }
+    ensures { IfOk result (λ bytes. IsObject
+        (fault_fields text.now (fault_of fault.now)
+        ++ note_fields (option_map (λ n. n.now) note.entry)) bytes.items) }
 {
     let mut writer = Writer::new(Vec::new(alloc));
     writer.begin_object()?;

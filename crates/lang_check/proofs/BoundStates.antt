@@ -31,7 +31,8 @@ start_within p m id below =
 assigned_within :
     (s : Option Round) (m : ℕ) (left own right bounds : List ℕ) → IsWithin left bounds → IsWithin own bounds
     → IsWithin right bounds
-    → IsWithin (rounds.assigned_values s own (rounds.right_sent s left) (rounds.left_sent s right)) (next_bounds s m bounds)
+    → IsWithin (rounds.assigned_values s own (rounds.right_sent s left) (rounds.left_sent s right))
+    (next_bounds s m bounds)
 assigned_within None m left own right bounds l o r = λ j. omega arith
 assigned_within (Some s) m left own right bounds l o r =
     let nothing : 0 ≤ 0 = omega arith in
@@ -48,4 +49,5 @@ pub channel_within : ChannelIsWithin
 unfolding rounds.channel finish_bound
 channel_within p m registers h =
     let nothing : 0 ≤ 0 = omega arith in
-    value_within p.finish _ _ (reads_within m 0 0 0 0 registers (register_bounds p m (length p.steps)) nothing nothing h)
+    value_within p.finish _ _
+    (reads_within m 0 0 0 0 registers (register_bounds p m (length p.steps)) nothing nothing h)

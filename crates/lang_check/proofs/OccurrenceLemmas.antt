@@ -1,5 +1,6 @@
 -- What the expressions of a program read, part by part.
-use Rattle.std.proofs.Common.{◌≡◌, ℕ, ◌+◌, ◌<◌, Bool, true, false, ◌||◌, Option, Some, None, List, [], ◌∷◌, ◌++◌, map, length, get_or, take, refl, sym, ◌∙◌, ap, append_assoc}
+use Rattle.std.proofs.Common.{◌≡◌, ℕ, ◌+◌, ◌<◌, Bool, true, false, ◌||◌, Option, Some, None, List, [], ◌∷◌, ◌++◌, map}
+use Rattle.std.proofs.Common.{length, get_or, take, refl, sym, ◌∙◌, ap, append_assoc}
 use Rattle.std.specs.Prelude.{find, flat_map}
 use Rattle.std.specs.Option.{option_or}
 use Rattle.std.specs.List.{list_any}
@@ -116,7 +117,8 @@ module _ (p : ℕ → Bool) where
   pub found_more_rounds :
       (rounds : List code.Round) (i : ℕ) (d : code.Round) → i < length rounds
       → found (step_terms (map step_of (take (i + 1) rounds)))
-      ≡ option_or (found (step_terms (map step_of (take i rounds)))) (found (step_terms (step_of (get_or rounds i d) ∷ [])))
+      ≡ option_or (found (step_terms (map step_of (take i rounds))))
+      (found (step_terms (step_of (get_or rounds i d) ∷ [])))
   found_more_rounds rounds i d lt =
       ap (λ l. found (step_terms (map step_of l))) (take_more rounds i d lt)
       ∙ ap (λ l. found (step_terms l)) (map-append step_of (take i rounds) (get_or rounds i d ∷ []))

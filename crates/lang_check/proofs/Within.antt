@@ -1,5 +1,6 @@
 -- The values of expressions are at most their bounds.
-use Rattle.std.proofs.Common.{◌≡◌, ℕ, zero, suc, ◌+◌, ◌-◌, ◌*◌, ◌/◌, ◌%◌, ◌^◌, ◌<◌, ◌≤◌, ◌==◌, Bool, true, false, not, Option, Some, None, inl, inr, refl, arith}
+use Rattle.std.proofs.Common.{◌≡◌, ℕ, zero, suc, ◌+◌, ◌-◌, ◌*◌, ◌/◌, ◌%◌, ◌^◌, ◌<◌, ◌≤◌, ◌==◌, Bool, true, false, not}
+use Rattle.std.proofs.Common.{Option, Some, None, inl, inr, refl, arith}
 use Rattle.std.specs.Prelude.{nat_lt, min, max, if◌then◌else◌}
 use Rattle.std.specs.Int.{bit_at}
 use Rattle.std.proofs.lemmas.Bool.{cases_lt}
@@ -9,8 +10,10 @@ use Rattle.std.proofs.Math.Nat.{mod-le, mod-lt, mul-le-mul_right}
 use Rattle.std.proofs.Math.Pow.{shr_mono}
 use Rattle.node_program.specs.declared.tree.UnOp.TheVariants.{Not}
 use Rattle.node_program.specs.declared.tree.BinOp.{BinOp}
-use Rattle.node_program.specs.declared.tree.BinOp.TheVariants.{And, Or, Xor, Shl, Shr, Add, Sub, Min, Max, Ldb, Bit, Eq, Ne, Lt, Le}
-use Rattle.node_program.specs.Term.{Term, Literal, Identifier, LeftMessage, RightMessage, RegisterValue, One, Two, Choose}
+use Rattle.node_program.specs.declared.tree.BinOp.TheVariants.{And, Or, Xor, Shl, Shr, Add, Sub, Min, Max, Ldb, Bit, Eq}
+use Rattle.node_program.specs.declared.tree.BinOp.TheVariants.{Ne, Lt, Le}
+use Rattle.node_program.specs.Term.{Term, Literal, Identifier, LeftMessage, RightMessage, RegisterValue, One}
+use Rattle.node_program.specs.Term.{Two, Choose}
 use Rattle.node_program.specs.Operations.{top, flag, least_from, lowest_differing_bit, binary_value}
 use Rattle.node_program.specs.Value.{Env, value}
 use Rattle.node_program.specs.Bounds.{bits, written_number, binary_bound, bound, IsWithin}
@@ -34,7 +37,8 @@ least_from-le : (test : ℕ → Bool) (i n k : ℕ) → ((j : ℕ) → k ≤ j �
 least_from-le test i zero k none = omega arith
 least_from-le test i (suc n) k none =
     elim (cases_lt i k) [
-      | inl lt ↦ either (test i) i (least_from test (i + 1) n) (k - 1) (omega arith) (least_from-le test (i + 1) n k none)
+      | inl lt ↦ either (test i) i (least_from test (i + 1) n) (k - 1) (omega arith)
+          (least_from-le test (i + 1) n k none)
       | inr far ↦ rw (none i far) (least_from-le test (i + 1) n k none)
     ]
 
@@ -134,4 +138,5 @@ value_within (Two o a b) env bounds h =
 value_within (Choose c a b) env bounds h =
     let first : value a env ≤ bound a bounds = value_within a env bounds h in
     let second : value b env ≤ bound b bounds = value_within b env bounds h in
-    either (value c env == 0) (value b env) (value a env) (max (bound a bounds) (bound b bounds)) (omega arith) (omega arith)
+    either (value c env == 0) (value b env) (value a env) (max (bound a bounds) (bound b bounds))
+    (omega arith) (omega arith)

@@ -1,5 +1,5 @@
--- The definitions of this crate that contracts cite: what the expressions of a program read, which programs are accepted
--- for a number of identifiers, which refusal comes first, plans, and the laws. Bounds are in node_program.
+-- The definitions of this crate that contracts cite: what the expressions of a program read, which programs are
+-- accepted for a number of identifiers, which refusal comes first, plans, and the laws. Bounds are in node_program.
 pub mod Occurrences
 pub mod Misplaced
 pub mod BoundLaws

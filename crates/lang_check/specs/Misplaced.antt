@@ -4,7 +4,8 @@ use Rattle.std.specs.Prelude.{ℕ, Bool, Option, length, find, flat_map, nat_le,
 use Rattle.std.specs.List.{list_any}
 use Rattle.node_program.specs.Term.{ProgramTree, terms}
 use Rattle.node_program.specs.Bounds.{register_bounds}
-use Rattle.lang_check.specs.Occurrences.{registers_read, reads_identifier, reads_message, terms_after_start, terms_outside_assignments}
+use Rattle.lang_check.specs.Occurrences.{registers_read, reads_identifier, reads_message}
+use Rattle.lang_check.specs.Occurrences.{terms_after_start, terms_outside_assignments}
 
 -- the first register in reading order that the program does not have
 abbrev pub first_missing_register : ProgramTree → Option ℕ

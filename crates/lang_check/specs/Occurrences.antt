@@ -1,6 +1,7 @@
 -- What an expression reads, and where the expressions of a program stand.
 use Rattle.std.specs.Prelude.{ℕ, Bool, true, false, ◌||◌, List, [], ◌∷◌, ◌++◌}
-use Rattle.node_program.specs.Term.{Term, Identifier, LeftMessage, RightMessage, RegisterValue, One, Two, Choose, Round, ProgramTree, step_terms}
+use Rattle.node_program.specs.Term.{Term, Identifier, LeftMessage, RightMessage, RegisterValue, One, Two, Choose, Round}
+use Rattle.node_program.specs.Term.{ProgramTree, step_terms}
 
 -- the numbers of the registers that an expression reads, from left to right
 abbrev pub registers_read : Term → List ℕ

@@ -7,7 +7,9 @@ use Rattle.win_index.specs.ShapeFaults.{IsFirstShapeFault}
 use Rattle.win_index.specs.declared.shape.ShapeFault.TheVariants as shape
 use Rattle.lang_check.specs.Misplaced.{first_missing_register, reads_id_outside_start, reads_message_outside_step}
 use Rattle.lang_check.specs.declared.acceptance.CheckFault.{CheckFault}
-use Rattle.lang_check.specs.declared.acceptance.CheckFault.TheVariants.{IdsOutOfRange, TooManyWindows, RegisterOutOfRange, IdOutsideStart, MessageOutsideStep, ChannelBound}
+use Rattle.lang_check.specs.declared.acceptance.CheckFault.TheVariants.{IdsOutOfRange, TooManyWindows}
+use Rattle.lang_check.specs.declared.acceptance.CheckFault.TheVariants.{RegisterOutOfRange, IdOutsideStart}
+use Rattle.lang_check.specs.declared.acceptance.CheckFault.TheVariants.{MessageOutsideStep, ChannelBound}
 
 -- each refusal comes first only if those before it do not hold
 abbrev pub IsFirstRefusal : ℕ → ProgramTree → CheckFault → Type 0

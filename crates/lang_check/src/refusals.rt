@@ -1,6 +1,7 @@
 //! What a program must not read.
 ghost use Rattle.std.specs.Prelude.{◌≡◌};
-ghost use Rattle.lang_check.specs.Misplaced.{first_missing_register, reads_id_outside_start, reads_message_outside_step};
+ghost use Rattle.lang_check.specs.Misplaced.{first_missing_register, reads_id_outside_start};
+ghost use Rattle.lang_check.specs.Misplaced.{reads_message_outside_step};
 
 use crate::occurrences::{
     any_uses_message, missing_in_rounds, missing_in_term, missing_in_terms, rounds_use_id,

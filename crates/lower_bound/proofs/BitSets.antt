@@ -32,5 +32,6 @@ same_members zero has other same y lt = absurd (omega (arith, lt))
 same_members (suc c) has other same zero lt =
     digit_same (has 0) (other 0) (omega (arith, same, digit_few (has 0), digit_few (other 0)))
 same_members (suc c) has other same (suc y) lt =
-    let rest : bits c (λ y. has (suc y)) ≡ bits c (λ y. other (suc y)) = omega (arith, same, digit_few (has 0), digit_few (other 0)) in
+    let rest : bits c (λ y. has (suc y)) ≡ bits c (λ y. other (suc y)) =
+    omega (arith, same, digit_few (has 0), digit_few (other 0)) in
     same_members c (λ y. has (suc y)) (λ y. other (suc y)) rest y (omega (arith, lt))

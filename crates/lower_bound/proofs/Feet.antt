@@ -9,7 +9,8 @@ pub exponent_is : (x r n : ℕ) → 2 ≤ x → 2 ^ r ≤ x - 1 → x - 1 < 2 * 
 exponent_is x r n some low high = (over, under)
   where
     over : x ≤ 2 ^ n → r + 1 ≤ n
-    over le = ⊎_elim (λ (lt : r < n). omega (arith, lt)) (λ (ge : n ≤ r). absurd (omega (arith, le, low, some, pow_mono ge))) (cases_lt r n)
+    over le = ⊎_elim (λ (lt : r < n). omega (arith, lt))
+        (λ (ge : n ≤ r). absurd (omega (arith, le, low, some, pow_mono ge))) (cases_lt r n)
 
     under : r + 1 ≤ n → x ≤ 2 ^ n
     under le = omega (arith, high, pow-succ' 2 r, rw add-one at (pow_mono le))

@@ -1,5 +1,6 @@
 -- Rings on which the channels of places at distance one and two differ.
-use Rattle.std.proofs.Common.{◌≡◌, ◌≢◌, ℕ, zero, suc, ◌+◌, ◌-◌, ◌*◌, ◌/◌, ◌%◌, ◌<◌, ◌≤◌, List, length, get_or, map, refl, sym, ap, ◌∙◌, arith, ⊎_elim}
+use Rattle.std.proofs.Common.{◌≡◌, ◌≢◌, ℕ, zero, suc, ◌+◌, ◌-◌, ◌*◌, ◌/◌, ◌%◌, ◌<◌, ◌≤◌, List, length, get_or, map}
+use Rattle.std.proofs.Common.{refl, sym, ap, ◌∙◌, arith, ⊎_elim}
 use Rattle.std.proofs.Math.Nat.{add-mod_left}
 use Rattle.std.proofs.lemmas.Bool.{cases_lt}
 use Rattle.std.proofs.lemmas.List.FromFn.{length-range_with_len}
@@ -15,7 +16,8 @@ use Rattle.lower_bound.proofs.OddRings.{rising_ring, further_around}
 three_on : (a b c d : ℕ) → a < 3 → b < 3 → c < 3 → d < 3 → a ≢ b → a ≢ c → b ≢ c → b ≢ d → c ≢ d → d ≡ a
 three_on a b c d a3 b3 c3 d3 ab ac bc bd cd = omega arith
 
-in_threes : (f : ℕ → ℕ) (n k : ℕ) → ((i : ℕ) → f i < 3) → ((i : ℕ) → i < n → (f i ≢ f (i + 1)) × (f i ≢ f (i + 2))) → 3 * k ≤ n → f (3 * k) ≡ f 0
+in_threes : (f : ℕ → ℕ) (n k : ℕ) → ((i : ℕ) → f i < 3) → ((i : ℕ) → i < n → (f i ≢ f (i + 1)) × (f i ≢ f (i + 2)))
+    → 3 * k ≤ n → f (3 * k) ≡ f 0
 in_threes f n zero below differ le =
     let start : 3 * zero ≡ 0 = omega arith in
     ap f start
@@ -29,16 +31,19 @@ in_threes f n (suc k) below differ le =
     let second = differ (i + 1) (omega (arith, le)) in
     let third = differ (i + 2) (omega (arith, le)) in
     ap f end
-    ∙ three_on (f i) (f (i + 1)) (f (i + 2)) (f (i + 3)) (below i) (below (i + 1)) (below (i + 2)) (below (i + 3)) first.0 first.1
+    ∙ three_on (f i) (f (i + 1)) (f (i + 2)) (f (i + 3)) (below i) (below (i + 1)) (below (i + 2))
+    (below (i + 3)) first.0 first.1
     (λ e. second.0 (e ∙ ap f (sym one))) (λ e. second.1 (e ∙ ap f (sym two))) (λ e. third.0 (e ∙ ap f (sym last)))
     ∙ in_threes f n k below differ (omega (arith, le))
 
 -- five numbers that differ are not all below 4
-no_four : (a b c d e : ℕ) → a < 4 → b < 4 → c < 4 → d < 4 → e < 4 → a ≢ b → a ≢ c → a ≢ d → a ≢ e → b ≢ c → b ≢ d → b ≢ e → c ≢ d → c ≢ e → d ≢ e → ⊥
+no_four : (a b c d e : ℕ) → a < 4 → b < 4 → c < 4 → d < 4 → e < 4 → a ≢ b → a ≢ c → a ≢ d → a ≢ e → b ≢ c → b ≢ d
+    → b ≢ e → c ≢ d → c ≢ e → d ≢ e → ⊥
 no_four a b c d e a4 b4 c4 d4 e4 ab ac ad ae bc bd be cd ce de = omega arith
 
 module _ (windows : RingsHaveWindows) (m t c n : ℕ) (channel : List ℕ → ℕ) (long : 2 * t + 3 ≤ n) (short : n ≤ m)
-    (below : (window : List ℕ) → IsWindow (2 * t + 1) m window → channel window < c) (differ : DifferNearby m t channel) where
+    (below : (window : List ℕ) → IsWindow (2 * t + 1) m window
+    → channel window < c) (differ : DifferNearby m t channel) where
   -- the ring of the first identifiers
   abbrev ring : List ℕ
   ring = range_with_len 0 n
@@ -81,7 +86,8 @@ module _ (windows : RingsHaveWindows) (m t c n : ℕ) (channel : List ℕ → �
   five : n ≡ 5 → c < 5 → ⊥
   five nodes few =
       let four = λ (i : ℕ). let own = at_below i in let lt : at' i < 4 = omega (arith, own, few) in lt in
-      let turn : (i : ℕ) → at' (5 + i) ≡ at' i = λ i. let same : 5 + i ≡ n + i = omega (arith, nodes) in ap at' same ∙ around i in
+      let turn : (i : ℕ) → at' (5 + i) ≡ at' i =
+      λ i. let same : 5 + i ≡ n + i = omega (arith, nodes) in ap at' same ∙ around i in
       let zero' = apart 0 (omega (arith, nodes)) in
       let one = apart 1 (omega (arith, nodes)) in
       let two = apart 2 (omega (arith, nodes)) in
@@ -94,7 +100,8 @@ module _ (windows : RingsHaveWindows) (m t c n : ℕ) (channel : List ℕ → �
 
 pub need_four : RingsHaveWindows → RingsNeedFour
 need_four windows m t c n channel long short no_multiple below differ =
-    ⊎_elim (λ (few : c < 4). absurd (four windows m t c n channel long short below differ no_multiple few)) (λ (enough : 4 ≤ c). enough) (cases_lt c 4)
+    ⊎_elim (λ (few : c < 4). absurd (four windows m t c n channel long short below differ no_multiple few))
+    (λ (enough : 4 ≤ c). enough) (cases_lt c 4)
 
 pub need_five : RingsHaveWindows → FiveNeedFive
 need_five windows m t c channel few_rounds short below differ =

@@ -1,5 +1,6 @@
 -- A ring of an odd number of nodes has no two channels that neighbours take in turn.
-use Rattle.std.proofs.Common.{◌≡◌, ◌≢◌, ℕ, zero, suc, ◌+◌, ◌-◌, ◌*◌, ◌%◌, ◌<◌, ◌≤◌, List, length, get_or, map, sym, ap, ◌∙◌, arith, ⊎_elim}
+use Rattle.std.proofs.Common.{◌≡◌, ◌≢◌, ℕ, zero, suc, ◌+◌, ◌-◌, ◌*◌, ◌%◌, ◌<◌, ◌≤◌, List, length, get_or, map, sym, ap}
+use Rattle.std.proofs.Common.{◌∙◌, arith, ⊎_elim}
 use Rattle.std.proofs.Math.Nat.{add-mod_left}
 use Rattle.std.proofs.lemmas.Bool.{cases_lt}
 use Rattle.std.proofs.lemmas.List.FromFn.{length-range_with_len, get_or-range_with_len}
@@ -10,7 +11,8 @@ use Rattle.win_index.specs.Ring.{IsRing}
 use Rattle.lower_bound.specs.Laws.{OddRingsNeedThree}
 
 -- two numbers below 2 that are taken in turn
-in_turn : (f : ℕ → ℕ) (n k : ℕ) → ((i : ℕ) → f i < 2) → ((i : ℕ) → i < n → f i ≢ f (i + 1)) → 2 * k ≤ n → f (2 * k) ≡ f 0
+in_turn : (f : ℕ → ℕ) (n k : ℕ) → ((i : ℕ) → f i < 2) → ((i : ℕ) → i < n → f i ≢ f (i + 1)) → 2 * k ≤ n
+    → f (2 * k) ≡ f 0
 in_turn f n zero below differ le =
     let start : 2 * zero ≡ 0 = omega arith in
     ap f start
@@ -23,7 +25,8 @@ in_turn f n (suc k) below differ le =
     ap f end ∙ same ∙ in_turn f n k below differ (omega (arith, le))
 
 -- once around a ring
-pub further_around : (ring : List ℕ) (t i : ℕ) → t ≤ length ring → window_around ring t (length ring + i) ≡ window_around ring t i
+pub further_around : (ring : List ℕ) (t i : ℕ) → t ≤ length ring
+    → window_around ring t (length ring + i) ≡ window_around ring t i
 further_around ring t i le = λ j. map (λ k. get_or ring (same k j) 0) (range_with_len 0 (2 * t + 1))
   where
     same : (k : ℕ) → (length ring + i + length ring - t + k) % length ring ≡ (i + length ring - t + k) % length ring
@@ -45,7 +48,8 @@ rising_ring m t n long short =
     }
 
 pub need_three : RingsHaveWindows → OddRingsNeedThree
-need_three windows m t c channel long below differ = ⊎_elim (λ (few : c < 3). absurd (none few)) (λ (enough : 3 ≤ c). enough) (cases_lt c 3)
+need_three windows m t c channel long below differ =
+    ⊎_elim (λ (few : c < 3). absurd (none few)) (λ (enough : 3 ≤ c). enough) (cases_lt c 3)
   where
     none : c < 3 → ⊥
     none few =

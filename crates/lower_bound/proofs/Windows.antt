@@ -1,5 +1,6 @@
 -- Rising lists are windows, and channels of windows that differ between neighbours are a colouring of them.
-use Rattle.std.proofs.Common.{◌≡◌, ◌≢◌, ℕ, zero, suc, ◌+◌, ◌*◌, ◌<◌, ◌≤◌, ◌++◌, ◌∷◌, [], List, length, get_or, take, drop, All, AllPairs, sym, ap, ◌∙◌, arith, length-append}
+use Rattle.std.proofs.Common.{◌≡◌, ◌≢◌, ℕ, zero, suc, ◌+◌, ◌*◌, ◌<◌, ◌≤◌, ◌++◌, ◌∷◌, [], List, length, get_or, take}
+use Rattle.std.proofs.Common.{drop, All, AllPairs, sym, ap, ◌∙◌, arith, length-append}
 use Rattle.std.proofs.lemmas.List.{take_all}
 use Rattle.std.proofs.lemmas.List.Elements.{All-nil, All-cons}
 use Rattle.std.proofs.Math.Seq.{take-append_seam}
@@ -50,8 +51,10 @@ need_channels tuples m t c channel below differ =
           let rest : List ℕ = middle ++ y ∷ [] in
           let long = length-append middle (y ∷ []) in
           let len : length rest ≡ 2 * t + 1 = omega (arith, size, long) in
-          let ring = tuples m t 1 (x ∷ rest) (omega arith) (rising_window (2 * t + 1 + 1) m (x ∷ rest) rises (omega (arith, len))) in
-          let first : part_at t 0 (x ∷ rest) ≡ x ∷ middle = front_part (2 * t + 1) x middle (y ∷ []) (omega (arith, size)) in
+          let ring = tuples m t 1 (x ∷ rest) (omega arith)
+          (rising_window (2 * t + 1 + 1) m (x ∷ rest) rises (omega (arith, len))) in
+          let first : part_at t 0 (x ∷ rest) ≡ x ∷ middle =
+          front_part (2 * t + 1) x middle (y ∷ []) (omega (arith, size)) in
           let second : part_at t 1 (x ∷ rest) ≡ rest = rest_part (2 * t + 1) x rest len in
           differ (x ∷ rest) t ring.0 (omega (arith, len))
           (ap channel (ring.1 ∙ first) ∙ same ∙ sym (ap channel (ring.2 1 (omega arith) ∙ second)));

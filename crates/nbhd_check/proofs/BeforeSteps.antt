@@ -1,5 +1,6 @@
 -- The windows that have the last identifier of a window first.
-use Rattle.std.proofs.Common.{◌≡◌, ◌≢◌, ℕ, suc, ◌+◌, ◌*◌, ◌<◌, ◌≤◌, List, [], ◌∷◌, ◌++◌, length, get_or, set, take, drop, slice_get, Some, subst, sym, ap, ◌∙◌, arith, refl, ⊎_elim, length-drop}
+use Rattle.std.proofs.Common.{◌≡◌, ◌≢◌, ℕ, suc, ◌+◌, ◌*◌, ◌<◌, ◌≤◌, List, [], ◌∷◌, ◌++◌, length, get_or, set, take}
+use Rattle.std.proofs.Common.{drop, slice_get, Some, subst, sym, ap, ◌∙◌, arith, refl, ⊎_elim, length-drop}
 use Rattle.std.proofs.Math.Seq.{get_or-append_seam}
 use Rattle.std.proofs.lemmas.Bool.{cases_eq}
 use Rattle.std.proofs.lemmas.Bool.Decides.{nat_tests}
@@ -45,15 +46,19 @@ turned_at t runs place own =
     let rest_size = rest.size in
     let longer : suc k ≡ k + 1 = omega arith in
     let turned : IsWindow (k + 1) t.ids (z ++ x ∷ []) =
-    subst (λ l. IsWindow l t.ids (z ++ x ∷ [])) longer (push_window k t.ids x z rest (is.below 0 0 (omega arith)) (first_is_free w is.distinct)) in
-    let last : get_or (z ++ x ∷ []) k 0 ≡ x = ap (λ n. get_or (z ++ x ∷ []) n 0) (sym rest_size) ∙ get_or-append_seam z x [] 0 in
+    subst (λ l. IsWindow l t.ids (z ++ x ∷ [])) longer
+    (push_window k t.ids x z rest (is.below 0 0 (omega arith)) (first_is_free w is.distinct)) in
+    let last : get_or (z ++ x ∷ []) k 0 ≡ x =
+    ap (λ n. get_or (z ++ x ∷ []) n 0) (sym rest_size) ∙ get_or-append_seam z x [] 0 in
     let number : second_run runs place * wide t + length (unused (get_or (z ++ x ∷ []) k 0) z)
     ≡ second_run runs place * wide t + second_gap runs place =
-    ap (λ y. second_run runs place * wide t + length (unused y z)) last ∙ ap (λ n. second_run runs place * wide t + n) (sym own.gap_is) in
+    ap (λ y. second_run runs place * wide t + length (unused y z)) last
+    ∙ ap (λ n. second_run runs place * wide t + n) (sym own.gap_is) in
     ap (slice_get (windows_of t)) (sym number) ∙ own.starts.each (z ++ x ∷ []) turned (take_at z (x ∷ []) k rest_size)
 
 -- one channel more is written
-pub before_more : (t : ChannelTable) (runs : SecondRuns) (place channel cell limit : ℕ) (before : List ℕ) → AtPlace t runs place
+pub before_more : (t : ChannelTable) (runs : SecondRuns) (place channel cell limit : ℕ) (before : List ℕ)
+    → AtPlace t runs place
     → length before ≡ length (windows_of t) → cell ≡ second_run runs place * wide t + second_gap runs place
     → channel ≡ get_or t.entries (runs.run * wide t + place) 0 → limit ≡ runs.run * wide t + place
     → AreBefore t limit before → AreBefore t (limit + 1) (set before cell channel)
@@ -70,10 +75,14 @@ before_more t runs place channel cell limit before own room cell_is channel_is l
     ⊎_elim
     (λ (same : q ≡ cell).
     let lists : z ++ x ∷ [] ≡ drop 1 w ++ get_or w 0 0 ∷ [] =
-    same_Some (z ++ x ∷ []) (drop 1 w ++ get_or w 0 0 ∷ []) (sym item_q ∙ ap (slice_get (windows_of t)) same ∙ turned) in
-    let window : x ∷ z ≡ w = same_turn x (get_or w 0 0) z (drop 1 w) (omega (arith, size_n, size_w, length-drop 1 w)) lists ∙ sym whole in
+    same_Some (z ++ x ∷ []) (drop 1 w ++ get_or w 0 0 ∷ []) (sym item_q
+    ∙ ap (slice_get (windows_of t)) same ∙ turned) in
+    let window : x ∷ z ≡ w =
+    same_turn x (get_or w 0 0) z (drop 1 w) (omega (arith, size_n, size_w, length-drop 1 w)) lists
+    ∙ sym whole in
     let number : n ≡ limit = one_number k t.ids n limit w (item_n ∙ ap Some window) at_w in
-    ap (λ c. get_or new c 0) same ∙ get_or-set_same before cell channel 0 (omega (arith, slice_get_within (windows_of t) cell _ turned, room))
+    ap (λ c. get_or new c 0) same
+    ∙ get_or-set_same before cell channel 0 (omega (arith, slice_get_within (windows_of t) cell _ turned, room))
     ∙ channel_is ∙ ap (λ c. get_or t.entries c 0) (sym limit_is ∙ sym number))
     (λ (other : q ≢ cell).
     let apart : n ≢ limit = λ number.
@@ -89,15 +98,18 @@ pub record HasCell (t : ChannelTable) (runs : SecondRuns) (place : ℕ) : Type 0
   pub inside : second_run runs place * wide t + second_gap runs place < length t.entries
   pub first_few : runs.first + place ≤ second_run runs place
 
-pub has_cell : (t : ChannelTable) (runs : SecondRuns) (place : ℕ) → length t.entries ≡ length (windows_of t) → AreNextRuns t runs → place < wide t
+pub has_cell : (t : ChannelTable) (runs : SecondRuns) (place : ℕ) → length t.entries ≡ length (windows_of t)
+    → AreNextRuns t runs → place < wide t
     → HasCell t runs place
 has_cell t runs place full are lt =
     let own = next_place t runs place full are lt in
     record { at = own; inside = omega (arith, own.gap_inside, own.next_within); first_few = grind (arith, nat_tests) }
 
 -- a channel of a run
-pub in_run_at : (t : ChannelTable) (channels : List ℕ) (run place : ℕ) → run * wide t + wide t ≤ length channels → place < wide t
-    → (place < length (in_run t channels run)) × (get_or (in_run t channels run) place 0 ≡ get_or channels (run * wide t + place) 0)
+pub in_run_at : (t : ChannelTable) (channels : List ℕ) (run place : ℕ) → run * wide t + wide t ≤ length channels
+    → place < wide t
+    → (place < length (in_run t channels run))
+    × (get_or (in_run t channels run) place 0 ≡ get_or channels (run * wide t + place) 0)
 in_run_at t channels run place within lt =
     let rest = drop (run * wide t) channels in (
       omega (arith, length-take-le (wide t) rest (omega (arith, length-drop (run * wide t) channels)), lt),

@@ -9,7 +9,8 @@ pub row_more : (row wide : ℕ) → (row + 1) * wide ≡ row * wide + wide
 row_more row wide = add-mul row 1 wide ∙ ap (λ n. row * wide + n) (one-mul wide)
 
 -- a row is within the cells
-pub rows_within : (row most w ids len : ℕ) → row ≤ most → w ≡ ids → len ≡ (most + 1) * (ids + 1) → (row + 1) * (w + 1) ≤ len
+pub rows_within : (row most w ids len : ℕ) → row ≤ most → w ≡ ids → len ≡ (most + 1) * (ids + 1)
+    → (row + 1) * (w + 1) ≤ len
 rows_within row most w ids len le w_is len_is =
     let more : row + 1 ≤ most + 1 = omega arith in
     rw (len_is, w_is) (mul-le-mul_right (ids + 1) more)
@@ -17,14 +18,16 @@ rows_within row most w ids len le w_is len_is =
 -- the cells after a write to one of them
 pub cell_set :
     (cells : List ℕ) (wide row column v x new : ℕ) → x < wide → column < wide → row * wide + column < length cells
-    → get_or (set cells (row * wide + column) new) (v * wide + x) 0 ≡ cond (eqb v row && eqb x column) new (get_or cells (v * wide + x) 0)
+    → get_or (set cells (row * wide + column) new) (v * wide + x) 0
+    ≡ cond (eqb v row && eqb x column) new (get_or cells (v * wide + x) 0)
 cell_set cells wide row column v x new in_x in_column within =
     let place = same_from_place v x row column wide in_x in_column in
     let same = get_or-set_same cells (row * wide + column) new 0 within in
     grind (arith, nat_tests, place, same, get_or-set_other cells (row * wide + column) (v * wide + x) new 0)
 
 -- the cells after one is added to one of them
-pub cell_add : (cells : List ℕ) (wide row column v x : ℕ) → x < wide → column < wide → row * wide + column < length cells
+pub cell_add : (cells : List ℕ) (wide row column v x : ℕ) → x < wide → column < wide
+    → row * wide + column < length cells
     → get_or (set cells (row * wide + column) (get_or cells (row * wide + column) 0 + 1)) (v * wide + x) 0
     ≡ get_or cells (v * wide + x) 0 + cond (eqb v row && eqb x column) 1 0
 cell_add cells wide row column v x in_x in_column within =

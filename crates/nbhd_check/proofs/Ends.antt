@@ -1,5 +1,6 @@
 -- Lists by their first two and their last two elements, and the middle between these.
-use Rattle.std.proofs.Common.{◌≡◌, ◌≢◌, ℕ, zero, suc, ◌+◌, ◌<◌, ◌≤◌, false, eqb, List, [], ◌∷◌, ◌++◌, length, get_or, take, drop, Contains, sym, ap, ◌∙◌, arith, refl}
+use Rattle.std.proofs.Common.{◌≡◌, ◌≢◌, ℕ, zero, suc, ◌+◌, ◌<◌, ◌≤◌, false, eqb, List, [], ◌∷◌, ◌++◌, length, get_or}
+use Rattle.std.proofs.Common.{take, drop, Contains, sym, ap, ◌∙◌, arith, refl}
 use Rattle.std.proofs.lemmas.Bool.{ne_eqb}
 use Rattle.std.proofs.lemmas.List.{get_or_default, append_assoc, take_all}
 use Rattle.std.proofs.lemmas.List.Elements.{All-cons}
@@ -9,7 +10,8 @@ use Rattle.win_index.specs.Windows.{is_used, IsWindow}
 use Rattle.win_index.proofs.Windows.{slice_window, push_window, lacks_from_differs}
 
 -- a list by its last two elements
-pub by_last : (n : ℕ) (list : List ℕ) → length list ≡ n + 2 → list ≡ take n list ++ get_or list n 0 ∷ get_or list (n + 1) 0 ∷ []
+pub by_last : (n : ℕ) (list : List ℕ) → length list ≡ n + 2
+    → list ≡ take n list ++ get_or list n 0 ∷ get_or list (n + 1) 0 ∷ []
 by_last zero (x ∷ y ∷ []) size = refl
 by_last zero [] size = absurd (omega arith)
 by_last zero (x ∷ []) size = absurd (omega arith)
@@ -27,11 +29,13 @@ by_first (x ∷ []) size = absurd (omega arith)
 by_first (x ∷ y ∷ list) size = refl
 
 -- two identifiers before a window that lacks both
-pub window_before : (k m a b : ℕ) (window : List ℕ) → IsWindow k m window → a < m → b < m → a ≢ b → ¬ Contains window a → ¬ Contains window b
+pub window_before : (k m a b : ℕ) (window : List ℕ) → IsWindow k m window → a < m → b < m → a ≢ b → ¬ Contains window a
+    → ¬ Contains window b
     → IsWindow (k + 2) m (a ∷ b ∷ window)
 window_before k m a b window is below_a below_b other lacks_a lacks_b =
     let size = is.size in
-    let lacks : (x : ℕ) → ¬ Contains window x → (i d : ℕ) → i < length window → x ≢ get_or window i d = λ x none i d within same.
+    let lacks : (x : ℕ) → ¬ Contains window x → (i d : ℕ) → i < length window
+    → x ≢ get_or window i d = λ x none i d within same.
     none (i, within, get_or_default window i x d within ∙ sym same) in
     record {
       size = omega arith;
@@ -42,13 +46,17 @@ window_before k m a b window is below_a below_b other lacks_a lacks_b =
     }
 
 -- the first two identifiers of a window moved to its end, in either order
-pub push_two : (k m a b : ℕ) (z : List ℕ) → IsWindow k m z → a < m → b < m → is_used z a ≡ false → is_used z b ≡ false → a ≢ b
+pub push_two : (k m a b : ℕ) (z : List ℕ) → IsWindow k m z → a < m → b < m → is_used z a ≡ false
+    → is_used z b ≡ false → a ≢ b
     → IsWindow (suc (suc k)) m (z ++ a ∷ b ∷ [])
 push_two k m a b z is in_a in_b free_a free_b other =
-    let free : is_used (z ++ a ∷ []) b ≡ false = rw (list_any-append (λ w. eqb w b) z (a ∷ []), free_b, ne_eqb a b other) refl in
-    rw (append_assoc z (a ∷ []) (b ∷ [])) at (push_window (suc k) m b (z ++ a ∷ []) (push_window k m a z is in_a free_a) in_b free)
+    let free : is_used (z ++ a ∷ []) b ≡ false =
+    rw (list_any-append (λ w. eqb w b) z (a ∷ []), free_b, ne_eqb a b other) refl in
+    rw (append_assoc z (a ∷ []) (b ∷ [])) at
+    (push_window (suc k) m b (z ++ a ∷ []) (push_window k m a z is in_a free_a) in_b free)
 
-pub window_moved : (k m a b : ℕ) (z : List ℕ) → IsWindow k m (a ∷ b ∷ z) → IsWindow k m (z ++ a ∷ b ∷ []) × IsWindow k m (z ++ b ∷ a ∷ [])
+pub window_moved : (k m a b : ℕ) (z : List ℕ) → IsWindow k m (a ∷ b ∷ z)
+    → IsWindow k m (z ++ a ∷ b ∷ []) × IsWindow k m (z ++ b ∷ a ∷ [])
 window_moved k m a b z is =
     let size = is.size in
     let rest = slice_window m k 2 (length z) (a ∷ b ∷ z) is (omega arith) in
@@ -64,9 +72,11 @@ window_moved k m a b z is =
     )
 
 -- a window's first two identifiers differ and are not among the others
-pub before_window : (k m a b : ℕ) (window : List ℕ) → IsWindow k m (a ∷ b ∷ window) → (a ≢ b) × (¬ Contains window a) × (¬ Contains window b)
+pub before_window : (k m a b : ℕ) (window : List ℕ) → IsWindow k m (a ∷ b ∷ window)
+    → (a ≢ b) × (¬ Contains window a) × (¬ Contains window b)
 before_window k m a b window is =
     let size = is.size in
     let lacks = λ (i : ℕ) (lt : i < 2) (at' : Contains window (get_or (a ∷ b ∷ window) i 0)).
-    is.distinct i (suc (suc at'.0)) 0 (omega arith) (omega (arith, at'.1)) (sym (get_or_default window at'.0 0 (get_or (a ∷ b ∷ window) i 0) at'.1 ∙ at'.2)) in
+    is.distinct i (suc (suc at'.0)) 0 (omega arith) (omega (arith, at'.1))
+    (sym (get_or_default window at'.0 0 (get_or (a ∷ b ∷ window) i 0) at'.1 ∙ at'.2)) in
     (is.distinct 0 1 0 (omega arith) (omega arith), lacks 0 (omega arith), lacks 1 (omega arith))

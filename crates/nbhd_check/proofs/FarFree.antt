@@ -1,5 +1,6 @@
 -- Windows that begin no tuple with a close third window, and the families of these third windows.
-use Rattle.std.proofs.Common.{◌≡◌, ◌≢◌, ℕ, ◌+◌, ◌-◌, ◌*◌, ◌<◌, ◌≤◌, List, ◌∷◌, length, get_or, take, drop, slice_get, Some, sym, ap, ◌∙◌, arith}
+use Rattle.std.proofs.Common.{◌≡◌, ◌≢◌, ℕ, ◌+◌, ◌-◌, ◌*◌, ◌<◌, ◌≤◌, List, ◌∷◌, length, get_or, take, drop, slice_get}
+use Rattle.std.proofs.Common.{Some, sym, ap, ◌∙◌, arith}
 use Rattle.std.proofs.lemmas.List.{get_or-take, get_or-drop, take-take, drop-take}
 use Rattle.std.proofs.lemmas.Option.{same_Some, slice_get_within}
 use Rattle.std.proofs.lemmas.Nat.{mul-le}
@@ -17,7 +18,8 @@ use Rattle.nbhd_check.proofs.Cells.{row_more}
 use Rattle.nbhd_check.proofs.Ends.{by_first}
 
 -- the first two identifiers of a window of a table
-pub first_two : (t : ChannelTable) (number : ℕ) (window : List ℕ) → 1 ≤ t.rounds → slice_get (windows_of t) number ≡ Some window
+pub first_two : (t : ChannelTable) (number : ℕ) (window : List ℕ) → 1 ≤ t.rounds
+    → slice_get (windows_of t) number ≡ Some window
     → (2 ≤ length window) × (get_or window 0 0 < t.ids) × (get_or window 1 0 < t.ids)
 first_two t number window some item =
     let is = windows_all (2 * t.rounds + 1) t.ids number window item in
@@ -25,9 +27,11 @@ first_two t number window some item =
     (omega arith, is.below 0 0 (omega arith), is.below 1 0 (omega arith))
 
 -- a window of a table by these two and the others
-pub by_pair : (t : ChannelTable) (number first second : ℕ) (window z : List ℕ) → 1 ≤ t.rounds → slice_get (windows_of t) number ≡ Some window
+pub by_pair : (t : ChannelTable) (number first second : ℕ) (window z : List ℕ) → 1 ≤ t.rounds
+    → slice_get (windows_of t) number ≡ Some window
     → (get_or window 0 0 ≡ first) × (get_or window 1 0 ≡ second) × (drop 2 window ≡ z) → window ≡ first ∷ second ∷ z
-by_pair t number first second window z some item own = by_first window (first_two t number window some item).0 ∙ (λ q. own.0 q ∷ own.1 q ∷ own.2 q)
+by_pair t number first second window z some item own =
+    by_first window (first_two t number window some item).0 ∙ (λ q. own.0 q ∷ own.1 q ∷ own.2 q)
 
 module _ (t : ChannelTable) (some : 1 ≤ t.rounds) where
   size : 2 * t.rounds + 1 ≡ shared_len t + 2
@@ -40,15 +44,18 @@ module _ (t : ChannelTable) (some : 1 ≤ t.rounds) where
       (falling-add t.ids (shared_len t) 2)
 
   -- the windows of a family are numbered within those of the table
-  pub family_within : (number : ℕ) → number < length (shared_lists t) → number * family_len t + family_len t ≤ length (windows_of t)
+  pub family_within : (number : ℕ) → number < length (shared_lists t)
+      → number * family_len t + family_len t ≤ length (windows_of t)
   family_within number below =
       omega (arith, all_of_families, row_more number (family_len t), mul-le (number + 1) (family_len t) (length (shared_lists t)) (family_len t) (omega arith) (omega arith))
 
   -- the windows that begin with a list of shared identifiers
-  pub family_is : (z : List ℕ) (number : ℕ) → slice_get (shared_lists t) number ≡ Some z → IsFamily t z (number * family_len t) (family_len t)
+  pub family_is : (z : List ℕ) (number : ℕ) → slice_get (shared_lists t) number ≡ Some z
+      → IsFamily t z (number * family_len t) (family_len t)
   family_is z number item =
       let len = falling_two (t.ids - shared_len t) in
-      let run = λ (n : ℕ) (window : List ℕ) (at' : slice_get (windows_of t) n ≡ Some window). in_longer_run (shared_len t) t.ids 2 n window (rw size at at') in
+      let run = λ (n : ℕ) (window : List ℕ) (at' : slice_get (windows_of t) n ≡ Some window). in_longer_run
+      (shared_len t) t.ids 2 n window (rw size at at') in
       rw (← len) (record {
         within = rw len (family_within number (slice_get_within (shared_lists t) number z item));
         stands = λ window is begins.
@@ -69,7 +76,8 @@ module _ (t : ChannelTable) (some : 1 ≤ t.rounds) where
       → (family : ℕ) × (family < length (shared_lists t)) × (slice_get (shared_lists t) family ≡ Some (drop 2 window))
   family_of number window item =
       let turn : 2 * t.rounds + 1 ≡ 2 + shared_len t = omega arith in
-      let rest = window_drop (shared_len t) t.ids 2 window (rw turn at (windows_all (2 * t.rounds + 1) t.ids number window item)) in
+      let rest = window_drop (shared_len t) t.ids 2 window
+      (rw turn at (windows_all (2 * t.rounds + 1) t.ids number window item)) in
       let family = window_place (shared_len t) t.ids (drop 2 window) rest in
       (family.0, slice_get_within (shared_lists t) family.0 (drop 2 window) family.1, family.1)
 
@@ -81,7 +89,8 @@ pub record FarThird (t : ChannelTable) (distance : ℕ) (window : List ℕ) : Ty
   pub close : AreClose distance (channel_of t window) (channel_of t third)
   pub apart : (i j : ℕ) → i < 2 → j < 2 * t.rounds + 1 → get_or window i 0 ≢ get_or third j 0
 
-pub far_third : (t : ChannelTable) (distance : ℕ) (window : List ℕ) → 1 ≤ t.rounds → BeginsFarTuple t distance window → FarThird t distance window
+pub far_third : (t : ChannelTable) (distance : ℕ) (window : List ℕ) → 1 ≤ t.rounds → BeginsFarTuple t distance window
+    → FarThird t distance window
 unfolding BeginsFarTuple
 far_third t distance window some far =
     let len : ℕ = 2 * t.rounds + 1 in
@@ -92,10 +101,12 @@ far_third t distance window some far =
     record {
       third = part_at t.rounds 2 tuple;
       is = slice_window t.ids (2 * t.rounds + 3) 2 len tuple is (omega arith);
-      shared = take-take (shared_len t) len (drop 2 tuple) (omega arith) ∙ sym (drop-take 2 (shared_len t) tuple) ∙ ap (λ l. drop 2 (take l tuple)) turn ∙ ap (drop 2) far.2;
+      shared = take-take (shared_len t) len (drop 2 tuple) (omega arith) ∙ sym (drop-take 2 (shared_len t) tuple)
+          ∙ ap (λ l. drop 2 (take l tuple)) turn ∙ ap (drop 2) far.2;
       close = rw (← far.2) far.3;
       apart = λ i j in_i in_j same.
-          is.distinct i (2 + j) 0 (omega arith) (omega arith) (sym (get_or-take len tuple i 0 (omega arith)) ∙ ap (λ l. get_or l i 0) far.2
+          is.distinct i (2 + j) 0 (omega arith) (omega arith) (sym (get_or-take len tuple i 0 (omega arith))
+          ∙ ap (λ l. get_or l i 0) far.2
           ∙ same ∙ get_or-take len (drop 2 tuple) j 0 in_j ∙ get_or-drop 2 tuple j 0);
     }
 

@@ -22,7 +22,9 @@ pub in_part : (count parts k : ℕ) → 0 < parts → k < count → InPart count
 in_part count parts k some lt =
     let each : ℕ = div_ceil count parts in
     let all = (div_ceil_times count parts some).0 in
-    let positive : 0 < each = ⊎_elim (λ (is : 0 < each). is) (λ (none : each ≤ 0). absurd (omega (arith, all, mul-le-mul_right parts none))) (cases_lt 0 each) in
+    let positive : 0 < each =
+    ⊎_elim (λ (is : 0 < each). is)
+    (λ (none : each ≤ 0). absurd (omega (arith, all, mul-le-mul_right parts none))) (cases_lt 0 each) in
     record {
       part = k / each;
       few = (div-lt_iff_lt-mul positive).1 (omega (arith, all, mul_comm parts each));

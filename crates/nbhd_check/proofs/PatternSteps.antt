@@ -1,5 +1,7 @@
 -- Three windows in a row of which the first one begins a bad tuple.
-use Rattle.std.proofs.Common.{◌≡◌, ◌≢◌, ℕ, zero, suc, ◌+◌, ◌-◌, ◌*◌, ◌%◌, ◌<◌, ◌≤◌, not, nat_eq, bit_and, true, false, List, [], ◌∷◌, ◌++◌, Option, length, get_or, take, drop, slice_get, slice_index, Some, refl, subst, sym, ap, ◌∙◌, arith, ⊎_elim, get_or-drop}
+use Rattle.std.proofs.Common.{◌≡◌, ◌≢◌, ℕ, zero, suc, ◌+◌, ◌-◌, ◌*◌, ◌%◌, ◌<◌, ◌≤◌, not, nat_eq, bit_and, true, false}
+use Rattle.std.proofs.Common.{List, [], ◌∷◌, ◌++◌, Option, length, get_or, take, drop, slice_get, slice_index, Some}
+use Rattle.std.proofs.Common.{refl, subst, sym, ap, ◌∙◌, arith, ⊎_elim, get_or-drop}
 use Rattle.std.proofs.Math.Nat.{mul-le-mul_right}
 use Rattle.std.proofs.Math.Seq.{drop-append_seam, get_or-append_seam}
 use Rattle.std.proofs.lemmas.Bool.{cases_eq, cases_lt, true≢false}
@@ -23,7 +25,8 @@ use Rattle.nbhd_check.specs.declared.channel_sets.Words.{Words}
 use Rattle.nbhd_check.specs.Masks.{HasBit, HasBitsOf}
 use Rattle.nbhd_check.specs.PatternBits.{AreBits, cell_of}
 use Rattle.nbhd_check.specs.ChannelSets.{HasWords}
-use Rattle.nbhd_check.specs.PatternSearch.{AreBroken, BeginsForbidden, IsFirstClear, IsFreeBefore, IsPairClear, IsSecondClear}
+use Rattle.nbhd_check.specs.PatternSearch.{AreBroken, BeginsForbidden, IsFirstClear, IsFreeBefore}
+use Rattle.nbhd_check.specs.PatternSearch.{IsPairClear, IsSecondClear}
 use Rattle.nbhd_check.specs.MiddleRuns.{AreNextRuns, in_run}
 use Rattle.nbhd_check.specs.Runs.{AreFree, second_gap, second_run, wide}
 use Rattle.nbhd_check.proofs.BeforeSteps.{in_run_at as channel_of_run, first_and_rest}
@@ -37,7 +40,8 @@ pub record InRunAt (k m run : ℕ) (z : List ℕ) (x : ℕ) : Type 0 where
   pub inside : rank z x < m - k
   pub item : slice_get (windows (k + 1) m) (run * (m - k) + rank z x) ≡ Some (z ++ x ∷ [])
 
-pub in_run_of : (k m run x : ℕ) (z : List ℕ) → slice_get (windows k m) run ≡ Some z → x < m → is_used z x ≡ false → InRunAt k m run z x
+pub in_run_of : (k m run x : ℕ) (z : List ℕ) → slice_get (windows k m) run ≡ Some z → x < m → is_used z x ≡ false
+    → InRunAt k m run z x
 in_run_of k m run x z at' below free =
     let is = windows_all k m run z at' in
     let size = is.size in
@@ -53,7 +57,8 @@ in_run_of k m run x z at' below free =
       item = ap (λ n. slice_get (windows (k + 1) m) (run * (m - k) + n)) (sym place) ∙ placed.1;
     }
 
--- the first 2t+2 identifiers of a tuple that begins with a window: the window's first one, the list z of its others, and one more
+-- the first 2t+2 identifiers of a tuple that begins with a window: the window's first one, the list z of its
+-- others, and one more
 pub record Begins (t : ChannelTable) (problem : List Pattern) (window tuple : List ℕ) : Type 0 where
   pub last : ℕ
   pub is_pair : IsWindow (2 * t.rounds + 1 + 1) t.ids (take (2 * t.rounds + 1 + 1) tuple)
@@ -75,11 +80,13 @@ begins t problem window tuple is same =
     let y : ℕ = get_or pair k 0 in
     let front : take k pair ≡ window = take-take k (k + 1) tuple (omega arith) ∙ same in
     let shared : take (k - 1) (drop 1 pair) ≡ drop 1 window =
-    sym (drop-take 1 (k - 1) pair) ∙ ap (λ n. drop 1 (take n pair)) (let sum : 1 + (k - 1) ≡ k = omega arith in sum) ∙ ap (drop 1) front in
+    sym (drop-take 1 (k - 1) pair) ∙ ap (λ n. drop 1 (take n pair)) (let sum : 1 + (k - 1) ≡ k = omega arith in sum)
+    ∙ ap (drop 1) front in
     let last : get_or (drop 1 pair) (k - 1) 0 ≡ y =
     get_or-drop 1 pair (k - 1) 0 ∙ ap (λ n. get_or pair n 0) (let sum : 1 + (k - 1) ≡ k = omega arith in sum) in
     let whole : take (k - 1) (drop 1 pair) ++ get_or (drop 1 pair) (k - 1) 0 ∷ [] ≡ drop 1 pair =
-    whole_list (k - 1) t.ids (drop 1 pair) (subst (λ l. IsWindow l t.ids (drop 1 pair)) (let sum : k ≡ k - 1 + 1 = omega arith in sum) back) in
+    whole_list (k - 1) t.ids (drop 1 pair)
+    (subst (λ l. IsWindow l t.ids (drop 1 pair)) (let sum : k ≡ k - 1 + 1 = omega arith in sum) back) in
     let rest : drop 1 pair ≡ drop 1 window ++ y ∷ [] = sym whole ∙ (λ i. shared i ++ last i ∷ []) in
     record {
       last = y;
@@ -92,11 +99,13 @@ begins t problem window tuple is same =
       other = λ e.
           pair_is.distinct 0 k 0 (omega arith) (omega arith)
           (sym (get_or-take k pair 0 0 (omega arith)) ∙ ap (λ list. get_or list 0 0) front ∙ e);
-      second = sym (part_of_front t.rounds 1 (k + 1) tuple (omega arith)) ∙ take_all k (drop 1 pair) (omega (arith, back_size)) ∙ rest;
+      second = sym (part_of_front t.rounds 1 (k + 1) tuple (omega arith))
+          ∙ take_all k (drop 1 pair) (omega (arith, back_size)) ∙ rest;
     }
 
 -- three windows in a row of a bad tuple
-pub record Broken (t : ChannelTable) (problem : List Pattern) (before : List ℕ) (runs : SecondRuns) (window : List ℕ) : Type 0 where
+pub record Broken (t : ChannelTable) (problem : List Pattern) (before : List ℕ) (runs : SecondRuns)
+    (window : List ℕ) : Type 0 where
   pub first : ℕ
   pub second : ℕ
   pub third : ℕ
@@ -109,14 +118,16 @@ pub record Broken (t : ChannelTable) (problem : List Pattern) (before : List ℕ
   pub broken : AreBroken t problem before runs first second third
 
 -- a third place and its channel: that of the tuple if a pattern asks for it, else any
-record HasThird (t : ChannelTable) (problem : List Pattern) (runs : SecondRuns) (second : ℕ) (tuple : List ℕ) : Type 0 where
+record HasThird (t : ChannelTable) (problem : List Pattern) (runs : SecondRuns) (second : ℕ)
+    (tuple : List ℕ) : Type 0 where
   place : ℕ
   inside : place < wide t
   no_gap : place ≢ second_gap runs second
   channel : 2 ≤ extra problem
       → channel_of t (part_at t.rounds 2 tuple) ≡ Some (slice_index t.entries (second_run runs second * wide t + place))
 
-any_third : (t : ChannelTable) (problem : List Pattern) (runs : SecondRuns) (second : ℕ) (tuple : List ℕ) → 2 ≤ wide t → is_long problem ≡ false
+any_third : (t : ChannelTable) (problem : List Pattern) (runs : SecondRuns) (second : ℕ) (tuple : List ℕ) → 2 ≤ wide t
+    → is_long problem ≡ false
     → HasThird t problem runs second tuple
 any_third t problem runs second tuple two short =
     let one = short_extra problem short in
@@ -136,7 +147,8 @@ any_third t problem runs second tuple two short =
     (cases_eq (second_gap runs second) 0)
 
 third_at : (t : ChannelTable) (problem : List Pattern) (runs : SecondRuns) (second : ℕ) (tuple : List ℕ) → 2 ≤ wide t
-    → IsTuple t.ids t.rounds problem tuple → (own : AtPlace t runs second) → own.window ≡ drop 1 (take (2 * t.rounds + 1 + 1) tuple)
+    → IsTuple t.ids t.rounds problem tuple → (own : AtPlace t runs second)
+    → own.window ≡ drop 1 (take (2 * t.rounds + 1 + 1) tuple)
     → HasThird t problem runs second tuple
 third_at t problem runs second tuple two is own same =
     let pair = take (2 * t.rounds + 1 + 1) tuple in
@@ -152,7 +164,8 @@ third_at t problem runs second tuple two is own same =
     (any_third t problem runs second tuple two)
 
 pub broken_at :
-    (t : ChannelTable) (problem : List Pattern) (before : List ℕ) (runs : SecondRuns) (number : ℕ) (window : List ℕ) → IsTable t
+    (t : ChannelTable) (problem : List Pattern) (before : List ℕ) (runs : SecondRuns) (number : ℕ) (window : List ℕ)
+    → IsTable t
     → AreBefore t (length (windows_of t)) before → AreNextRuns t runs → slice_get (windows_of t) number ≡ Some window
     → slice_get (windows (2 * t.rounds) t.ids) runs.run ≡ Some (drop 1 window) → BeginsForbidden t problem window
     → Broken t problem before runs window
@@ -175,7 +188,8 @@ broken_at t problem before runs number window table turned are item at_run bad =
     let same : place.window ≡ z ++ y ∷ [] = same_Some place.window (z ++ y ∷ []) (sym place.item ∙ second.item) in
     let third = third_at t problem runs (rank z y) tuple (omega arith) is place (same ∙ sym own.rest) in
     let whole = first_and_rest window (omega (arith, size)) in
-    let entry = turned number (runs.run * wide t + rank z x) x z (slice_get_within (windows_of t) number window item) (item ∙ ap Some whole) first.item in
+    let entry = turned number (runs.run * wide t + rank z x) x z (slice_get_within (windows_of t) number window item)
+    (item ∙ ap Some whole) first.item in
     let below : get_or before (runs.run * wide t + rank z x) 0 < t.channels =
     subst (λ c. c < t.channels) (sym entry)
     (table.begun.below number 0 (omega (arith, table.size, slice_get_within (windows_of t) number window item))) in
@@ -199,9 +213,11 @@ broken_at t problem before runs number window table turned are item at_run bad =
 
 -- one third channel more is not forbidden, or is at the gap
 pub no_third_more : (problem : List Pattern) (channels : ℕ × ℕ) (thirds : List ℕ) (gap place : ℕ)
-    → ((n : ℕ) → n < place → n ≢ gap → ¬ IsForbidden problem (Some channels.0) (Some channels.1) (Some (slice_index thirds n)))
+    → ((n : ℕ) → n < place → n ≢ gap
+    → ¬ IsForbidden problem (Some channels.0) (Some channels.1) (Some (slice_index thirds n)))
     → (place ≢ gap → ¬ IsForbidden problem (Some channels.0) (Some channels.1) (Some (slice_index thirds place)))
-    → (n : ℕ) → n < place + 1 → n ≢ gap → ¬ IsForbidden problem (Some channels.0) (Some channels.1) (Some (slice_index thirds n))
+    → (n : ℕ) → n < place + 1 → n ≢ gap
+    → ¬ IsForbidden problem (Some channels.0) (Some channels.1) (Some (slice_index thirds n))
 no_third_more problem channels thirds gap place before own n lt other =
     ⊎_elim (λ (less : n < place). before n less other)
     (λ (here : place ≤ n).
@@ -210,19 +226,24 @@ no_third_more problem channels thirds gap place before own n lt other =
     (cases_lt n place)
 
 -- a channel of a run is in its words
-pub has_once : (t : ChannelTable) (channels : List ℕ) (run place : ℕ) (words : Words) → run * wide t + wide t ≤ length channels → place < wide t
+pub has_once : (t : ChannelTable) (channels : List ℕ) (run place : ℕ) (words : Words)
+    → run * wide t + wide t ≤ length channels → place < wide t
     → HasWords (in_run t channels run) words → HasBit words.once (get_or channels (run * wide t + place) 0)
 has_once t channels run place words within lt are =
     let own = channel_of_run t channels run place within lt in
     subst (HasBit words.once) own.1 (are.once place own.0)
 
--- no three windows are forbidden with this one in the middle if no third channel is in what is forbidden after a first one
-pub clear_by_words : (t : ChannelTable) (problem : List Pattern) (before bits : List ℕ) (runs : SecondRuns) (limit place thirds ends : ℕ) → IsTable t
-    → AreBits problem limit bits → ((c : ℕ) → c < t.channels → c % 64 < limit) → runs.run * wide t + wide t ≤ length t.entries
+-- no three windows are forbidden with this one in the middle if no third channel is in what is forbidden after a
+-- first one
+pub clear_by_words : (t : ChannelTable) (problem : List Pattern) (before bits : List ℕ) (runs : SecondRuns)
+    (limit place thirds ends : ℕ) → IsTable t
+    → AreBits problem limit bits → ((c : ℕ) → c < t.channels → c % 64 < limit)
+    → runs.run * wide t + wide t ≤ length t.entries
     → place < wide t
     → ((first : ℕ) → first < wide t → first ≢ place → get_or before (runs.run * wide t + first) 0 < t.channels
     → HasBitsOf thirds (get_or bits (cell_of (get_or before (runs.run * wide t + first) 0) (get_or t.entries (runs.run * wide t + place) 0)) 0))
-    → ((third : ℕ) → third < wide t → third ≢ second_gap runs place → HasBit ends (get_or t.entries (second_run runs place * wide t + third) 0))
+    → ((third : ℕ) → third < wide t → third ≢ second_gap runs place
+    → HasBit ends (get_or t.entries (second_run runs place * wide t + third) 0))
     → bit_and thirds ends ≡ 0 → IsSecondClear t problem before runs place
 clear_by_words t problem before bits runs limit place thirds ends table are below within lt of_first of_third none first in_first other third in_third no_gap broken =
     let a : ℕ = get_or before (runs.run * wide t + first) 0 in
@@ -243,38 +264,50 @@ nothing (suc n) e = absurd (true≢false (truth n ∙ e))
 -- one number more
 pub one_more : (P : ℕ → Type 0) (place : ℕ) → ((n : ℕ) → n < place → P n) → P place → (n : ℕ) → n < place + 1 → P n
 one_more P place before own n lt =
-    ⊎_elim (λ (less : n < place). before n less) (λ (here : place ≤ n). let same : place ≡ n = omega arith in subst P same own) (cases_lt n place)
+    ⊎_elim (λ (less : n < place). before n less)
+    (λ (here : place ≤ n). let same : place ≡ n = omega arith in subst P same own) (cases_lt n place)
 
 -- the first windows so far and one more
 pub firsts_more :
-    (t : ChannelTable) (problem : List Pattern) (before : List ℕ) (runs : SecondRuns) (place most least found : ℕ) → least ≤ most
-    → ((place' number x : ℕ) (z : List ℕ) → place' < place → number < least → slice_get (windows_of t) number ≡ Some (x ∷ z)
-    → slice_get (windows_of t) (runs.run * wide t + place') ≡ Some (z ++ x ∷ []) → IsFirstClear t problem before runs place')
+    (t : ChannelTable) (problem : List Pattern) (before : List ℕ) (runs : SecondRuns) (place most least found : ℕ)
+    → least ≤ most
+    → ((place' number x : ℕ) (z : List ℕ) → place' < place → number < least
+    → slice_get (windows_of t) number ≡ Some (x ∷ z)
+    → slice_get (windows_of t) (runs.run * wide t + place') ≡ Some (z ++ x ∷ [])
+    → IsFirstClear t problem before runs place')
     → found ≤ least
     → ((number x : ℕ) (z : List ℕ) → number < found → slice_get (windows_of t) number ≡ Some (x ∷ z)
-    → slice_get (windows_of t) (runs.run * wide t + place) ≡ Some (z ++ x ∷ []) → IsFirstClear t problem before runs place)
+    → slice_get (windows_of t) (runs.run * wide t + place) ≡ Some (z ++ x ∷ [])
+    → IsFirstClear t problem before runs place)
     → (found ≤ most)
-    × ((place' number x : ℕ) (z : List ℕ) → place' < place + 1 → number < found → slice_get (windows_of t) number ≡ Some (x ∷ z)
-    → slice_get (windows_of t) (runs.run * wide t + place') ≡ Some (z ++ x ∷ []) → IsFirstClear t problem before runs place')
+    × ((place' number x : ℕ) (z : List ℕ) → place' < place + 1 → number < found
+    → slice_get (windows_of t) number ≡ Some (x ∷ z)
+    → slice_get (windows_of t) (runs.run * wide t + place') ≡ Some (z ++ x ∷ [])
+    → IsFirstClear t problem before runs place')
 firsts_more t problem before runs place most least found few so_far less own = (
   omega arith,
   λ place' number x z lt below item turned.
-      one_more (λ n. slice_get (windows_of t) (runs.run * wide t + n) ≡ Some (z ++ x ∷ []) → IsFirstClear t problem before runs n) place
-      (λ n in_front. so_far n number x z in_front (omega (arith, below, less)) item) (own number x z below item) place' lt turned,
+      one_more (λ n. slice_get (windows_of t) (runs.run * wide t + n) ≡ Some (z ++ x ∷ [])
+      → IsFirstClear t problem before runs n) place
+      (λ n in_front. so_far n number x z in_front (omega (arith, below, less)) item)
+      (own number x z below item) place' lt turned,
 )
 
 -- windows that begin no bad tuple, by the first ones or by the second ones of three in a row
 pub free_by_first :
     (t : ChannelTable) (problem : List Pattern) (before : List ℕ) (runs : SecondRuns) (least : ℕ) → IsTable t
     → AreBefore t (length (windows_of t)) before → AreNextRuns t runs
-    → ((place number x : ℕ) (z : List ℕ) → place < wide t → number < least → slice_get (windows_of t) number ≡ Some (x ∷ z)
-    → slice_get (windows_of t) (runs.run * wide t + place) ≡ Some (z ++ x ∷ []) → IsFirstClear t problem before runs place)
+    → ((place number x : ℕ) (z : List ℕ) → place < wide t → number < least
+    → slice_get (windows_of t) number ≡ Some (x ∷ z)
+    → slice_get (windows_of t) (runs.run * wide t + place) ≡ Some (z ++ x ∷ [])
+    → IsFirstClear t problem before runs place)
     → IsFreeBefore t problem least runs.run
 free_by_first t problem before runs least table turned are clear number window below item at_run bad =
     let own = broken_at t problem before runs number window table turned are item at_run bad in
     let size = (windows_all (2 * t.rounds + 1) t.ids number window item).size in
     let whole = first_and_rest window (omega (arith, size)) in
-    clear own.first number (get_or window 0 0) (drop 1 window) own.first_inside below (item ∙ ap Some whole) own.first_item own.second own.second_inside
+    clear own.first number (get_or window 0 0) (drop 1 window) own.first_inside below (item
+    ∙ ap Some whole) own.first_item own.second own.second_inside
     own.other own.third own.third_inside own.no_gap own.broken
 
 pub free_by_second :
@@ -286,49 +319,67 @@ free_by_second t problem before runs least table turned are clear number window 
     clear own.second own.second_inside own.first own.first_inside own.other own.third own.third_inside own.no_gap own.broken
 
 -- one run more
-pub runs_more : (t : ChannelTable) (problem : List Pattern) (low run least found : ℕ) → ((n : ℕ) → low ≤ n → n < run → IsFreeBefore t problem least n)
-    → found ≤ least → IsFreeBefore t problem found run → (n : ℕ) → low ≤ n → n < run + 1 → IsFreeBefore t problem found n
+pub runs_more : (t : ChannelTable) (problem : List Pattern) (low run least found : ℕ)
+    → ((n : ℕ) → low ≤ n → n < run → IsFreeBefore t problem least n)
+    → found ≤ least → IsFreeBefore t problem found run → (n : ℕ) → low ≤ n → n < run + 1
+    → IsFreeBefore t problem found n
 runs_more t problem low run least found before less own n from lt number window below item at_run =
-    one_more (λ r. low ≤ r → slice_get (windows (2 * t.rounds) t.ids) r ≡ Some (drop 1 window) → ¬ BeginsForbidden t problem window) run
-    (λ r in_front later. before r later in_front number window (omega (arith, below, less)) item) (λ _. own number window below item) n lt from at_run
+    one_more (λ r. low ≤ r → slice_get (windows (2 * t.rounds) t.ids) r ≡ Some (drop 1 window)
+    → ¬ BeginsForbidden t problem window) run
+    (λ r in_front later. before r later in_front number window (omega (arith, below, less)) item)
+    (λ _. own number window below item) n lt from at_run
 
 -- the number of the window that has the last identifier of another first is not below the number found
-pub number_before : (t : ChannelTable) (rounds ids number x : ℕ) (window z : List ℕ) (found : Option ℕ) → rounds ≡ t.rounds → ids ≡ t.ids
+pub number_before : (t : ChannelTable) (rounds ids number x : ℕ) (window z : List ℕ) (found : Option ℕ)
+    → rounds ≡ t.rounds → ids ≡ t.ids
     → found ≡ number_of (2 * rounds + 1) ids (drop (length window - 1) window ++ take (length window - 1) window)
     → window ≡ z ++ x ∷ [] → slice_get (windows_of t) number ≡ Some (x ∷ z) → unwrap_or found 0 ≤ number
 number_before t rounds ids number x window z found rounds_is ids_is found_is whole item =
     let few : length window - 1 ≡ length z = omega (arith, ap length whole, length_push z x) in
-    let front : take (length window - 1) window ≡ z = (λ i. take (few i) (whole i)) ∙ take_at z (x ∷ []) (length z) refl in
+    let front : take (length window - 1) window ≡ z =
+    (λ i. take (few i) (whole i)) ∙ take_at z (x ∷ []) (length z) refl in
     let back : drop (length window - 1) window ≡ x ∷ [] = (λ i. drop (few i) (whole i)) ∙ drop-append_seam z (x ∷ []) in
     let at' : found ≡ Some number =
-    found_is ∙ (λ i. number_of (2 * rounds_is i + 1) (ids_is i) (back i ++ front i)) ∙ number_of_is (2 * t.rounds + 1) t.ids number (x ∷ z) item in
+    found_is ∙ (λ i. number_of (2 * rounds_is i + 1) (ids_is i) (back i ++ front i))
+    ∙ number_of_is (2 * t.rounds + 1) t.ids number (x ∷ z) item in
     omega (arith, ap (λ f. unwrap_or f 0) at')
 
 -- two windows with which no third one is forbidden
-pub pair_is_clear : (t : ChannelTable) (problem : List Pattern) (before : List ℕ) (runs : SecondRuns) (first second gap : ℕ) (channels : ℕ × ℕ) (thirds : List ℕ)
-    → second_run runs second * wide t + wide t ≤ length t.entries → channels.0 ≡ get_or before (runs.run * wide t + first) 0
-    → channels.1 ≡ get_or t.entries (runs.run * wide t + second) 0 → thirds ≡ in_run t t.entries (second_run runs second) → gap ≡ second_gap runs second
-    → ((place : ℕ) → place < length thirds → place ≢ gap → ¬ IsForbidden problem (Some channels.0) (Some channels.1) (Some (get_or thirds place 0)))
+pub pair_is_clear : (t : ChannelTable) (problem : List Pattern) (before : List ℕ) (runs : SecondRuns)
+    (first second gap : ℕ) (channels : ℕ × ℕ) (thirds : List ℕ)
+    → second_run runs second * wide t + wide t ≤ length t.entries
+    → channels.0 ≡ get_or before (runs.run * wide t + first) 0
+    → channels.1 ≡ get_or t.entries (runs.run * wide t + second) 0
+    → thirds ≡ in_run t t.entries (second_run runs second) → gap ≡ second_gap runs second
+    → ((place : ℕ) → place < length thirds → place ≢ gap
+    → ¬ IsForbidden problem (Some channels.0) (Some channels.1) (Some (get_or thirds place 0)))
     → IsPairClear t problem before runs first second
 pair_is_clear t problem before runs first second gap channels thirds within first_is second_is thirds_are gap_is none third lt other broken =
     let own = channel_of_run t t.entries (second_run runs second) third within lt in
-    let read : get_or thirds third 0 ≡ get_or t.entries (second_run runs second * wide t + third) 0 = ap (λ list. get_or list third 0) thirds_are ∙ own.1 in
+    let read : get_or thirds third 0
+    ≡ get_or t.entries (second_run runs second * wide t + third) 0 =
+    ap (λ list. get_or list third 0) thirds_are ∙ own.1 in
     none third (subst (λ list. third < length list) (sym thirds_are) own.0) (λ e. other (e ∙ gap_is))
     (forbidden_along problem _ _ _ _ _ _ (ap Some (sym first_is)) (ap Some (sym second_is)) (λ _. ap Some (sym read)) broken.1)
 
 -- a channel of a run is in what is left of its words without that of another window
-pub has_rest : (t : ChannelTable) (channels : List ℕ) (run gap place channel set : ℕ) (words : Words) → run * wide t + wide t ≤ length channels → gap < wide t
-    → place < wide t → place ≢ gap → HasWords (in_run t channels run) words → channel ≡ get_or channels (run * wide t + gap) 0
-    → ((list : List ℕ) (gap place : ℕ) → HasWords list words → gap < length list → get_or list gap 0 ≡ channel → place < length list → place ≢ gap
+pub has_rest : (t : ChannelTable) (channels : List ℕ) (run gap place channel set : ℕ) (words : Words)
+    → run * wide t + wide t ≤ length channels → gap < wide t
+    → place < wide t → place ≢ gap → HasWords (in_run t channels run) words
+    → channel ≡ get_or channels (run * wide t + gap) 0
+    → ((list : List ℕ) (gap place : ℕ) → HasWords list words → gap < length list → get_or list gap 0 ≡ channel
+    → place < length list → place ≢ gap
     → HasBit set (get_or list place 0))
     → HasBit set (get_or channels (run * wide t + place) 0)
 has_rest t channels run gap place channel set words within in_gap lt other are channel_is left =
     let at_gap = channel_of_run t channels run gap within in_gap in
     let own = channel_of_run t channels run place within lt in
-    subst (HasBit set) own.1 (left (in_run t channels run) gap place are at_gap.0 (at_gap.1 ∙ sym channel_is) own.0 other)
+    subst (HasBit set) own.1
+    (left (in_run t channels run) gap place are at_gap.0 (at_gap.1 ∙ sym channel_is) own.0 other)
 
 -- each window has a run for its identifiers after the first
-pub run_after : (t : ChannelTable) (runs number : ℕ) (window : List ℕ) → IsTable t → runs * wide t ≡ length (windows_of t)
+pub run_after : (t : ChannelTable) (runs number : ℕ) (window : List ℕ) → IsTable t
+    → runs * wide t ≡ length (windows_of t)
     → slice_get (windows_of t) number ≡ Some window
     → (run : ℕ) × (run < runs) × (slice_get (windows (2 * t.rounds) t.ids) run ≡ Some (drop 1 window))
 run_after t runs number window table all item =
@@ -339,7 +390,8 @@ run_after t runs number window table all item =
     (run.0, run_among t runs run.0 (wide_some t table) all within, run.1)
 
 -- tuples that begin with the first windows are not bad if these begin none
-pub none_by_first : (t : ChannelTable) (problem : List Pattern) (first low : ℕ) → AreFree t (BeginsForbidden t problem) 0 first
+pub none_by_first : (t : ChannelTable) (problem : List Pattern) (first low : ℕ)
+    → AreFree t (BeginsForbidden t problem) 0 first
     → low ≡ first * (t.ids - (2 * t.rounds + 1)) → NoneIsBad t problem 0 (low * per_pair t.ids t.rounds problem)
 none_by_first t problem first low free low_is n tuple from below item bad =
     let k : ℕ = 2 * t.rounds + 1 in

@@ -1,5 +1,6 @@
 -- From the first window of a run to that of the next one.
-use Rattle.std.proofs.Common.{◌≡◌, ℕ, ◌+◌, ◌-◌, ◌*◌, ◌^◌, ◌<◌, ◌≤◌, Bool, true, false, List, [], length, get_or, set, take, slice_get, Some, sym, ap, ◌∙◌, arith, refl, ⊎_elim}
+use Rattle.std.proofs.Common.{◌≡◌, ℕ, ◌+◌, ◌-◌, ◌*◌, ◌^◌, ◌<◌, ◌≤◌, Bool, true, false, List, [], length, get_or, set}
+use Rattle.std.proofs.Common.{take, slice_get, Some, sym, ap, ◌∙◌, arith, refl, ⊎_elim}
 use Rattle.std.proofs.Math.Nat.{mul-le-mul_right}
 use Rattle.std.proofs.lemmas.Bool.{cases_lt, OnTrue_at, OnFalse_at}
 use Rattle.std.proofs.lemmas.List.{get_or-set_same, take-set}
@@ -15,14 +16,16 @@ use Rattle.nbhd_check.proofs.Cells.{row_more}
 front_of_first : (t : ChannelTable) (run : ℕ) (window : List ℕ) → slice_get (windows_of t) (run * wide t) ≡ Some window
     → (1 ≤ wide t) × (slice_get (windows (2 * t.rounds) t.ids) run ≡ Some (take (2 * t.rounds) window))
 front_of_first t run window item =
-    let few = window_within (2 * t.rounds + 1) t.ids window (windows_all (2 * t.rounds + 1) t.ids (run * wide t) window item) in
+    let few = window_within (2 * t.rounds + 1) t.ids window
+    (windows_all (2 * t.rounds + 1) t.ids (run * wide t) window item) in
     let plain : run * wide t ≡ run * wide t + 0 = omega arith in
     (omega arith, (at_place_of_run (2 * t.rounds) t.ids run 0 window (omega arith) (rw plain at item)).0)
 
 module _ (t : ChannelTable) (run : ℕ) (old : List ℕ) (item : slice_get (windows_of t) (run * wide t) ≡ Some old) where
   -- the last window of the run
   last_of : run * wide t + wide t ≤ length (windows_of t)
-      → (last : List ℕ) × (slice_get (windows_of t) (run * wide t + (wide t - 1)) ≡ Some last) × IsEndOfSame (2 * t.rounds + 1) t.ids old last
+      → (last : List ℕ) × (slice_get (windows_of t) (run * wide t + (wide t - 1)) ≡ Some last)
+      × IsEndOfSame (2 * t.rounds + 1) t.ids old last
   last_of within =
       let k : ℕ = 2 * t.rounds in
       let m = t.ids in
@@ -58,7 +61,8 @@ module _ (t : ChannelTable) (run : ℕ) (old : List ℕ) (item : slice_get (wind
       → (run + 1) * wide t < length (windows_of t) → slice_get (windows_of t) ((run + 1) * wide t) ≡ Some new
   next_first true new is lt =
       let last = last_of (omega (arith, row_more run (wide t))) in
-      let next : run * wide t + (wide t - 1) + 1 ≡ (run + 1) * wide t = omega (arith, row_more run (wide t), (front_of_first t run old item).0) in
+      let next : run * wide t + (wide t - 1) + 1 ≡ (run + 1) * wide t =
+      omega (arith, row_more run (wide t), (front_of_first t run old item).0) in
       rw (← next) (OnTrue_at refl is.next last.0 last.2 (run * wide t + (wide t - 1)) last.1)
   next_first false new is lt =
       let last = last_of (omega (arith, row_more run (wide t))) in

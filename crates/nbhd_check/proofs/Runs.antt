@@ -1,5 +1,6 @@
 -- The tuples that begin with one window, and their later windows.
-use Rattle.std.proofs.Common.{◌≡◌, ◌≢◌, ℕ, suc, ◌+◌, ◌-◌, ◌*◌, ◌<◌, ◌≤◌, List, length, get_or, take, drop, slice_get, slice_index, Some, sym, ap, ◌∙◌, arith, false, [], ◌∷◌, refl, inl, ⊎_elim, length-drop}
+use Rattle.std.proofs.Common.{◌≡◌, ◌≢◌, ℕ, suc, ◌+◌, ◌-◌, ◌*◌, ◌<◌, ◌≤◌, List, length, get_or, take, drop, slice_get}
+use Rattle.std.proofs.Common.{slice_index, Some, sym, ap, ◌∙◌, arith, false, [], ◌∷◌, refl, inl, ⊎_elim, length-drop}
 use Rattle.std.proofs.Math.Nat.{mul-le-mul_right, suc-mul}
 use Rattle.std.proofs.lemmas.Bool.{cases_lt}
 use Rattle.std.proofs.lemmas.List.{get_or-take, get_or-drop, length-take-le, take-take, drop-take}
@@ -39,7 +40,8 @@ none_close_after t window number start gap distance item full run gap_is none ba
     let size_own = own.size in
     let turn : 1 + k ≡ k + 1 = omega arith in
     let front : take k second ≡ drop 1 window =
-    take-take k (k + 1) (drop 1 tuple) (omega arith) ∙ sym (drop-take 1 k tuple) ∙ ap (λ n. drop 1 (take n tuple)) turn ∙ ap (drop 1) bad.2 in
+    take-take k (k + 1) (drop 1 tuple) (omega arith) ∙ sym (drop-take 1 k tuple) ∙ ap (λ n. drop 1 (take n tuple)) turn
+    ∙ ap (drop 1) bad.2 in
     let x : ℕ = get_or second k 0 in
     let y : ℕ = get_or window 0 0 in
     let place : ℕ = length (unused x (drop 1 window)) in
@@ -55,10 +57,14 @@ none_close_after t window number start gap distance item full run gap_is none ba
     let outside : place ≢ gap = λ same.
     let free_x = rw front at (free_at second k own.distinct (omega arith)) in
     let at_x = unused_at (drop 1 window) t.ids x (own.below k 0 (omega arith)) free_x in
-    let at_y = unused_at (drop 1 window) t.ids y (whole.below 0 0 (omega arith)) (first_is_free window whole.distinct) in
-    let equal : x ≡ y = same_Some x y (sym at_x ∙ ap (slice_get (unused t.ids (drop 1 window))) (same ∙ gap_is) ∙ at_y) in
-    let last : x ≡ get_or tuple (1 + k) 0 = get_or-take (k + 1) (drop 1 tuple) k 0 (omega arith) ∙ get_or-drop 1 tuple k 0 in
-    let first : y ≡ get_or tuple 0 0 = ap (λ l. get_or l 0 0) (sym bad.2) ∙ get_or-take (k + 1) tuple 0 0 (omega arith) in
+    let at_y = unused_at (drop 1 window) t.ids y (whole.below 0 0 (omega arith))
+    (first_is_free window whole.distinct) in
+    let equal : x ≡ y = same_Some x y (sym at_x
+    ∙ ap (slice_get (unused t.ids (drop 1 window))) (same ∙ gap_is) ∙ at_y) in
+    let last : x ≡ get_or tuple (1 + k) 0 =
+    get_or-take (k + 1) (drop 1 tuple) k 0 (omega arith) ∙ get_or-drop 1 tuple k 0 in
+    let first : y ≡ get_or tuple 0 0 =
+    ap (λ l. get_or l 0 0) (sym bad.2) ∙ get_or-take (k + 1) tuple 0 0 (omega arith) in
     is.distinct 0 (1 + k) 0 (omega arith) (omega arith) (sym first ∙ sym equal ∙ last) in
     let here = ap (channel_of t) bad.2 ∙ channel_at t number window item in
     let part = λ (step : ℕ). channel_of t (part_at t.rounds step tuple) in
@@ -98,7 +104,8 @@ free_of_both t s a b less near far le_a le_b number window from below item bad =
 
 module _ (t : ChannelTable) (s : Separation) where
   -- no window begins a bad tuple if none of its tuples is bad
-  pub free_of_none : (low count to : ℕ) → NoneIsBad t s (low * run_len t s) to → count * run_len t s ≤ to → AreFree t (BeginsBadTuple t s) low count
+  pub free_of_none : (low count to : ℕ) → NoneIsBad t s (low * run_len t s) to → count * run_len t s ≤ to
+      → AreFree t (BeginsBadTuple t s) low count
   free_of_none low count to none le number window from below item bad =
       let k = 2 * t.rounds + 1 in
       let len : ℕ = run_len t s in
@@ -106,14 +113,16 @@ module _ (t : ChannelTable) (s : Separation) where
       let numbered = window_place (k + extra s) t.ids tuple bad.1 in
       let run = in_longer_run k t.ids (extra s) numbered.0 tuple numbered.1 in
       let inside = run.inside in
-      let same : run.number ≡ number = one_number k t.ids run.number number window (run.front_at ∙ ap Some bad.2) item in
+      let same : run.number ≡ number =
+      one_number k t.ids run.number number window (run.front_at ∙ ap Some bad.2) item in
       let number_is : numbered.0 ≡ number * len + run.rest = run.number_is ∙ ap (λ n. n * len + run.rest) same in
       let next : suc number ≤ count = omega arith in
       none numbered.0 tuple (omega (arith, number_is, mul-le-mul_right len from))
       (omega (arith, number_is, inside, le, mul-le-mul_right len next, suc-mul number len)) numbered.1 bad.3
 
   -- no tuple is bad that begins with one of the first windows, if these begin none
-  pub none_of_free : (n count : ℕ) → AreFree t (BeginsBadTuple t s) 0 count → n ≤ count * run_len t s → NoneIsBad t s 0 n
+  pub none_of_free : (n count : ℕ) → AreFree t (BeginsBadTuple t s) 0 count → n ≤ count * run_len t s
+      → NoneIsBad t s 0 n
   none_of_free n count free le m tuple ge lt item bad =
       let k = 2 * t.rounds + 1 in
       let run = in_longer_run k t.ids (extra s) m tuple item in

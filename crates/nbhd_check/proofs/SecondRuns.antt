@@ -1,5 +1,6 @@
 -- The second windows after the windows of a run.
-use Rattle.std.proofs.Common.{◌≡◌, ◌≢◌, ℕ, ◌+◌, ◌-◌, ◌*◌, ◌<◌, ◌≤◌, false, cond, nat_lt, List, [], ◌∷◌, ◌++◌, length, get_or, take, drop, slice_get, Some, subst, sym, ap, ◌∙◌, arith, refl, length-drop}
+use Rattle.std.proofs.Common.{◌≡◌, ◌≢◌, ℕ, ◌+◌, ◌-◌, ◌*◌, ◌<◌, ◌≤◌, false, cond, nat_lt, List, [], ◌∷◌, ◌++◌, length}
+use Rattle.std.proofs.Common.{get_or, take, drop, slice_get, Some, subst, sym, ap, ◌∙◌, arith, refl, length-drop}
 use Rattle.std.proofs.Math.Nat.{mul-le-mul_left}
 use Rattle.std.proofs.lemmas.Bool.Decides.{nat_tests}
 use Rattle.std.proofs.lemmas.List.{get_or-take, get_or-drop, length-take-le}
@@ -30,13 +31,17 @@ shifted list y x distinct free other =
 -- the same for a list and its last identifiers
 shifted_front : (front : List ℕ) (x : ℕ) → 1 ≤ length front → IsDistinct front → is_used front x ≡ false
     → (rank (drop 1 front) x ≡ rank front x + cond (nat_lt (rank front x) (rank (drop 1 front) (get_or front 0 0))) 0 1)
-    × (rank (drop 1 front) (get_or front 0 0) ≡ rank (drop 1 (front ++ x ∷ [])) (get_or front 0 0) + cond (nat_lt (rank front x) (rank (drop 1 front) (get_or front 0 0))) 1 0)
+    × (rank (drop 1 front) (get_or front 0 0)
+    ≡ rank (drop 1 (front ++ x ∷ [])) (get_or front 0 0)
+    + cond (nat_lt (rank front x) (rank (drop 1 front) (get_or front 0 0))) 1 0)
 shifted_front [] x long distinct free = absurd (omega arith)
 shifted_front (y ∷ list) x long distinct free =
-    shifted list y x distinct (lacks_drop 1 x (y ∷ list) free) (λ e. lacks_differs (y ∷ list) x free 0 0 (omega arith) (sym e))
+    shifted list y x distinct (lacks_drop 1 x (y ∷ list) free)
+    (λ e. lacks_differs (y ∷ list) x free 0 0 (omega arith) (sym e))
 
 -- where the second windows after one window of a run are
-pub second_at : (t : ChannelTable) (runs : SecondRuns) (place : ℕ) (window : List ℕ) → SecondRunsOf t runs → place < wide t
+pub second_at : (t : ChannelTable) (runs : SecondRuns) (place : ℕ) (window : List ℕ) → SecondRunsOf t runs
+    → place < wide t
     → slice_get (windows_of t) (runs.run * wide t + place) ≡ Some window
     → (slice_get (windows (2 * t.rounds) t.ids) (second_run runs place) ≡ Some (drop 1 window))
     × (second_gap runs place ≡ rank (drop 1 window) (get_or window 0 0))
@@ -50,10 +55,12 @@ second_at t runs place window are inside item =
     let front = slice_window t.ids (k + 1) 0 k window is (omega arith) in
     let x : ℕ = get_or window k 0 in
     let gap_is = rw (← same) at are.gap_is in
-    let both = shifted_front (take k window) x (omega (arith, front.size)) front.distinct (free_before window k is.distinct (omega arith)) in
+    let both = shifted_front (take k window) x (omega (arith, front.size)) front.distinct
+    (free_before window k is.distinct (omega arith)) in
     let run = rw (own.1, ← gap_is) at both.0 in
     let gap = rw (own.1, ← gap_is, whole_list k t.ids window is, get_or-take k window 0 0 (omega arith)) at both.1 in
-    let next = number_of_next t window are.number runs.first (rank (drop 1 (take k window)) x) some is (are.number_at ∙ ap (λ l. Some (drop 1 l)) (sym same)) are.first_is refl in
+    let next = number_of_next t window are.number runs.first (rank (drop 1 (take k window)) x) some is (are.number_at
+    ∙ ap (λ l. Some (drop 1 l)) (sym same)) are.first_is refl in
     let number : runs.first + rank (drop 1 (take k window)) x ≡ second_run runs place = omega (arith, run) in
     (rw number at next, omega (arith, gap))
 
@@ -69,7 +76,8 @@ pub record AtPlace (t : ChannelTable) (runs : SecondRuns) (place : ℕ) : Type 0
   pub full : length t.entries ≡ length (windows_of t)
 
 -- the same by the window's identifiers
-pub at_place_by : (t : ChannelTable) (runs : SecondRuns) (place : ℕ) → length t.entries ≡ length (windows_of t) → 1 ≤ t.rounds
+pub at_place_by : (t : ChannelTable) (runs : SecondRuns) (place : ℕ)
+    → length t.entries ≡ length (windows_of t) → 1 ≤ t.rounds
     → runs.run * wide t + wide t ≤ length (windows_of t) → place < wide t
     → ((window : List ℕ) → slice_get (windows_of t) (runs.run * wide t + place) ≡ Some window
     → (slice_get (windows (2 * t.rounds) t.ids) (second_run runs place) ≡ Some (drop 1 window))
@@ -104,16 +112,20 @@ pub at_place : (t : ChannelTable) (runs : SecondRuns) (place : ℕ)
     → length t.entries ≡ length (windows_of t) → SecondRunsOf t runs → place < wide t → AtPlace t runs place
 at_place t runs place full are inside =
     let run_in = run_within t runs.run are.front full are.front_at in
-    at_place_by t runs place full are.some (omega arith) inside (λ window item. second_at t runs place window are inside item)
+    at_place_by t runs place full are.some (omega arith) inside
+    (λ window item. second_at t runs place window are inside item)
 
 -- no tuple that begins with the window is bad if no channel of that run is close, except at the gap
 pub free_at : (t : ChannelTable) (runs : SecondRuns) (place distance : ℕ) → AtPlace t runs place
-    → ¬ HasCloseOutside (take (wide t) (drop (second_run runs place * wide t) t.entries)) (second_gap runs place) distance (get_or t.entries (runs.run * wide t + place) 0)
-    → AreFree t (BeginsBadTuple t (record { near = distance; far = 0 })) (runs.run * wide t + place) (runs.run * wide t + place + 1)
+    → ¬ HasCloseOutside (take (wide t) (drop (second_run runs place * wide t) t.entries))
+    (second_gap runs place) distance (get_or t.entries (runs.run * wide t + place) 0)
+    → AreFree t (BeginsBadTuple t (record { near = distance; far = 0 })) (runs.run * wide t + place)
+    (runs.run * wide t + place + 1)
 free_at t runs place distance at' none number window from below item =
     let n : ℕ = runs.run * wide t + place in
     let same : number ≡ n = omega arith in
-    let own : at'.window ≡ window = same_Some at'.window window (sym at'.item ∙ ap (slice_get (windows_of t)) (sym same) ∙ item) in
+    let own : at'.window ≡ window =
+    same_Some at'.window window (sym at'.item ∙ ap (slice_get (windows_of t)) (sym same) ∙ item) in
     rw (← own) (none_close_after t at'.window n (second_run runs place * wide t) (second_gap runs place) distance at'.item at'.full at'.starts at'.gap_is none)
 
 -- a run without close channels has none outside a gap
@@ -124,12 +136,15 @@ none_outside entries gap len distance run channel none within has =
     let long = length-take-le len list (omega (arith, length-drop (run * len) entries)) in
     let place : ℕ = has.0 in
     let lt : place < len = omega (arith, has.1) in
-    let read : get_or (take len list) place 0 ≡ get_or entries (run * len + place) 0 = get_or-take len list place 0 lt ∙ get_or-drop (run * len) entries place 0 in
+    let read : get_or (take len list) place 0 ≡ get_or entries (run * len + place) 0 =
+    get_or-take len list place 0 lt ∙ get_or-drop (run * len) entries place 0 in
     none place lt (subst (λ c. abs_diff channel c < distance) read has.3)
 
 -- the end of the places from this one on of which the second runs are consecutive
-pub side : (runs : SecondRuns) (place each end : ℕ) → place < each → second_gap runs place < each → end ≡ cond (nat_lt place runs.gap) runs.gap each
-    → (place < end) × (end ≤ each) × ((i : ℕ) → i < end - place → second_run runs (place + i) ≡ second_run runs place + i)
+pub side : (runs : SecondRuns) (place each end : ℕ) → place < each → second_gap runs place < each
+    → end ≡ cond (nat_lt place runs.gap) runs.gap each
+    → (place < end) × (end ≤ each)
+    × ((i : ℕ) → i < end - place → second_run runs (place + i) ≡ second_run runs place + i)
 side runs place each end lt gap end_is = (
   grind (arith, nat_tests, end_is),
   grind (arith, nat_tests, end_is, gap),
@@ -142,7 +157,8 @@ pub free_along : (t : ChannelTable) (runs : SecondRuns) (place count all distanc
     → length t.entries ≡ length (windows_of t) → SecondRunsOf t runs
     → place + all ≤ wide t → count ≤ all → ((i : ℕ) → i < all → second_run runs (place + i) ≡ second_run runs place + i)
     → ((i : ℕ) → i < count → NoneClose t.entries (wide t) distance (second_run runs place + i) (get_or t.entries (runs.run * wide t + place + i) 0))
-    → AreFree t (BeginsBadTuple t (record { near = distance; far = 0 })) (runs.run * wide t + place) (runs.run * wide t + (place + count))
+    → AreFree t (BeginsBadTuple t (record { near = distance; far = 0 })) (runs.run * wide t + place)
+    (runs.run * wide t + (place + count))
 free_along t runs place count all distance full are within few beside none number window from below item =
     let first : ℕ = runs.run * wide t + place in
     let i : ℕ = number - first in
@@ -150,7 +166,8 @@ free_along t runs place count all distance full are within few beside none numbe
     let in_all : i < all = omega (arith, lt, few) in
     let here = at_place t runs (place + i) full are (omega (arith, in_all, within)) in
     let own : first + i ≡ runs.run * wide t + (place + i) = omega arith in
-    let lacks : NoneClose t.entries (wide t) distance (second_run runs (place + i)) (get_or t.entries (runs.run * wide t + (place + i)) 0) =
+    let lacks : NoneClose t.entries (wide t) distance (second_run runs (place + i))
+    (get_or t.entries (runs.run * wide t + (place + i)) 0) =
     subst (λ n. NoneClose t.entries (wide t) distance (second_run runs (place + i)) (get_or t.entries n 0)) own
     (subst (λ r. NoneClose t.entries (wide t) distance r (get_or t.entries (first + i) 0)) (sym (beside i in_all)) (none i lt)) in
     free_at t runs (place + i) distance here

@@ -1,5 +1,6 @@
 -- Windows between two others, of which no three are forbidden.
-use Rattle.std.proofs.Common.{◌≡◌, ◌≢◌, ℕ, ◌+◌, ◌-◌, ◌*◌, ◌%◌, ◌<◌, ◌≤◌, List, Some, length, get_or, drop, slice_get, slice_index, bit_and, sym, ap, ◌∙◌, arith, get_or-drop}
+use Rattle.std.proofs.Common.{◌≡◌, ◌≢◌, ℕ, ◌+◌, ◌-◌, ◌*◌, ◌%◌, ◌<◌, ◌≤◌, List, Some, length, get_or, drop, slice_get}
+use Rattle.std.proofs.Common.{slice_index, bit_and, sym, ap, ◌∙◌, arith, get_or-drop}
 use Rattle.std.proofs.lemmas.List.{get_or-take}
 use Rattle.std.proofs.lemmas.Option.{same_Some, slice_get_within}
 use Rattle.win_index.specs.Arcs.{part_at}
@@ -22,10 +23,12 @@ record HasNumber (t : ChannelTable) (tuple : List ℕ) (step : ℕ) : Type 0 whe
   item : slice_get (windows_of t) number ≡ Some (part_at t.rounds step tuple)
   channel : channel_of t (part_at t.rounds step tuple) ≡ Some (slice_index t.entries number)
 
-number_at : (t : ChannelTable) (problem : List Pattern) (tuple : List ℕ) (step : ℕ) → IsTuple t.ids t.rounds problem tuple → step ≤ extra problem
+number_at : (t : ChannelTable) (problem : List Pattern) (tuple : List ℕ) (step : ℕ)
+    → IsTuple t.ids t.rounds problem tuple → step ≤ extra problem
     → HasNumber t tuple step
 number_at t problem tuple step is le =
-    let place = window_place (2 * t.rounds + 1) t.ids (part_at t.rounds step tuple) (tuple_window t.ids t.rounds step problem tuple is le) in
+    let place = window_place (2 * t.rounds + 1) t.ids (part_at t.rounds step tuple)
+    (tuple_window t.ids t.rounds step problem tuple is le) in
     record { number = place.0; item = place.1; channel = channel_at t place.0 (part_at t.rounds step tuple) place.1 }
 
 -- windows that begin with different identifiers have different numbers
@@ -33,8 +36,10 @@ numbers_differ : (t : ChannelTable) (tuple : List ℕ) (i j : ℕ) → (a : HasN
     → get_or tuple i 0 ≢ get_or tuple j 0 → a.number ≢ b.number
 numbers_differ t tuple i j a b other same =
     let parts : part_at t.rounds i tuple ≡ part_at t.rounds j tuple =
-    same_Some (part_at t.rounds i tuple) (part_at t.rounds j tuple) (sym a.item ∙ ap (slice_get (windows_of t)) same ∙ b.item) in
-    let first = λ (step : ℕ). get_or-take (2 * t.rounds + 1) (drop step tuple) 0 0 (omega arith) ∙ get_or-drop step tuple 0 0 in
+    same_Some (part_at t.rounds i tuple) (part_at t.rounds j tuple) (sym a.item
+    ∙ ap (slice_get (windows_of t)) same ∙ b.item) in
+    let first = λ (step : ℕ). get_or-take (2 * t.rounds + 1) (drop step tuple) 0 0 (omega arith)
+    ∙ get_or-drop step tuple 0 0 in
     let plain = λ (step : ℕ). ap (λ n. get_or tuple n 0) (add_zero step) in
     other (sym (first i ∙ plain i) ∙ ap (λ list. get_or list 0 0) parts ∙ first j ∙ plain j)
   where
@@ -79,7 +84,8 @@ third_number t problem tuple is a b differ =
     })
 
 -- no tuple is bad if no window is forbidden between two others
-pub free_by_middles : (t : ChannelTable) (problem : List Pattern) (window : List ℕ) → length t.entries ≡ length (windows_of t)
+pub free_by_middles : (t : ChannelTable) (problem : List Pattern) (window : List ℕ)
+    → length t.entries ≡ length (windows_of t)
     → ((number : ℕ) → number < length (windows_of t) → IsNoMiddle t problem number) → ¬ BeginsForbidden t problem window
 unfolding IsBad
 free_by_middles t problem window full none bad =
@@ -100,16 +106,20 @@ free_by_middles t problem window full none bad =
     (omega (arith, full, slice_get_within (windows_of t) a.number _ a.item)) (omega (arith, full, third.inside)) differ third.other
     (forbidden_along problem _ _ _ _ _ _ a.channel b.channel third.channel bad.3)
 
--- no window with this channel is forbidden between two others if no third channel is in what is forbidden after a first one
-pub no_middle : (t : ChannelTable) (problem : List Pattern) (bits : List ℕ) (limit number thirds others : ℕ) → IsTable t → AreBits problem limit bits
+-- no window with this channel is forbidden between two others if no third channel is in what is forbidden after a
+-- first one
+pub no_middle : (t : ChannelTable) (problem : List Pattern) (bits : List ℕ) (limit number thirds others : ℕ) → IsTable t
+    → AreBits problem limit bits
     → ((c : ℕ) → c < t.channels → c % 64 < limit) → number < length t.entries
     → ((place : ℕ) → place < length t.entries → place ≢ number → HasBit others (get_or t.entries place 0))
-    → ((a : ℕ) → a % 64 < limit → HasBit others a → HasBitsOf thirds (get_or bits (cell_of a (get_or t.entries number 0)) 0))
+    → ((a : ℕ) → a % 64 < limit → HasBit others a
+    → HasBitsOf thirds (get_or bits (cell_of a (get_or t.entries number 0)) 0))
     → bit_and thirds others ≡ 0 → IsNoMiddle t problem number
 no_middle t problem bits limit number thirds others table are below lt has after none first third in_first in_third other_first other_third bad =
     let a : ℕ = get_or t.entries first 0 in
     let b : ℕ = get_or t.entries number 0 in
     let c : ℕ = get_or t.entries third 0 in
     let low = below a (table.begun.below first 0 in_first) in
-    let bit = after a low (has first in_first other_first) (c % 64) (are.each a b c low (below b (table.begun.below number 0 lt)) bad) in
+    let bit = after a low (has first in_first other_first) (c % 64)
+    (are.each a b c low (below b (table.begun.below number 0 lt)) bad) in
     none_shared thirds others (c % 64) none bit (has third in_third other_third)

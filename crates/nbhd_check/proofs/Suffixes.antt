@@ -1,5 +1,6 @@
 -- The numbers of a window's suffixes, among the lists of 2t and of 2t-1 identifiers.
-use Rattle.std.proofs.Common.{◌≡◌, ℕ, ◌+◌, ◌-◌, ◌*◌, ◌≤◌, List, length, take, drop, slice_get, slice_index, Some, sym, ap, ◌∙◌, arith, refl}
+use Rattle.std.proofs.Common.{◌≡◌, ℕ, ◌+◌, ◌-◌, ◌*◌, ◌≤◌, List, length, take, drop, slice_get, slice_index, Some, sym}
+use Rattle.std.proofs.Common.{ap, ◌∙◌, arith, refl}
 use Rattle.std.proofs.lemmas.List.{get_or-drop, drop-take}
 use Rattle.win_index.specs.Runs.{IsRunStart}
 use Rattle.win_index.specs.Windows.{unused, windows, IsWindow}
@@ -33,15 +34,18 @@ front_two t rounds ids window rounds_is ids_is some is =
 
 -- the number of a suffix of k+1 identifiers, from the run of those with the same first k
 number_of_suffix :
-    (by k m first place : ℕ) (window : List ℕ) → IsWindow (by + (k + 1)) m window → IsRunStart k m (drop by (take (by + k) window)) first
+    (by k m first place : ℕ) (window : List ℕ) → IsWindow (by + (k + 1)) m window
+    → IsRunStart k m (drop by (take (by + k) window)) first
     → place ≡ length (unused (slice_index window (by + k)) (drop by (take (by + k) window)))
     → slice_get (windows (k + 1) m) (first + place) ≡ Some (drop by window)
 number_of_suffix by k m first place window is run place_is =
-    rw (place_is, ← get_or-drop by window k 0) (run.each (drop by window) (window_drop (k + 1) m by window is) (sym (drop-take by k window)))
+    rw (place_is, ← get_or-drop by window k 0)
+    (run.each (drop by window) (window_drop (k + 1) m by window is) (sym (drop-take by k window)))
 
 -- the number of a window's identifiers without the first two
 pub number_of_third :
-    (t : ChannelTable) (window : List ℕ) (first place : ℕ) → 1 ≤ t.rounds → IsWindow (2 * t.rounds + 1) t.ids window → IsRunStart (2 * (t.rounds - 1)) t.ids (drop 2 (take (2 * t.rounds) window)) first
+    (t : ChannelTable) (window : List ℕ) (first place : ℕ) → 1 ≤ t.rounds → IsWindow (2 * t.rounds + 1) t.ids window
+    → IsRunStart (2 * (t.rounds - 1)) t.ids (drop 2 (take (2 * t.rounds) window)) first
     → place ≡ length (unused (slice_index window (2 * t.rounds)) (drop 2 (take (2 * t.rounds) window)))
     → slice_get (shared_lists t) (first + place) ≡ Some (drop 2 window)
 number_of_third t window first place some is run place_is =
@@ -52,7 +56,8 @@ number_of_third t window first place some is run place_is =
 
 -- the number of a window's identifiers without the first
 pub number_of_next :
-    (t : ChannelTable) (window : List ℕ) (number first place : ℕ) → 1 ≤ t.rounds → IsWindow (2 * t.rounds + 1) t.ids window
+    (t : ChannelTable) (window : List ℕ) (number first place : ℕ) → 1 ≤ t.rounds
+    → IsWindow (2 * t.rounds + 1) t.ids window
     → slice_get (windows (2 * (t.rounds - 1) + 1) t.ids) number ≡ Some (drop 1 (take (2 * t.rounds) window))
     → first ≡ number * (t.ids - (2 * (t.rounds - 1) + 1))
     → place ≡ length (unused (slice_index window (2 * t.rounds)) (drop 1 (take (2 * t.rounds) window)))

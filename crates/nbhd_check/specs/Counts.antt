@@ -1,5 +1,6 @@
 -- Counts of third windows: those that begin with the same identifiers, all but two, have one family of numbers.
-use Rattle.std.specs.Prelude.{◌≡◌, ◌==◌, ℕ, ◌+◌, ◌-◌, ◌*◌, ◌<◌, ◌≤◌, Bool, ◌&&◌, ◌||◌, nat_lt, List, [], length, take, slice_get, slice_index, slice_index_or, count_by, All, Some}
+use Rattle.std.specs.Prelude.{◌≡◌, ◌==◌, ℕ, ◌+◌, ◌-◌, ◌*◌, ◌<◌, ◌≤◌, Bool, ◌&&◌, ◌||◌, nat_lt, List, [], length, take}
+use Rattle.std.specs.Prelude.{slice_get, slice_index, slice_index_or, count_by, All, Some}
 use Rattle.std.specs.List.{range_with_len}
 use Rattle.win_index.specs.Windows.{windows, IsWindow}
 use Rattle.channel_tables.specs.Tables.{ChannelTable, windows_of}
@@ -28,7 +29,8 @@ held_count t first count x passes =
 
 -- cell x of row v has the value of v and x
 abbrev pub AreCells : (ℕ → ℕ → ℕ) → ℕ → List ℕ → Type 0
-AreCells value wide cells = (v x : ℕ) → x < wide → (v + 1) * wide ≤ length cells → slice_index cells (v * wide + x) ≡ value v x
+AreCells value wide cells = (v x : ℕ) → x < wide → (v + 1) * wide ≤ length cells
+    → slice_index cells (v * wide + x) ≡ value v x
 
 -- cell x of row v is the number of windows of the family that have a channel below v and hold x
 abbrev pub AreSums : ChannelTable → ℕ → ℕ → List ℕ → Type 0
@@ -40,7 +42,8 @@ pub record IsFamily (t : ChannelTable) (z : List ℕ) (first count : ℕ) : Type
   pub within : first + count ≤ length (windows_of t)
   pub stands : (window : List ℕ) → IsWindow (2 * t.rounds + 1) t.ids window → take (shared_len t) window ≡ z
       → (number : ℕ) × (first ≤ number) × (number < first + count) × (slice_get (windows_of t) number ≡ Some window)
-  pub begins : (number : ℕ) (window : List ℕ) → first ≤ number → number < first + count → slice_get (windows_of t) number ≡ Some window
+  pub begins : (number : ℕ) (window : List ℕ) → first ≤ number → number < first + count
+      → slice_get (windows_of t) number ≡ Some window
       → take (shared_len t) window ≡ z
 
 -- the counts have a row for each limit up to one that is above all channels, and a cell for each identifier and one
@@ -51,7 +54,8 @@ pub record CountsFit (t : ChannelTable) (counts : Counts) : Type 0 where
 
 -- the sums are those of the family of z
 abbrev pub AreCountsOf : ChannelTable → List ℕ → Counts → Type 0
-AreCountsOf t z counts = (first : ℕ) × ((count : ℕ) × (IsFamily t z first count × AreSums t first count counts.cells.items))
+AreCountsOf t z counts = (first : ℕ)
+    × ((count : ℕ) × (IsFamily t z first count × AreSums t first count counts.cells.items))
 
 -- the number of windows of a family, those that begin with one of these lists
 abbrev pub family_len : ChannelTable → ℕ

@@ -28,7 +28,8 @@ HasFamilyIn t low high window =
 
 -- the window has this number and its suffix this position, and the third windows after the window at position p of its
 -- run have family first + p
-pub record IsAtFamily (t : ChannelTable) (number : ℕ) (window : List ℕ) (first : ℕ) (places : RunPlaces) (place : ℕ) : Type 0 where
+pub record IsAtFamily (t : ChannelTable) (number : ℕ) (window : List ℕ) (first : ℕ) (places : RunPlaces)
+    (place : ℕ) : Type 0 where
   pub item : slice_get (windows_of t) number ≡ Some window
   pub at_place : IsAtPlace (2 * (t.rounds - 1) + 1) t.ids places window place
   pub starts : IsRunStart (2 * (t.rounds - 1)) t.ids (drop 2 (take (2 * t.rounds) window)) first

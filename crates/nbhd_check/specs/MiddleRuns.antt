@@ -15,12 +15,13 @@ in_run t channels run = take (wide t) (drop (run * wide t) channels)
 abbrev pub next_runs : ℕ → MiddleRun → SecondRuns
 next_runs run middle = record { run = run; first = middle.first; gap = middle.gap }
 
--- the next windows after the window at a place of the run are in this run, where the one that ends in the first identifier of
--- that window has the gap for its place
+-- the next windows after the window at a place of the run are in this run, where the one that ends in the first
+-- identifier of that window has the gap for its place
 pub record AreNextRuns (t : ChannelTable) (runs : SecondRuns) : Type 0 where
   pub some : 1 ≤ t.rounds
   pub within : runs.run * wide t + wide t ≤ length (windows_of t)
-  pub each : (place : ℕ) (window : List ℕ) → place < wide t → slice_get (windows_of t) (runs.run * wide t + place) ≡ Some window
+  pub each : (place : ℕ) (window : List ℕ) → place < wide t
+      → slice_get (windows_of t) (runs.run * wide t + place) ≡ Some window
       → (slice_get (windows (2 * t.rounds) t.ids) (second_run runs place) ≡ Some (drop 1 window))
       × (second_gap runs place ≡ length (unused (slice_index window 0) (drop 1 window)))
 

@@ -1,5 +1,6 @@
 -- Runs: the tuples that begin with one window, and the channels of their later windows.
-use Rattle.std.specs.Prelude.{◌≡◌, ◌≢◌, ℕ, ◌+◌, ◌-◌, ◌*◌, ◌<◌, ◌≤◌, cond, nat_lt, Option, MatchOption, List, length, drop, slice_get, slice_index, Some}
+use Rattle.std.specs.Prelude.{◌≡◌, ◌≢◌, ℕ, ◌+◌, ◌-◌, ◌*◌, ◌<◌, ◌≤◌, cond, nat_lt, Option, MatchOption, List, length}
+use Rattle.std.specs.Prelude.{drop, slice_get, slice_index, Some}
 use Rattle.std.specs.Int.{abs_diff}
 use Rattle.win_index.specs.Arcs.{part_at}
 use Rattle.win_index.specs.Windows.{unused, windows, IsWindow}
@@ -11,7 +12,8 @@ use Rattle.nbhd_check.specs.declared.near.SecondRuns.{SecondRuns}
 -- a tuple that begins with the window is bad
 abbrev pub BeginsBadTuple : ChannelTable → Separation → List ℕ → Type 0
 BeginsBadTuple t s window =
-    (tuple : List ℕ) × IsWindow (2 * t.rounds + 1 + extra s) t.ids tuple × (part_at t.rounds 0 tuple ≡ window) × IsBad t s tuple
+    (tuple : List ℕ) × IsWindow (2 * t.rounds + 1 + extra s) t.ids tuple × (part_at t.rounds 0 tuple ≡ window)
+    × IsBad t s tuple
 
 -- a list of 2t+3 distinct identifiers begins with the window, and its third window is closer than the distance
 unfoldable pub BeginsFarTuple : ChannelTable → ℕ → List ℕ → Type 0
@@ -26,7 +28,8 @@ wide t = t.ids - 2 * t.rounds
 -- no window with a number from low on and below high is bad
 abbrev pub AreFree : ChannelTable → (List ℕ → Type 0) → ℕ → ℕ → Type 0
 AreFree t bad low high =
-    (number : ℕ) (window : List ℕ) → low ≤ number → number < high → slice_get (windows_of t) number ≡ Some window → ¬ bad window
+    (number : ℕ) (window : List ℕ) → low ≤ number → number < high
+    → slice_get (windows_of t) number ≡ Some window → ¬ bad window
 
 -- no window with a number from low on is bad before the one that was found, or below high if none was
 abbrev pub AreFreeUntil : ChannelTable → (List ℕ → Type 0) → ℕ → ℕ → Option ℕ → Type 0
@@ -34,7 +37,8 @@ AreFreeUntil t bad low high found = MatchOption found (AreFree t bad low high) (
 
 -- a channel of the list differs from this one by less than the distance
 abbrev pub HasClose : List ℕ → ℕ → ℕ → Type 0
-HasClose list distance channel = (place : ℕ) × (place < length list) × (abs_diff channel (slice_index list place) < distance)
+HasClose list distance channel = (place : ℕ) × (place < length list)
+    × (abs_diff channel (slice_index list place) < distance)
 
 -- the list has such a channel at another index than the gap
 abbrev pub HasCloseOutside : List ℕ → ℕ → ℕ → ℕ → Type 0
@@ -49,8 +53,8 @@ second_run runs place = runs.first + place + cond (nat_lt place runs.gap) 0 1
 abbrev pub second_gap : SecondRuns → ℕ → ℕ
 second_gap runs place = runs.gap - cond (nat_lt place runs.gap) 1 0
 
--- where the second windows of a run are: its windows begin with 2t identifiers, of which all but the first have a number
--- as a list, and the first one a place among the identifiers that the others lack
+-- where the second windows of a run are: its windows begin with 2t identifiers, of which all but the first have a
+-- number as a list, and the first one a place among the identifiers that the others lack
 pub record SecondRunsOf (t : ChannelTable) (runs : SecondRuns) : Type 0 where
   pub some : 1 ≤ t.rounds
   pub front : List ℕ

@@ -1,5 +1,5 @@
--- The searches of the judge, piece by piece: a piece is a run, but for counts the windows whose third windows are in one
--- family, and for patterns the windows whose second windows are in one run.
+-- The searches of the judge, piece by piece: a piece is a run, but for counts the windows whose third windows are
+-- in one family, and for patterns the windows whose second windows are in one run.
 use Rattle.std.specs.Prelude.{◌≡◌, ℕ, ◌+◌, ◌*◌, ◌<◌, ◌≤◌, List, length, drop, slice_get, Some}
 use Rattle.win_index.specs.Windows.{windows}
 use Rattle.channel_tables.specs.Tables.{ChannelTable, windows_of}
@@ -32,7 +32,8 @@ abbrev pub IsInPiece : Search → ℕ → ℕ → List ℕ → Type 0
 IsInPiece (Near s) piece number window = IsInRun s.now.table.now piece number
 IsInPiece (FarMasks s) piece number window = IsInRun s.now.table.now piece number
 IsInPiece (FarCounts s) piece number window = slice_get (shared_lists s.table.now) piece ≡ Some (drop 2 window)
-IsInPiece (Patterns s) piece number window = slice_get (windows (2 * s.now.table.now.rounds) s.now.table.now.ids) piece ≡ Some (drop 1 window)
+IsInPiece (Patterns s) piece number window = slice_get (windows (2 * s.now.table.now.rounds) s.now.table.now.ids) piece
+    ≡ Some (drop 1 window)
 
 -- the search has at least so many pieces
 abbrev pub HasPieces : Search → ℕ → Type 0

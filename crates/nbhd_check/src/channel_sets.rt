@@ -13,7 +13,8 @@ pub(crate) struct Words {
 impl Words {
     /// Returns the channels of the windows but for one, which has this channel.
     pub(crate) fn without(self, channel: u16) -> u64
-        ensures { (list : List ℕ) (gap place : ℕ) → HasWords list self → gap < length list → slice_index list gap ≡ channel
+        ensures { (list : List ℕ) (gap place : ℕ) → HasWords list self → gap < length list
+            → slice_index list gap ≡ channel
             → place < length list → place ≢ gap → HasBit result (slice_index list place) }
     {
         self.more | (self.once & !(1 << (channel % 64)))

@@ -1,6 +1,7 @@
 //! Counts of the third windows that begin with one list of identifiers. Row `v` counts those with a
 //! channel below `v`: cell `x` those that hold identifier `x`, and the last cell all of them.
-ghost use Rattle.std.specs.Prelude.{◌≡◌, ◌==◌, ℕ, List, ◌+◌, ◌-◌, ◌*◌, ◌^◌, ◌<◌, ◌≤◌, ◌&&◌, true, Some, IfOk, All, if◌then◌else◌, nat_lt, length, slice_get, slice_index};
+ghost use Rattle.std.specs.Prelude.{◌≡◌, ◌==◌, ℕ, List, ◌+◌, ◌-◌, ◌*◌, ◌^◌, ◌<◌, ◌≤◌, ◌&&◌, true, Some, IfOk, All};
+ghost use Rattle.std.specs.Prelude.{if◌then◌else◌, nat_lt, length, slice_get, slice_index};
 ghost use Rattle.std.specs.Int.{abs_diff};
 ghost use Rattle.win_index.specs.Windows.{IsWindow};
 ghost use Rattle.channel_tables.specs.Tables.{windows_of};
@@ -54,7 +55,8 @@ fn count_window(cells: &mut [u32], wide: usize, row: usize, last: (usize, usize)
     requires within { (row + 1) * wide ≤ length cells.old }
     requires few { (i : ℕ) → slice_index cells.old i + 3 < 2 ^ 32 }
     ensures counted { (v x : ℕ) → x < wide → slice_index cells.new (v * wide + x) ≡ slice_index cells.old (v * wide + x)
-        + (if (v == row) && (x == last.0) then 1 else 0) + (if (v == row) && (x == last.1) then 1 else 0) + (if (v == row) && (x == wide - 1) then 1 else 0) }
+        + (if (v == row) && (x == last.0) then 1 else 0) + (if (v == row) && (x == last.1) then 1 else 0)
+        + (if (v == row) && (x == wide - 1) then 1 else 0) }
     ensures few { (i : ℕ) → slice_index cells.new i ≤ slice_index cells.old i + 3 }
 {
     let start = row * wide;
@@ -69,8 +71,10 @@ fn count_windows(table: &Table, first: u32, count: u32, window: &mut [u32], cell
     requires rows { All (λ channel. (channel + 2) * (table.now.ids + 1) ≤ length cells.old) table.now.entries }
     requires empty { (i : ℕ) → slice_index cells.old i ≡ 0 }
     requires within { (1 ≤ table.now.rounds) × (first + count ≤ length (windows_of table.now)) }
-    requires window { (slice_get (windows_of table.now) first ≡ Some window.old) × IsWindow (2 * table.now.rounds + 1) table.now.ids window.old }
-    ensures { AreCells (λ v x. held_count table.now first count x (λ channel. v == channel + 1)) (table.now.ids + 1) cells.new }
+    requires window { (slice_get (windows_of table.now) first ≡ Some window.old)
+        × IsWindow (2 * table.now.rounds + 1) table.now.ids window.old }
+    ensures { AreCells (λ v x. held_count table.now first count x (λ channel. v == channel + 1))
+        (table.now.ids + 1) cells.new }
 {
     let shape = table.shape();
     let wide = shape.ids() as usize + 1;
@@ -87,7 +91,8 @@ fn count_windows(table: &Table, first: u32, count: u32, window: &mut [u32], cell
 fn add_rows(table: &Table, first: u32, count: u32, cells: &mut [u32])
     requires rows { (last : ℕ) × (length cells.old ≡ (last + 1) * (table.now.ids + 1)) }
     requires few { count < 2 ^ 31 }
-    requires counted { AreCells (λ v x. held_count table.now first count x (λ channel. v == channel + 1)) (table.now.ids + 1) cells.old }
+    requires counted { AreCells (λ v x. held_count table.now first count x (λ channel. v == channel + 1))
+        (table.now.ids + 1) cells.old }
     ensures { AreSums table.now first count cells.new }
 {
     let wide = table.shape().ids() as usize + 1;

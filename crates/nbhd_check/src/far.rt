@@ -35,8 +35,10 @@ pub(crate) fn far_free_windows<R: Threads + Sync>(
     threads: u32,
 ) -> u32
     requires search { IsFarSearch tuples.windows.now tuples.separation near.windows }
-    requires masks { AreMasks tuples.windows.now.entries (wide tuples.windows.now) tuples.separation.near near.masks.items }
-    ensures { AreFree tuples.entry.windows.now (BeginsBadTuple tuples.entry.windows.now tuples.entry.separation) 0 result }
+    requires masks { AreMasks tuples.windows.now.entries (wide tuples.windows.now) tuples.separation.near
+        near.masks.items }
+    ensures { AreFree tuples.entry.windows.now
+        (BeginsBadTuple tuples.entry.windows.now tuples.entry.separation) 0 result }
 {
     let most = near.windows;
     let few = windows_before_masks(tuples.windows).min(most);
@@ -68,8 +70,10 @@ fn free_by_masks<R: Threads + Sync>(
     threads: u32,
 ) -> Option<u32>
     requires search { IsFarSearch tuples.windows.now tuples.separation near.windows }
-    requires masks { AreMasks tuples.windows.now.entries (wide tuples.windows.now) tuples.separation.near near.masks.items }
-    ensures { IfSome result (AreFree tuples.entry.windows.now (BeginsBadTuple tuples.entry.windows.now tuples.entry.separation) 0) }
+    requires masks { AreMasks tuples.windows.now.entries (wide tuples.windows.now) tuples.separation.near
+        near.masks.items }
+    ensures { IfSome result (AreFree tuples.entry.windows.now
+        (BeginsBadTuple tuples.entry.windows.now tuples.entry.separation) 0) }
 {
     let Tuples {
         windows: table,
@@ -103,7 +107,8 @@ fn family_masks<R: Threads + Sync>(
 ) -> Vec<u64>
     requires some { 1 ≤ tuples.windows.now.rounds }
     requires runs { AreMasks tuples.windows.now.entries (wide tuples.windows.now) tuples.separation.near runs.items }
-    ensures { AreMasks tuples.entry.windows.now.entries (family_len tuples.entry.windows.now) tuples.entry.separation.far result.items }
+    ensures { AreMasks tuples.entry.windows.now.entries (family_len tuples.entry.windows.now)
+        tuples.entry.separation.far result.items }
 {
     let Tuples {
         windows: table,
@@ -132,7 +137,8 @@ fn free_by_counts<R: Threads + Sync>(
     threads: u32,
 ) -> Option<u32>
     requires { IsFarSearch tuples.windows.now tuples.separation most }
-    ensures { IfSome result (AreFree tuples.entry.windows.now (BeginsBadTuple tuples.entry.windows.now tuples.entry.separation) 0) }
+    ensures { IfSome result (AreFree tuples.entry.windows.now
+        (BeginsBadTuple tuples.entry.windows.now tuples.entry.separation) 0) }
 {
     let Tuples {
         windows: table,

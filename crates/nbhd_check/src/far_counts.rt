@@ -2,7 +2,8 @@
 //! a list `z` of `2t-1` identifiers, the third windows of the tuples that begin with `(a, b, z)` are
 //! the windows that begin with `z` and hold neither `a` nor `b`. From one `b` to the next one the
 //! numbers of `(a, b, z)`, `(z, a, b)` and `(z, b, a)` rise by constants, if both are free.
-ghost use Rattle.std.specs.Prelude.{◌≡◌, ◌≢◌, ℕ, ◌+◌, ◌-◌, ◌*◌, ◌^◌, ◌<◌, ◌≤◌, ◌↔◌, [], ◌∷◌, ◌++◌, All, Contains, IsTrue, List, Some, length, drop, slice_get, slice_index};
+ghost use Rattle.std.specs.Prelude.{◌≡◌, ◌≢◌, ℕ, ◌+◌, ◌-◌, ◌*◌, ◌^◌, ◌<◌, ◌≤◌, ◌↔◌, [], ◌∷◌, ◌++◌, All, Contains};
+ghost use Rattle.std.specs.Prelude.{IsTrue, List, Some, length, drop, slice_get, slice_index};
 ghost use Rattle.std.specs.Bool.{OnFalse};
 ghost use Rattle.std.specs.Int.{abs_diff};
 ghost use Rattle.win_index.specs.Falling.{falling};
@@ -47,7 +48,8 @@ impl<'a> FarCounts<'a> {
     /// least such number that any thread has found.
     pub(crate) fn free_in_families(self, low: u32, high: u32, best: &AtomicU32) -> u32
         requires { high ≤ length (shared_lists self.table.now) }
-        ensures { AreFarFreeIn self.entry.table.now self.entry.distance result (HasFamilyIn self.entry.table.now low high) }
+        ensures { AreFarFreeIn self.entry.table.now self.entry.distance result
+            (HasFamilyIn self.entry.table.now low high) }
     {
         let Ok(mut counts) = Counts::new(self.alloc, self.table, self.limit) else {
             return 0;
@@ -71,7 +73,8 @@ impl<'a> FarCounts<'a> {
         requires number { number < length (shared_lists self.table.now) }
         ensures fit { CountsFit self.entry.table.now counts.new }
         ensures less { result ≤ least }
-        ensures free { AreFarFreeIn self.entry.table.now self.entry.distance result (HasFamilyIn self.entry.table.now number (number + 1)) }
+        ensures free { AreFarFreeIn self.entry.table.now self.entry.distance result
+            (HasFamilyIn self.entry.table.now number (number + 1)) }
     {
         let shape = self.table.shape();
         let below = shape.rounds() - 1;
@@ -137,7 +140,8 @@ impl<'b> Family<'b> {
     fn free(self, least: u32) -> u32
         requires { AreCountsOf self.table.now self.shared.now self.counts.now }
         ensures less { result ≤ least }
-        ensures free { AreFarFreeIn self.entry.table.now self.entry.distance result (λ window. drop 2 window ≡ self.entry.shared.now) }
+        ensures free { AreFarFreeIn self.entry.table.now self.entry.distance result
+            (λ window. drop 2 window ≡ self.entry.shared.now) }
     {
         let mut least = least;
         for first in 0..self.table.shape().ids() {
@@ -151,7 +155,8 @@ impl<'b> Family<'b> {
         requires counted { AreCountsOf self.table.now self.shared.now self.counts.now }
         requires first { first < self.table.now.ids }
         ensures less { result ≤ least }
-        ensures free { AreFarFreeIn self.entry.table.now self.entry.distance result (λ window. (slice_index window 0 ≡ first) × (drop 2 window ≡ self.entry.shared.now)) }
+        ensures free { AreFarFreeIn self.entry.table.now self.entry.distance result
+            (λ window. (slice_index window 0 ≡ first) × (drop 2 window ≡ self.entry.shared.now)) }
     {
         if contains(self.shared, first) {
             return least;
@@ -196,7 +201,8 @@ impl<'b> Family<'b> {
         requires counted { AreCountsOf self.table.now self.shared.now self.counts.now }
         requires seconds { AreSeconds self.table.now self.shared.now first low end }
         ensures less { result ≤ least }
-        ensures free { AreFarFreeIn self.entry.table.now self.entry.distance result (λ window. (slice_index window 0 ≡ first)
+        ensures free { AreFarFreeIn self.entry.table.now self.entry.distance result
+            (λ window. (slice_index window 0 ≡ first)
             × (low ≤ slice_index window 1) × (slice_index window 1 < end) × (drop 2 window ≡ self.entry.shared.now)) }
     {
         let mut least = least;
@@ -245,7 +251,8 @@ impl<'b> Family<'b> {
     // in the family.
     fn number_after(self, one: u32, other: u32) -> u32
         requires { IsWindow (2 * self.table.now.rounds + 1) self.table.now.ids (self.shared.now ++ one ∷ other ∷ []) }
-        ensures { slice_get (windows_of self.entry.table.now) result ≡ Some (self.entry.shared.now ++ one ∷ other ∷ []) }
+        ensures { slice_get (windows_of self.entry.table.now) result
+            ≡ Some (self.entry.shared.now ++ one ∷ other ∷ []) }
     {
         let free = self.table.shape().ids() - self.shared.len() as u32;
         let place = place_among_unused(self.shared, one);
@@ -259,7 +266,9 @@ impl<'b> Family<'b> {
         requires numbers { ArePairNumbers self.table.now self.shared.now first second numbers }
         requires ids { (first < self.table.now.ids) × (second < self.table.now.ids) }
         ensures less { result ≤ least }
-        ensures free { AreFarFreeIn self.entry.table.now self.entry.distance result (λ window. (slice_index window 0 ≡ first) × (slice_index window 1 ≡ second) × (drop 2 window ≡ self.entry.shared.now)) }
+        ensures free { AreFarFreeIn self.entry.table.now self.entry.distance result
+            (λ window. (slice_index window 0 ≡ first) × (slice_index window 1 ≡ second)
+            × (drop 2 window ≡ self.entry.shared.now)) }
     {
         if numbers.before < least && self.may_begin_far_tuple(first, second, numbers) {
             numbers.before
@@ -274,7 +283,8 @@ impl<'b> Family<'b> {
         requires counted { AreCountsOf self.table.now self.shared.now self.counts.now }
         requires numbers { ArePairNumbers self.table.now self.shared.now first second numbers }
         requires ids { (first < self.table.now.ids) × (second < self.table.now.ids) }
-        ensures { OnFalse result (¬ BeginsFarTuple self.entry.table.now self.entry.distance (first ∷ second ∷ self.entry.shared.now)) }
+        ensures { OnFalse result
+            (¬ BeginsFarTuple self.entry.table.now self.entry.distance (first ∷ second ∷ self.entry.shared.now)) }
     {
         let Family {
             table,

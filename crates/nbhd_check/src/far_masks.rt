@@ -1,7 +1,8 @@
 //! Windows that may begin a tuple whose third window is too close, by masks of families. A family is
 //! the windows that begin with the same `2t-1` identifiers; the third windows of the tuples that
 //! begin with a window are in one family.
-ghost use Rattle.std.specs.Prelude.{◌≡◌, ℕ, List, ◌+◌, ◌-◌, ◌*◌, ◌^◌, ◌<◌, ◌≤◌, Some, drop, take, length, slice_get, slice_index};
+ghost use Rattle.std.specs.Prelude.{◌≡◌, ℕ, List, ◌+◌, ◌-◌, ◌*◌, ◌^◌, ◌<◌, ◌≤◌, Some, drop, take, length};
+ghost use Rattle.std.specs.Prelude.{slice_get, slice_index};
 ghost use Rattle.win_index.specs.Runs.{IsAtPlace, IsRunStart};
 ghost use Rattle.win_index.specs.declared.series.RunPlaces.{RunPlaces};
 ghost use Rattle.channel_tables.specs.Tables.{ChannelTable, windows_of};
@@ -48,7 +49,8 @@ impl<'a> FarMasks<'a> {
     // Like `first_in_run`. The third windows after the window at position `p` of the run have the
     // family `first + p`.
     fn first_from(&self, run: u32, first: usize, places: RunPlaces, place: u32) -> Option<u32>
-        requires { (window : List ℕ) × IsAtFamily self.now.table.now (run * wide self.now.table.now) window first places place }
+        requires { (window : List ℕ)
+            × IsAtFamily self.now.table.now (run * wide self.now.table.now) window first places place }
         ensures { AreFreeUntil self.now.table.now (BeginsFarTuple self.now.table.now self.now.distance)
             (run * wide self.now.table.now) (run * wide self.now.table.now + wide self.now.table.now) result }
     {
@@ -75,7 +77,8 @@ impl<'a> FarMasks<'a> {
         requires windows { number + count ≤ length self.now.table.now.entries }
         requires family { family < 2 ^ 32 }
         ensures few { result ≤ count }
-        ensures free { (i : ℕ) → i < result → NoneClose self.now.table.now.entries (family_len self.now.table.now) self.now.distance
+        ensures free { (i : ℕ) → i < result
+            → NoneClose self.now.table.now.entries (family_len self.now.table.now) self.now.distance
             (family + i) (slice_index self.now.table.now.entries (number + i)) }
     {
         let first = number as usize;

@@ -33,7 +33,8 @@ fn first_windows<R: Threads + Sync>(
     tuples: Tuples<'_, Table>,
     threads: u32,
 ) -> u32
-    ensures { AreFree tuples.entry.windows.now (BeginsBadTuple tuples.entry.windows.now tuples.entry.separation) 0 result }
+    ensures { AreFree tuples.entry.windows.now
+        (BeginsBadTuple tuples.entry.windows.now tuples.entry.separation) 0 result }
 {
     let Tuples {
         windows: table,
@@ -53,7 +54,8 @@ fn first_windows<R: Threads + Sync>(
 // next to it and at distance two.
 fn single_windows(tuples: Tuples<'_, Table>) -> u32
     requires { tuples.windows.now.rounds ≡ 0 }
-    ensures { AreFree tuples.entry.windows.now (BeginsBadTuple tuples.entry.windows.now tuples.entry.separation) 0 result }
+    ensures { AreFree tuples.entry.windows.now
+        (BeginsBadTuple tuples.entry.windows.now tuples.entry.separation) 0 result }
 {
     let Tuples {
         windows,

@@ -37,7 +37,8 @@ pub(crate) fn may_hold(masks: &[u64], group: usize, channel: u16) -> bool
 pub(crate) fn count_apart(masks: &[u64], group: usize, channels: &[u16]) -> usize
     requires { group + length channels.now < 2 ^ 64 }
     ensures few { result ≤ length channels.now }
-    ensures apart { (entries : List ℕ) (len distance place : ℕ) → AreMasks entries len distance masks.now → place < result
+    ensures apart { (entries : List ℕ) (len distance place : ℕ) → AreMasks entries len distance masks.now
+        → place < result
         → NoneClose entries len distance (group + place) (slice_index channels.now place) }
 {
     let end = group + channels.len();
@@ -51,7 +52,8 @@ pub(crate) fn count_apart(masks: &[u64], group: usize, channels: &[u16]) -> usiz
 fn count_without_bits(channels: &[u16], masks: &[u64]) -> usize
     requires { length channels.now ≡ length masks.now }
     ensures few { result ≤ length channels.now }
-    ensures lack { (place : ℕ) → place < result → ¬ HasBit (slice_index masks.now place) (slice_index channels.now place) }
+    ensures lack { (place : ℕ) → place < result
+        → ¬ HasBit (slice_index masks.now place) (slice_index channels.now place) }
 {
     for place in 0..channels.len() {
         if has_bit(masks[place], channels[place]) {
@@ -136,7 +138,8 @@ pub(crate) fn joined_masks(
     requires count { 1 ≤ count }
     requires len { len ≤ 2 ^ 16 }
     requires few { count ≤ 2 ^ 16 }
-    ensures { (entries : List ℕ) (distance : ℕ) → AreMasks entries len distance masks.now → AreMasks entries (count * len) distance result.items }
+    ensures { (entries : List ℕ) (distance : ℕ) → AreMasks entries len distance masks.now
+        → AreMasks entries (count * len) distance result.items }
 {
     if !masks_help(table, count * len) {
         return Vec::new(alloc);
@@ -194,7 +197,8 @@ fn fill_masks<R: Threads + Sync>(
         masks,
         size,
         &|start: usize, part: &mut [u64]|
-            requires { (grouping.distance ≤ MAX_MASKED_DISTANCE) × ((start + length part.old) * grouping.len ≤ length entries.now) }
+            requires { (grouping.distance ≤ MAX_MASKED_DISTANCE)
+                × ((start + length part.old) * grouping.len ≤ length entries.now) }
             ensures { (length part.new ≡ length part.old)
                 × AreMasks (drop (start * grouping.len) entries.entry.now) grouping.len grouping.distance part.new }
         { fill_part(part, &entries[start * grouping.len..], grouping) },

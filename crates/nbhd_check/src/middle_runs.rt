@@ -78,7 +78,8 @@ fn fill_runs<R: Threads + Sync>(rt: &R, table: &Table, middles: &mut [MiddleRun]
         middles,
         size,
         &|start: usize, part: &mut [MiddleRun]|
-            requires { (1 ≤ table.now.rounds) × ((start + length part.old) * wide table.now ≤ length (windows_of table.now)) }
+            requires { (1 ≤ table.now.rounds)
+                × ((start + length part.old) * wide table.now ≤ length (windows_of table.now)) }
             ensures { (length part.new ≡ length part.old) × AreMiddleRuns table.entry.now start part.new }
         { fill_part(table, start, part) },
     );

@@ -1,6 +1,7 @@
 //! Windows that begin a tuple whose second window is too close. The second windows after a window
 //! are a run, but for the one that would end in the window's first identifier.
-ghost use Rattle.std.specs.Prelude.{◌≡◌, ℕ, ◌+◌, ◌-◌, ◌*◌, ◌^◌, ◌<◌, ◌≤◌, cond, nat_lt, Some, length, take, drop, slice_get, slice_index};
+ghost use Rattle.std.specs.Prelude.{◌≡◌, ℕ, ◌+◌, ◌-◌, ◌*◌, ◌^◌, ◌<◌, ◌≤◌, cond, nat_lt, Some, length, take, drop};
+ghost use Rattle.std.specs.Prelude.{slice_get, slice_index};
 ghost use Rattle.std.specs.Bool.{OnFalse};
 ghost use Rattle.channel_tables.specs.Tables.{windows_of};
 ghost use Rattle.nbhd_check.specs.Masks.{AreMasks};
@@ -152,7 +153,8 @@ impl<'a> NearSearch<'a> {
     // Like `first_in_run`.
     fn first_close(&self, runs: SecondRuns) -> Option<u32>
         requires { SecondRunsOf self.now.table.now runs }
-        ensures { AreFreeUntil self.now.table.now (BeginsBadTuple self.now.table.now (record { near = self.now.distance; far = 0 }))
+        ensures { AreFreeUntil self.now.table.now
+            (BeginsBadTuple self.now.table.now (record { near = self.now.distance; far = 0 }))
             (runs.run * wide self.now.table.now) (runs.run * wide self.now.table.now + wide self.now.table.now) result }
     {
         let each = windows_per_run(self.table);
@@ -167,7 +169,8 @@ impl<'a> NearSearch<'a> {
     // Like `first_in_run`. Passes over windows by their masks.
     fn first_by_masks(&self, runs: SecondRuns) -> Option<u32>
         requires { SecondRunsOf self.now.table.now runs }
-        ensures { AreFreeUntil self.now.table.now (BeginsBadTuple self.now.table.now (record { near = self.now.distance; far = 0 }))
+        ensures { AreFreeUntil self.now.table.now
+            (BeginsBadTuple self.now.table.now (record { near = self.now.distance; far = 0 }))
             (runs.run * wide self.now.table.now) (runs.run * wide self.now.table.now + wide self.now.table.now) result }
     {
         let each = windows_per_run(self.table);
@@ -191,7 +194,8 @@ impl<'a> NearSearch<'a> {
         requires runs { SecondRunsOf self.now.table.now runs }
         requires place { place < wide self.now.table.now }
         ensures range { (place ≤ result) × (result ≤ wide self.now.table.now) }
-        ensures free { AreFree self.now.table.now (BeginsBadTuple self.now.table.now (record { near = self.now.distance; far = 0 }))
+        ensures free { AreFree self.now.table.now
+            (BeginsBadTuple self.now.table.now (record { near = self.now.distance; far = 0 }))
             (runs.run * wide self.now.table.now + place) (runs.run * wide self.now.table.now + result) }
     {
         let each = windows_per_run(self.table);
@@ -205,7 +209,9 @@ impl<'a> NearSearch<'a> {
     fn may_be_close(&self, runs: SecondRuns, place: usize) -> bool
         requires runs { SecondRunsOf self.now.table.now runs }
         requires place { place < wide self.now.table.now }
-        ensures { OnFalse result (AreFree self.now.table.now (BeginsBadTuple self.now.table.now (record { near = self.now.distance; far = 0 }))
+        ensures { OnFalse result
+            (AreFree self.now.table.now
+            (BeginsBadTuple self.now.table.now (record { near = self.now.distance; far = 0 }))
             (runs.run * wide self.now.table.now + place) (runs.run * wide self.now.table.now + place + 1)) }
     {
         let each = windows_per_run(self.table);

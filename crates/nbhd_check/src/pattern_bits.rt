@@ -58,7 +58,8 @@ fn fill_row(problem: &[Pattern], limit: usize, first: usize, row: &mut [u64])
 
 // Returns the bits of the channels that are forbidden after two with these remainders modulo 64.
 fn third_bits(problem: &[Pattern], first: u32, second: u32) -> u64
-    ensures { (a b c : ℕ) → a % 64 ≡ first → b % 64 ≡ second → IsForbidden problem.now (Some a) (Some b) (Some c) → HasBit result c }
+    ensures { (a b c : ℕ) → a % 64 ≡ first → b % 64 ≡ second → IsForbidden problem.now (Some a) (Some b) (Some c)
+        → HasBit result c }
 {
     let mut bits = 0;
     for pattern in problem {
@@ -69,7 +70,8 @@ fn third_bits(problem: &[Pattern], first: u32, second: u32) -> u64
 
 // Returns the bits of the channels that a pattern forbids after two with these remainders.
 fn bits_after(pattern: Pattern, first: u32, second: u32) -> u64
-    ensures { (a b c : ℕ) → a % 64 ≡ first → b % 64 ≡ second → Fits pattern.first (Some a) → Fits pattern.second (Some b)
+    ensures { (a b c : ℕ) → a % 64 ≡ first → b % 64 ≡ second → Fits pattern.first (Some a)
+        → Fits pattern.second (Some b)
         → Fits pattern.third (Some c) → HasBit result c }
 {
     if may_fit(pattern.first, first) && may_fit(pattern.second, second) {
@@ -103,7 +105,8 @@ fn bits_of(entry: Entry) -> u64
 pub(crate) fn thirds_after(bits: &[u64], limit: usize, first: u64, second: u16) -> u64
     requires limit { limit ≤ 64 }
     requires room { length bits.now ≡ 64 * 64 }
-    ensures { (a : ℕ) → a % 64 < limit → HasBit first a → HasBitsOf result (slice_index bits.now (a % 64 * 64 + second % 64)) }
+    ensures { (a : ℕ) → a % 64 < limit → HasBit first a
+        → HasBitsOf result (slice_index bits.now (a % 64 * 64 + second % 64)) }
 {
     let mut thirds = 0;
     for channel in 0..limit {

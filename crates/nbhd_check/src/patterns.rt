@@ -2,7 +2,8 @@
 //! list of `2t` identifiers, one that begins with the list, and one of the next windows after that. Words
 //! of channels show quickly of most runs that no three are forbidden: those that occur at all, and, for
 //! the windows but for one, those that occur more than once.
-ghost use Rattle.std.specs.Prelude.{◌≡◌, ◌≢◌, ℕ, List, [], ◌∷◌, ◌++◌, ◌+◌, ◌*◌, ◌%◌, ◌^◌, ◌<◌, ◌≤◌, IfOk, Some, length, slice_get, slice_index};
+ghost use Rattle.std.specs.Prelude.{◌≡◌, ◌≢◌, ℕ, List, [], ◌∷◌, ◌++◌, ◌+◌, ◌*◌, ◌%◌, ◌^◌, ◌<◌, ◌≤◌, IfOk, Some, length};
+ghost use Rattle.std.specs.Prelude.{slice_get, slice_index};
 ghost use Rattle.std.specs.Bool.{OnFalse};
 ghost use Rattle.channel_tables.specs.Tables.{windows_of, IsTable};
 ghost use Rattle.ring_problems.specs.Patterns.{IsForbidden};
@@ -146,7 +147,8 @@ impl<'a> PatternSearch<'a> {
         requires room { length thirds.now ≡ 64 }
         requires thirds { (a b : ℕ) → a % 64 < self.now.limit → b % 64 < self.now.limit → HasBit words.once a
             → HasBitsOf (slice_index thirds.now (b % 64)) (slice_index self.now.bits.items (cell_of a b)) }
-        ensures { OnFalse result (IsSecondClear self.now.table.now self.now.problem.now self.now.before.items next place) }
+        ensures { OnFalse result
+            (IsSecondClear self.now.table.now self.now.problem.now self.now.before.items next place) }
     {
         let own = next.run * windows_per_run(self.table) + place;
         let second = self.table.entries()[own];
@@ -180,7 +182,8 @@ impl<'a> PatternSearch<'a> {
     fn channel_at_gap(&self, next: SecondRuns, place: usize) -> u16
         requires next { AreNextRuns self.now.table.now next }
         requires place { place < wide self.now.table.now }
-        ensures { result ≡ slice_index self.now.table.now.entries (second_run next place * wide self.now.table.now + second_gap next place) }
+        ensures { result ≡ slice_index self.now.table.now.entries
+            (second_run next place * wide self.now.table.now + second_gap next place) }
     {
         let start = next.run_at(place) * windows_per_run(self.table);
         self.table.entries()[start + next.gap_at(place)]
@@ -204,8 +207,10 @@ impl<'a> PatternSearch<'a> {
         requires next { AreNextRuns self.now.table.now next }
         requires place { place < wide self.now.table.now }
         ensures less { result ≤ least }
-        ensures free { (number x : ℕ) (z : List ℕ) → number < result → slice_get (windows_of self.now.table.now) number ≡ Some (x ∷ z)
-            → slice_get (windows_of self.now.table.now) (next.run * wide self.now.table.now + place) ≡ Some (z ++ x ∷ [])
+        ensures free { (number x : ℕ) (z : List ℕ) → number < result
+            → slice_get (windows_of self.now.table.now) number ≡ Some (x ∷ z)
+            → slice_get (windows_of self.now.table.now) (next.run * wide self.now.table.now + place)
+            ≡ Some (z ++ x ∷ [])
             → IsFirstClear self.now.table.now self.now.problem.now self.now.before.items next place }
     {
         let number = self.number_before(next.run, place);
@@ -238,7 +243,8 @@ impl<'a> PatternSearch<'a> {
     fn is_broken(&self, next: SecondRuns, first: usize) -> bool
         requires next { AreNextRuns self.now.table.now next }
         requires first { first < wide self.now.table.now }
-        ensures { OnFalse result (IsFirstClear self.now.table.now self.now.problem.now self.now.before.items next first) }
+        ensures { OnFalse result
+            (IsFirstClear self.now.table.now self.now.problem.now self.now.before.items next first) }
     {
         for second in 0..windows_per_run(self.table) {
             if second != first && self.is_pair_broken(next, first, second) {
@@ -252,7 +258,8 @@ impl<'a> PatternSearch<'a> {
     fn is_second_broken(&self, next: SecondRuns, second: usize) -> bool
         requires next { AreNextRuns self.now.table.now next }
         requires second { second < wide self.now.table.now }
-        ensures { OnFalse result (IsSecondClear self.now.table.now self.now.problem.now self.now.before.items next second) }
+        ensures { OnFalse result
+            (IsSecondClear self.now.table.now self.now.problem.now self.now.before.items next second) }
     {
         for first in 0..windows_per_run(self.table) {
             if first != second && self.is_pair_broken(next, first, second) {
@@ -267,7 +274,8 @@ impl<'a> PatternSearch<'a> {
         requires next { AreNextRuns self.now.table.now next }
         requires first { first < wide self.now.table.now }
         requires second { second < wide self.now.table.now }
-        ensures { OnFalse result (IsPairClear self.now.table.now self.now.problem.now self.now.before.items next first second) }
+        ensures { OnFalse result
+            (IsPairClear self.now.table.now self.now.problem.now self.now.before.items next first second) }
     {
         let start = next.run * windows_per_run(self.table);
         let before = self.channel_before(start + first);

@@ -48,7 +48,8 @@ fn first_windows<R: Threads + Sync>(
     tuples: ProblemTuples<'_, Table>,
     threads: u32,
 ) -> u32
-    ensures { AreFree tuples.entry.windows.now (BeginsForbidden tuples.entry.windows.now tuples.entry.problem.now) 0 result }
+    ensures { AreFree tuples.entry.windows.now
+        (BeginsForbidden tuples.entry.windows.now tuples.entry.problem.now) 0 result }
 {
     let first = tuples.count().min(FIRST_TUPLES);
     if tuples.least_bad(0, first).is_some() {
@@ -67,7 +68,8 @@ fn first_windows<R: Threads + Sync>(
 // Like `first_windows`, for no rounds: the number of all windows, or 0. A window is one identifier then,
 // and each other one can be before it and after it.
 fn single_windows(alloc: Global, tuples: ProblemTuples<'_, Table>) -> u32
-    ensures { AreFree tuples.entry.windows.now (BeginsForbidden tuples.entry.windows.now tuples.entry.problem.now) 0 result }
+    ensures { AreFree tuples.entry.windows.now
+        (BeginsForbidden tuples.entry.windows.now tuples.entry.problem.now) 0 result }
 {
     let ProblemTuples {
         windows: table,
@@ -93,7 +95,8 @@ fn may_be_middle(table: &Table, bits: &[u64], limit: usize, words: Words, number
     requires room { length bits.now ≡ 64 * 64 }
     requires number { number < length table.now.entries }
     requires words { HasWords table.now.entries words }
-    ensures { (problem : List Pattern) → AreBits problem limit bits.now → ((c : ℕ) → c < table.now.channels → c % 64 < limit)
+    ensures { (problem : List Pattern) → AreBits problem limit bits.now
+        → ((c : ℕ) → c < table.now.channels → c % 64 < limit)
         → OnFalse result (IsNoMiddle table.now problem number) }
 {
     let channel = table.entries()[number as usize];

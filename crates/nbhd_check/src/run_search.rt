@@ -23,14 +23,16 @@ pub(crate) trait RunSearch {
     /// `None` if none of the run is. `window` is the first window of the run.
     fn first_in_run(&self, window: &[u32], run: u32) -> Option<u32>
         requires { slice_get (windows_of (searched self.now)) (run * wide (searched self.now)) ≡ Some window.now }
-        ensures { AreFreeUntil (searched self.now) (Bad self.now) (run * wide (searched self.now)) (run * wide (searched self.now) + wide (searched self.now)) result };
+        ensures { AreFreeUntil (searched self.now) (Bad self.now) (run * wide (searched self.now))
+            (run * wide (searched self.now) + wide (searched self.now)) result };
 }
 
 /// Returns a number such that none of the windows below it of the runs from `low` on and below `high`
 /// is bad. Gives up when `best`, the least such number that any thread has returned, is less.
 pub(crate) fn first_in_runs<S: RunSearch>(search: &S, low: u32, high: u32, best: &AtomicU32) -> u32
     requires { high * wide (S.searched search.now) ≤ length (windows_of (S.searched search.now)) }
-    ensures { AreFree (S.searched search.now) (S.Bad search.now) (low * wide (S.searched search.now)) (min result (high * wide (S.searched search.now))) }
+    ensures { AreFree (S.searched search.now) (S.Bad search.now) (low * wide (S.searched search.now))
+        (min result (high * wide (S.searched search.now))) }
 {
     if low >= high {
         return u32::MAX;
@@ -54,8 +56,10 @@ fn scan_runs<S: RunSearch>(
 ) -> u32
     requires order { low < high }
     requires within { high * wide (S.searched search.now) ≤ length (windows_of (S.searched search.now)) }
-    requires item { slice_get (windows_of (S.searched search.now)) (low * wide (S.searched search.now)) ≡ Some window.old }
-    ensures { AreFree (S.searched search.now) (S.Bad search.now) (low * wide (S.searched search.now)) (min result (high * wide (S.searched search.now))) }
+    requires item { slice_get (windows_of (S.searched search.now)) (low * wide (S.searched search.now))
+        ≡ Some window.old }
+    ensures { AreFree (S.searched search.now) (S.Bad search.now) (low * wide (S.searched search.now))
+        (min result (high * wide (S.searched search.now))) }
 {
     let table = search.table();
     let shape = table.shape();

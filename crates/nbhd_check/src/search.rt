@@ -35,7 +35,8 @@ impl<'s, 'a> Search<'s, 'a> {
         requires { most ≤ length (windows_of (searched self)) }
         ensures within { HasPieces self.entry result }
         ensures few { result ≤ 2 ^ 22 }
-        ensures all { (number : ℕ) (window : List ℕ) → number < most → slice_get (windows_of (searched self.entry)) number ≡ Some window
+        ensures all { (number : ℕ) (window : List ℕ) → number < most
+            → slice_get (windows_of (searched self.entry)) number ≡ Some window
             → (piece : ℕ) × (piece < result) × IsInPiece self.entry piece number window }
     {
         match self {

@@ -1,6 +1,7 @@
 -- What a text reads as, and its fault, from how reading it from the left ends: reading stops at the first fault, and
 -- returns a program exactly if the tokens spell it within the limits.
-use Rattle.std.proofs.Common.{◌≡◌, ℕ, ◌≤◌, List, [], ◌∷◌, ◌++◌, Option, Some, append_assoc, append-nil, refl, sym, subst, ap, ◌∙◌, arith, inl, inr, true, ◌≢◌, ◌-◌, ◌<◌, length}
+use Rattle.std.proofs.Common.{◌≡◌, ℕ, ◌≤◌, List, [], ◌∷◌, ◌++◌, Option, Some, append_assoc, append-nil, refl, sym}
+use Rattle.std.proofs.Common.{subst, ap, ◌∙◌, arith, inl, inr, true, ◌≢◌, ◌-◌, ◌<◌, length}
 use Rattle.std.specs.Prelude.{All, sum_by, Result, Ok, Err, IfOk, IfErr}
 use Rattle.std.specs.List.{list_all}
 use Rattle.std.proofs.lemmas.Bool.Decides.{nat_tests}
@@ -20,16 +21,20 @@ use Rattle.node_program.specs.Limits.{IsWithinLimits}
 use Rattle.node_lang.specs.Lexemes.{Lexeme, tokens_in, lexemes_of, lexemes_from}
 use Rattle.node_lang.specs.Grammar.{spelling, Reads}
 use Rattle.node_lang.specs.Reading.{Read, Got, Fault, expression, program}
-use Rattle.node_lang.specs.Viable.{Stands, unknown, large, out_of_range, unexpected, too_deep, too_many, FirstFault, Mark, node, one_at, nodes_at}
+use Rattle.node_lang.specs.Viable.{Stands, unknown, large, out_of_range, unexpected, too_deep, too_many, FirstFault}
+use Rattle.node_lang.specs.Viable.{Mark, node, one_at, nodes_at}
 use Rattle.node_lang.specs.Following.{FollowsAt}
 use Rattle.node_lang.specs.Faults.{FaultsAt, IsFirstHighByte, too_long, not_ascii, in_lexemes}
-use Rattle.node_lang.specs.Laws.{ReadingStopsAtFirstFault, FirstFaultStopsReading, OneReading, OneTextFault, ReadableTextsAreRead, ReadableTextsHaveNoFault, ReadTextsAreReadable}
+use Rattle.node_lang.specs.Laws.{ReadingStopsAtFirstFault, FirstFaultStopsReading, OneReading, OneTextFault}
+use Rattle.node_lang.specs.Laws.{ReadableTextsAreRead, ReadableTextsHaveNoFault, ReadTextsAreReadable}
 use Rattle.node_lang.specs.Parsing.{Gives, StopsAt}
-use Rattle.node_lang.proofs.Rest.{Rest, Nothing, AnExpression, ANumber, depth_next, expected_of, counted, Met, Stops, Goes, limited, checked, meets, step, a_program, read, went, read_next, program_read}
+use Rattle.node_lang.proofs.Rest.{Rest, Nothing, AnExpression, ANumber, depth_next, expected_of, counted, Met, Stops}
+use Rattle.node_lang.proofs.Rest.{Goes, limited, checked, meets, step, a_program, read, went, read_next, program_read}
 use Rattle.node_lang.proofs.SmallTokens.{is_small, small_tokens}
 use Rattle.node_lang.proofs.Marks.{Shallow, shallow_at, Fine, fine, program_matches}
 use Rattle.node_lang.proofs.Expecting.{follows_here, follows_later}
-use Rattle.node_lang.proofs.Places.{InRange, Place, first_place, next_of, none_of, next_nodes, whole_marks, whole_nodes, whole, Says, says, stands_met}
+use Rattle.node_lang.proofs.Places.{InRange, Place, first_place, next_of, none_of, next_nodes, whole_marks, whole_nodes}
+use Rattle.node_lang.proofs.Places.{whole, Says, says, stands_met}
 
 -- reading goes on at a token that can come next, where it is within the limits
 goes_within : (w v : Rest) (n : ℕ) (t : Token) → depth_next w ≤ MAX_DEPTH → counted w n ≤ MAX_NODES →
@@ -290,7 +295,8 @@ outcome old new (Err f) at nodes short ascii h =
     let from = length old.text.now - f.offset in
     let first : f.kind ≢ kind.OutOfMemory →
     FirstFault [] (lexemes_of old.text.now) f.kind from × FollowsAt [] (lexemes_of old.text.now) from f.expected =
-    λ m. let stops = h.1 m in first_fault_of (lexemes_of old.text.now) f.kind f.expected from (rw (at, nodes) at stops.1) in
+    λ m. let stops = h.1 m in first_fault_of (lexemes_of old.text.now) f.kind f.expected from
+    (rw (at, nodes) at stops.1) in
     let fault : f.kind ≢ kind.OutOfMemory → FaultsAt old.text.now f.kind f.offset = λ m.
     let stops = h.1 m in
     in_lexemes f.kind f.offset from short ascii (first m).0 (omega (arith, stops.0)) in

@@ -1,5 +1,6 @@
 -- The marks of a program: their tokens are its spelling, and their nodes are those of its expressions.
-use Rattle.std.proofs.Common.{◌≡◌, ℕ, ◌+◌, ◌^◌, ◌<◌, ◌≤◌, true, List, [], ◌∷◌, ◌++◌, append_assoc, refl, sym, ap, ◌∙◌, arith, add-one}
+use Rattle.std.proofs.Common.{◌≡◌, ℕ, ◌+◌, ◌^◌, ◌<◌, ◌≤◌, true, List, [], ◌∷◌, ◌++◌, append_assoc, refl, sym, ap, ◌∙◌}
+use Rattle.std.proofs.Common.{arith, add-one}
 use Rattle.std.specs.Prelude.{All, sum_by}
 use Rattle.std.specs.List.{list_all}
 use Rattle.std.proofs.lemmas.Bool.{and_parts, ltb-true}
@@ -8,10 +9,12 @@ use Rattle.std.proofs.lemmas.List.Sums.{sum_by-cons}
 use Rattle.node_program.specs.declared.limits.TheConstants.{MAX_DEPTH}
 use Rattle.node_lang.specs.declared.token.Token.{Token}
 use Rattle.node_lang.specs.declared.token.Token.TheVariants as token
-use Rattle.node_program.specs.Term.{Term, Literal, RegisterValue, One, Two, Choose, depth, size, largest, largest_register, Round, ProgramTree, terms, step_terms}
+use Rattle.node_program.specs.Term.{Term, Literal, RegisterValue, One, Two, Choose, depth, size, largest}
+use Rattle.node_program.specs.Term.{largest_register, Round, ProgramTree, terms, step_terms}
 use Rattle.node_program.specs.Limits.{IsSmall}
 use Rattle.node_lang.specs.Grammar.{spelled, assigned, blocks, spelling}
-use Rattle.node_lang.specs.Viable.{Mark, node, plain, marked, marked_assignments, marked_blocks, marks, unmarked, one_at, nodes_at}
+use Rattle.node_lang.specs.Viable.{Mark, node, plain, marked, marked_assignments, marked_blocks, marks, unmarked}
+use Rattle.node_lang.specs.Viable.{one_at, nodes_at}
 use Rattle.node_lang.proofs.SmallTokens.{is_small}
 
 unmarked_expression : (e : Term) (d : ℕ) (more : List Mark) → unmarked (marked e d more) ≡ spelled e (unmarked more)

@@ -1,5 +1,6 @@
 -- Lemmas on the readers, for the methods of the parser.
-use Rattle.std.proofs.Common.{◌≡◌, ℕ, zero, suc, ◌+◌, ◌-◌, ◌<◌, true, List, [], ◌∷◌, ◌++◌, map, Some, Result, Err, Ok, refl, sym, ap, subst, length, ◌≤◌, ◌∙◌, arith}
+use Rattle.std.proofs.Common.{◌≡◌, ℕ, zero, suc, ◌+◌, ◌-◌, ◌<◌, true, List, [], ◌∷◌, ◌++◌, map, Some, Result, Err, Ok}
+use Rattle.std.proofs.Common.{refl, sym, ap, subst, length, ◌≤◌, ◌∙◌, arith}
 use Rattle.std.proofs.lemmas.Bool.{eqb-true}
 use Rattle.std.proofs.lemmas.List.{map-append}
 use Rattle.node_lang.specs.declared.expected.Expected.TheVariants as expected
@@ -8,7 +9,8 @@ use Rattle.node_lang.specs.declared.parser.Parser.{Parser}
 use Rattle.node_lang.specs.declared.token.Token.{Token}
 use Rattle.node_lang.specs.declared.token.Token.TheVariants as token
 use Rattle.node_lang.specs.Lexemes.{Lexeme, lexemes_from}
-use Rattle.node_lang.specs.Reading.{Read, Reader, Got, Fault, ◌>>=◌, ◌>>◌, after, assigns, done, each, exactly, expression, go_on, header, next, node, number, operand, round, same_token}
+use Rattle.node_lang.specs.Reading.{Read, Reader, Got, Fault, ◌>>=◌, ◌>>◌, after, assigns, done, each, exactly}
+use Rattle.node_lang.specs.Reading.{expression, go_on, header, next, node, number, operand, round, same_token}
 use Rattle.node_lang.specs.Parsing.{Gives, expression_after, field, opened}
 use Rattle.node_program.specs.declared.limits.TheConstants.{MAX_CHANNELS, MAX_DEPTH, MAX_REGISTERS, MAX_ROUNDS}
 use Rattle.node_program.specs.declared.tree.Expr.{Expr}
@@ -121,8 +123,11 @@ gives_rest tree old now new (Ok v) whole rest same begins given =
 gives_rest tree old now new (Err f) whole rest same begins given = (
   given.0,
   λ m.
-      let at = given.1 m in
-      (subst (λ t. f.offset ≤ length t) same at.0, begins ∙ at.1 ∙ ap (λ t. Fault f.kind f.expected (length t - f.offset)) same),
+      let at = given.1 m in (
+        subst (λ t. f.offset ≤ length t) same at.0,
+        begins ∙ at.1
+            ∙ ap (λ t. Fault f.kind f.expected (length t - f.offset)) same,
+      ),
 )
 
 -- a method that reads one part and then behaves as the reader of the next
@@ -137,7 +142,8 @@ gives_next tree tree' old now new v r first second given more =
 -- a method that reads the first token of an operation and then behaves as the rest of its reader
 pub gives_operation : {A : Type 0} (old now new : Parser) (levels : ℕ) (first : Token × ℕ) (r : Result Expr Stop)
     (inner : Reader A) (f : A → Reader Term) (rest : Reader Term) →
-    Gives (λ (t : Token × ℕ). record { from = length old.text.now - t.1; token = t.0 }) old now (Ok first) (next expected.Expression) →
+    Gives (λ (t : Token × ℕ). record { from = length old.text.now - t.1; token = t.0 }) old now (Ok first)
+    (next expected.Expression) →
     after (operand levels) first.0 ≡ Some ((exactly token.Open >> inner) >>= f) →
     ((nodes : ℕ) (left : List Lexeme) → go_on (inner nodes left) f ≡ rest nodes left) →
     Gives term_of now new r (opened levels (length now.text.now - first.1) >> rest) →

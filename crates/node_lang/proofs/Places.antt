@@ -1,6 +1,8 @@
 -- A place in a program: the tokens before it, and what is left of the program after them. Reading meets at the next
 -- token exactly the fault that is there, or none.
-use Rattle.std.proofs.Common.{rules, ◌≡◌, ℕ, ◌+◌, ◌<◌, Option, Some, None, List, [], ◌∷◌, ◌++◌, length, take, drop, append_assoc, append-nil, refl, sym, subst, ap, ◌∙◌, arith, add-one, ◌≢◌, zero, suc, ◌-◌, ◌≤◌, ◌==◌, nat_le, ◌&&◌, true, false}
+use Rattle.std.proofs.Common.{rules, ◌≡◌, ℕ, ◌+◌, ◌<◌, Option, Some, None, List, [], ◌∷◌, ◌++◌, length, take, drop}
+use Rattle.std.proofs.Common.{append_assoc, append-nil, refl, sym, subst, ap, ◌∙◌, arith, add-one, ◌≢◌, zero, suc, ◌-◌}
+use Rattle.std.proofs.Common.{◌≤◌, ◌==◌, nat_le, ◌&&◌, true, false}
 use Rattle.std.specs.Prelude.{All, fold, sum_by}
 use Rattle.std.proofs.Math.Seq.{take-append_seam, drop-append_seam}
 use Rattle.std.proofs.lemmas.Bool.{cond_both, eq-eqb}
@@ -8,18 +10,25 @@ use Rattle.std.proofs.lemmas.Bool.Decides.{nat_tests}
 use Rattle.std.proofs.lemmas.List.{map-append, length-map}
 use Rattle.std.proofs.lemmas.List.Elements.{All-cons, All-nil, All-head, All-tail}
 use Rattle.std.proofs.lemmas.List.Sums.{sum_by-append, fold_push}
-use Rattle.node_program.specs.declared.limits.TheConstants.{MAX_CHANNELS, MAX_DEPTH, MAX_NODES, MAX_REGISTERS, MAX_ROUNDS}
+use Rattle.node_program.specs.declared.limits.TheConstants.{MAX_CHANNELS, MAX_DEPTH, MAX_NODES}
+use Rattle.node_program.specs.declared.limits.TheConstants.{MAX_REGISTERS, MAX_ROUNDS}
 use Rattle.node_lang.specs.declared.fault.FaultKind.{FaultKind}
 use Rattle.node_lang.specs.declared.fault.FaultKind.TheVariants as kind
 use Rattle.node_lang.specs.declared.token.Token.{Token}
 use Rattle.node_lang.specs.declared.token.Token.TheVariants as token
-use Rattle.node_program.specs.Term.{Term, Literal, Identifier, LeftMessage, RightMessage, RegisterValue, One, Two, Choose, Round, ProgramTree, size, terms}
+use Rattle.node_program.specs.Term.{Term, Literal, Identifier, LeftMessage, RightMessage, RegisterValue, One, Two}
+use Rattle.node_program.specs.Term.{Choose, Round, ProgramTree, size, terms}
 use Rattle.node_program.specs.Limits.{IsSmall, IsWithinLimits}
 use Rattle.node_lang.specs.Grammar.{spelling}
 use Rattle.node_lang.specs.Reading.{fault_of, same_token}
-use Rattle.node_lang.specs.Viable.{IsProgram, IsViable, Mark, node, plain, marked, marked_assignments, marked_blocks, marks, unmarked, one_at, nodes_at, BeginsNode, IsOutside, IsOutOfRange, rounds, channels, registers, Stands, unknown, large, out_of_range, unexpected, too_deep, too_many}
+use Rattle.node_lang.specs.Viable.{IsProgram, IsViable, Mark, node, plain, marked, marked_assignments, marked_blocks}
+use Rattle.node_lang.specs.Viable.{marks, unmarked, one_at, nodes_at, BeginsNode, IsOutside, IsOutOfRange, rounds}
+use Rattle.node_lang.specs.Viable.{channels, registers, Stands, unknown, large, out_of_range, unexpected}
+use Rattle.node_lang.specs.Viable.{too_deep, too_many}
 use Rattle.node_lang.proofs.Parsing.{same_token_is}
-use Rattle.node_lang.proofs.Rest.{Rest, Nothing, AToken, AnExpression, ANumber, following, step, depth_next, counted, Met, Stops, Goes, limited, checked, meets, assignments, some_rounds, a_body, a_program}
+use Rattle.node_lang.proofs.Rest.{Rest, Nothing, AToken, AnExpression, ANumber, following, step, depth_next, counted}
+use Rattle.node_lang.proofs.Rest.{Met, Stops, Goes, limited, checked, meets, assignments, some_rounds}
+use Rattle.node_lang.proofs.Rest.{a_body, a_program}
 use Rattle.node_lang.proofs.Marks.{Shallow, shallow_more, program_matches}
 
 -- the next number of the header is in its range

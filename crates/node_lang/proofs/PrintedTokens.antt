@@ -1,5 +1,6 @@
 -- The text of a printed program is short and ASCII, and its tokens are the spelling of the program.
-use Rattle.std.proofs.Common.{◌≡◌, ℕ, ◌+◌, ◌^◌, ◌<◌, ◌==◌, true, false, nat_lt, List, [], ◌∷◌, ◌++◌, length, refl, sym, ap, ◌∙◌, arith, rules, ◌*◌, ◌≤◌, Bool, append_assoc, append-nil, length-append}
+use Rattle.std.proofs.Common.{◌≡◌, ℕ, ◌+◌, ◌^◌, ◌<◌, ◌==◌, true, false, nat_lt, List, [], ◌∷◌, ◌++◌, length, refl, sym}
+use Rattle.std.proofs.Common.{ap, ◌∙◌, arith, rules, ◌*◌, ◌≤◌, Bool, append_assoc, append-nil, length-append}
 use Rattle.std.specs.Prelude.{sum_by, All, codes}
 use Rattle.std.specs.List.{list_all, prefix_len, flat_map}
 use Rattle.std.specs.Fmt.{decimal}
@@ -7,14 +8,18 @@ use Rattle.std.proofs.Math.ListN.{get_or-append}
 use Rattle.std.proofs.Math.Seq.{take-append_seam, drop-append_seam}
 use Rattle.std.proofs.lemmas.Bool.{lt-ltb, ltb-true}
 use Rattle.std.proofs.lemmas.Bool.Decides.{nat_tests}
-use Rattle.std.proofs.lemmas.Fmt.{decimal_digit, decimal_nonempty, digits_decimal, digits_value-decimal, length-decimal-le}
+use Rattle.std.proofs.lemmas.Fmt.{decimal_digit, decimal_nonempty, digits_decimal}
+use Rattle.std.proofs.lemmas.Fmt.{digits_value-decimal, length-decimal-le}
 use Rattle.std.proofs.lemmas.Str.Parse.{IsNumeralModel, numerals_by_fold}
 use Rattle.node_lang.specs.declared.token.Token.{Token}
 use Rattle.node_lang.specs.declared.token.Token.TheVariants as token
-use Rattle.node_lang.specs.Words.{is_blank, is_digit, is_word_byte, read_on, word_token, mark_token, unary_name, binary_name, word_of}
+use Rattle.node_lang.specs.Words.{is_blank, is_digit, is_word_byte, read_on, word_token, mark_token, unary_name}
+use Rattle.node_lang.specs.Words.{binary_name, word_of}
 use Rattle.node_lang.specs.Lexemes.{tokens_in, tokens_of, lexemes_of}
 use Rattle.std.proofs.lemmas.List.Sums.{sum_by-append, sum_by-cons, AllPass-from_list_all}
-use Rattle.node_program.specs.Term.{Round, ProgramTree, size, step_terms, terms_of_step, Term, Literal, Identifier, LeftMessage, RightMessage, RegisterValue, One, Two, Choose, largest, largest_register}
+use Rattle.node_program.specs.Term.{Round, ProgramTree, size, step_terms, terms_of_step, Term, Literal, Identifier}
+use Rattle.node_program.specs.Term.{LeftMessage, RightMessage, RegisterValue, One, Two, Choose}
+use Rattle.node_program.specs.Term.{largest, largest_register}
 use Rattle.std.proofs.lemmas.List.Elements.{All-append, All-cons, All-nil, All-head, All-tail, All-weaker}
 use Rattle.node_lang.specs.declared.limits.TheConstants.{LONGEST_TEXT}
 use Rattle.node_program.specs.declared.tree.UnOp.{UnOp}
@@ -23,7 +28,8 @@ use Rattle.node_program.specs.declared.tree.BinOp.{BinOp}
 use Rattle.node_program.specs.declared.tree.BinOp.TheVariants as op
 use Rattle.node_program.specs.Limits.{IsSmall, IsWithinLimits}
 use Rattle.node_lang.specs.Grammar.{Reads, spelled, assigned, block, blocks}
-use Rattle.node_lang.specs.Printed.{printed_expression, assignment_line, assignment_lines, send_line, round_lines, header_lines, printed}
+use Rattle.node_lang.specs.Printed.{printed_expression, assignment_line, assignment_lines, send_line, round_lines}
+use Rattle.node_lang.specs.Printed.{header_lines, printed}
 use Rattle.node_lang.proofs.Placing.{blank_in_front, mark_in_front, word_token_first}
 
 -- this text does not continue a word

@@ -1,17 +1,22 @@
 -- What is left of a program after some tokens, how one token leads on, and that a program is read so. A whole program
 -- is left before its first token.
-use Rattle.std.proofs.Common.{ℕ, zero, suc, ◌+◌, ◌-◌, ◌==◌, nat_le, ◌&&◌, List, [], ◌∷◌, Option, Some, None, ◌≡◌, ◌<◌, ◌++◌, refl, ap, ◌∙◌, arith, append_assoc, append-nil}
+use Rattle.std.proofs.Common.{ℕ, zero, suc, ◌+◌, ◌-◌, ◌==◌, nat_le, ◌&&◌, List, [], ◌∷◌, Option, Some, None, ◌≡◌, ◌<◌}
+use Rattle.std.proofs.Common.{◌++◌, refl, ap, ◌∙◌, arith, append_assoc, append-nil}
 use Rattle.std.specs.Prelude.{if◌then◌else◌}
 use Rattle.std.proofs.lemmas.Bool.Decides.{nat_tests}
-use Rattle.node_program.specs.declared.limits.TheConstants.{MAX_DEPTH, MAX_NODES, MAX_CHANNELS, MAX_REGISTERS, MAX_ROUNDS}
+use Rattle.node_program.specs.declared.limits.TheConstants.{MAX_DEPTH, MAX_NODES, MAX_CHANNELS}
+use Rattle.node_program.specs.declared.limits.TheConstants.{MAX_REGISTERS, MAX_ROUNDS}
 use Rattle.node_lang.specs.declared.expected.Expected.{Expected}
 use Rattle.node_lang.specs.declared.expected.Expected.TheVariants as expected
 use Rattle.node_lang.specs.declared.fault.FaultKind.{FaultKind}
 use Rattle.node_lang.specs.declared.fault.FaultKind.TheVariants as kind
 use Rattle.node_lang.specs.declared.token.Token.{Token}
 use Rattle.node_lang.specs.declared.token.Token.TheVariants as token
-use Rattle.node_program.specs.Term.{Term, Literal, Identifier, LeftMessage, RightMessage, RegisterValue, One, Two, Choose, Round, ProgramTree}
-use Rattle.node_lang.specs.Reading.{same_token, fault_of, Read, Reader, Fault, go_on, done, ◌>>=◌, ◌>>◌, exactly, node, one_of, two_of, three_of, operand, expression, number, end, each, assign, assigns, round, rounds, header, program}
+use Rattle.node_program.specs.Term.{Term, Literal, Identifier, LeftMessage, RightMessage, RegisterValue, One, Two}
+use Rattle.node_program.specs.Term.{Choose, Round, ProgramTree}
+use Rattle.node_lang.specs.Reading.{same_token, fault_of, Read, Reader, Fault, go_on, done, ◌>>=◌, ◌>>◌, exactly, node}
+use Rattle.node_lang.specs.Reading.{one_of, two_of, three_of, operand, expression, number, end, each, assign, assigns}
+use Rattle.node_lang.specs.Reading.{round, rounds, header, program}
 use Rattle.node_lang.specs.Lexemes.{Lexeme}
 use Rattle.node_lang.proofs.Parsing.{go_on_assoc, operand_is, same_after}
 

@@ -7,7 +7,8 @@ use Rattle.std.proofs.lemmas.Bool.{and_from}
 use Rattle.std.proofs.lemmas.Bool.Decides.{nat_tests}
 use Rattle.node_lang.specs.declared.token.Token.{Token}
 use Rattle.node_lang.specs.declared.token.Token.TheVariants as token
-use Rattle.node_lang.specs.Words.{word_token, mark_token, register_named, or_unknown, named, keywords, operations, word_of}
+use Rattle.node_lang.specs.Words.{word_token, mark_token, register_named, or_unknown, named, keywords}
+use Rattle.node_lang.specs.Words.{operations, word_of}
 use Rattle.node_lang.specs.Lexemes.{Lexeme, blanked, joined, split_of, lexemes_of, tokens_in, tokens_of}
 
 abbrev pub is_small : Token → Bool

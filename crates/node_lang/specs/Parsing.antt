@@ -8,7 +8,8 @@ use Rattle.node_lang.specs.Lexemes.{Lexeme, lexemes_from}
 use Rattle.node_lang.specs.Grammar.{Reads}
 use Rattle.node_lang.specs.Following.{IsExpectedAt}
 use Rattle.node_lang.specs.Faults.{FaultsAt}
-use Rattle.node_lang.specs.Reading.{Read, Reader, Got, Fault, ◌>>=◌, ◌>>◌, done, exactly, expression, node, number, operand}
+use Rattle.node_lang.specs.Reading.{Read, Reader, Got, Fault, ◌>>=◌, ◌>>◌, done, exactly, expression, node}
+use Rattle.node_lang.specs.Reading.{number, operand}
 use Rattle.node_lang.specs.declared.token.Token.{Token}
 use Rattle.node_lang.specs.declared.token.Token.TheVariants as token
 use Rattle.node_program.specs.declared.limits.TheConstants.{MAX_DEPTH}
@@ -29,8 +30,8 @@ Gives tree old new (Err f) read =
     × (f.kind ≢ kind.OutOfMemory → (f.offset ≤ length old.text.now)
     × (read old.nodes (lexemes_from old.text.now old.at) ≡ Fault f.kind f.expected (length old.text.now - f.offset)))
 
--- Reading a text stops here: at offset 0 for want of memory, or else the text reads as no program, this is its fault, and
--- this can follow there.
+-- Reading a text stops here: at offset 0 for want of memory, or else the text reads as no program, this is its
+-- fault, and this can follow there.
 pub record StopsAt (text : List ℕ) (stop : Stop) : Type 0 where
   pub memory : stop.kind ≡ kind.OutOfMemory → stop.offset ≡ 0
   pub none : stop.kind ≢ kind.OutOfMemory → (p : ProgramTree) → Reads text p → ⊥

@@ -1,13 +1,16 @@
 -- Reading a text from the left: each reader returns a tree, or the fault at which it stops.
-use Rattle.std.specs.Prelude.{◌&&◌, ◌++◌, ℕ, zero, suc, ◌+◌, ◌==◌, Bool, true, false, nat_le, List, [], ◌∷◌, Option, Some, None, if◌then◌else◌}
-use Rattle.node_program.specs.declared.limits.TheConstants.{MAX_CHANNELS, MAX_DEPTH, MAX_NODES, MAX_REGISTERS, MAX_ROUNDS}
+use Rattle.std.specs.Prelude.{◌&&◌, ◌++◌, ℕ, zero, suc, ◌+◌, ◌==◌, Bool, true, false, nat_le, List, [], ◌∷◌, Option}
+use Rattle.std.specs.Prelude.{Some, None, if◌then◌else◌}
+use Rattle.node_program.specs.declared.limits.TheConstants.{MAX_CHANNELS, MAX_DEPTH, MAX_NODES}
+use Rattle.node_program.specs.declared.limits.TheConstants.{MAX_REGISTERS, MAX_ROUNDS}
 use Rattle.node_lang.specs.declared.fault.FaultKind.{FaultKind}
 use Rattle.node_lang.specs.declared.fault.FaultKind.TheVariants as kind
 use Rattle.node_lang.specs.declared.expected.Expected.{Expected}
 use Rattle.node_lang.specs.declared.expected.Expected.TheVariants as expected
 use Rattle.node_lang.specs.declared.token.Token.{Token}
 use Rattle.node_lang.specs.declared.token.Token.TheVariants as token
-use Rattle.node_program.specs.Term.{Term, Literal, Identifier, LeftMessage, RightMessage, RegisterValue, One, Two, Choose, Round, ProgramTree}
+use Rattle.node_program.specs.Term.{Term, Literal, Identifier, LeftMessage, RightMessage, RegisterValue, One, Two}
+use Rattle.node_program.specs.Term.{Choose, Round, ProgramTree}
 use Rattle.node_lang.specs.Lexemes.{Lexeme}
 
 -- What was read, with the number of expression nodes so far and the lexemes left; or a fault, with what was expected
@@ -142,7 +145,8 @@ expression levels = level levels (operand levels)
 
 -- a number of the header, from low to high
 abbrev pub in_range : ℕ → ℕ → Lexeme → Token → Reader ℕ
-in_range low high l (token.Number n) = if nat_le low n && nat_le n high then done n else refuse kind.HeaderRange expected.Number l
+in_range low high l (token.Number n) = if nat_le low n && nat_le n high then done n
+    else refuse kind.HeaderRange expected.Number l
 in_range low high l _ = refuse kind.Unexpected expected.Number l
 
 abbrev pub number : ℕ → ℕ → Reader ℕ

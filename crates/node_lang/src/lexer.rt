@@ -1,5 +1,6 @@
 //! The tokens of a text, with their places.
-ghost use Rattle.std.specs.Prelude.{◌≡◌, ◌==◌, not, ◌+◌, ◌-◌, ◌<◌, ◌≤◌, [], ◌∷◌, length, slice_index, drop, false, IfSome, IfNone};
+ghost use Rattle.std.specs.Prelude.{◌≡◌, ◌==◌, not, ◌+◌, ◌-◌, ◌<◌, ◌≤◌, [], ◌∷◌, length, slice_index, drop, false};
+ghost use Rattle.std.specs.Prelude.{IfSome, IfNone};
 ghost use Rattle.std.specs.List.{prefix_len};
 ghost use Rattle.node_lang.specs.Words.{is_blank as blank, is_word_byte as word_byte};
 ghost use Rattle.node_lang.specs.Lexemes.{lexemes_of, lexemes_from, token_len, BeginsWithToken};
@@ -57,7 +58,8 @@ fn token_start(text: &[u8]) -> usize
 #[tactic(auto, using(crate::proofs::Placing::word_token_first, crate::proofs::Placing::mark_token_first))]
 fn token_at(text: &[u8]) -> (Token, usize)
     requires { BeginsWithToken text.now }
-    ensures token { lexemes_of text.now ≡ record { from = length text.now; token = result.0 } ∷ lexemes_of (drop result.1 text.now) }
+    ensures token { lexemes_of text.now ≡ record { from = length text.now; token = result.0 }
+        ∷ lexemes_of (drop result.1 text.now) }
     ensures len { result.1 ≡ token_len text.now }
     ensures within { result.1 ≤ length text.now }
 {

@@ -34,12 +34,15 @@ pub(crate) struct Parser<'a> {
 impl<'a> Parser<'a> {
     ghost use Rattle.std.specs.Prelude.{◌≡◌, ◌-◌, ◌<◌, map, true, IfOk};
     ghost use Rattle.node_program.specs.Term.{step_of, term_of};
-    ghost use Rattle.node_lang.specs.Reading.{Counts, assigns, end, exactly, expression, header, next, node, operand, program, round, rounds, same_token};
-    ghost use Rattle.node_lang.specs.Parsing.{Gives, after_if, after_one, after_two, boxed, expression_after, field, marked, opened, pair_of};
+    ghost use Rattle.node_lang.specs.Reading.{Counts, assigns, end, exactly, expression, header, next, node, operand};
+    ghost use Rattle.node_lang.specs.Reading.{program, round, rounds, same_token};
+    ghost use Rattle.node_lang.specs.Parsing.{Gives, after_if, after_one, after_two, boxed, expression_after, field};
+    ghost use Rattle.node_lang.specs.Parsing.{marked, opened, pair_of};
 
     // Returns the next token and its offset.
     fn next(&mut self, expected: Expected) -> Result<(Token, usize), Stop>
-        ensures reads { Gives (λ t. record { from = length self.old.text.now - t.1; token = t.0 }) self.old self.new result (next expected) }
+        ensures reads { Gives (λ t. record { from = length self.old.text.now - t.1; token = t.0 }) self.old self.new
+            result (next expected) }
         ensures place { IfOk result (λ t. t.1 ≤ length self.old.text.now) }
     {
         let Some(placed) = token_from(self.text, self.at) else {
@@ -199,7 +202,8 @@ impl<'a> Parser<'a> {
     // Parses the header, up to and including `start`.
     #[tactic(auto, using(crate::proofs::Parsing::header_is))]
     fn header(&mut self) -> Result<ProgramHeader, Stop>
-        ensures { Gives (λ h. record { rounds = h.rounds; channels = h.channels; registers = h.registers }) self.old self.new result header }
+        ensures { Gives (λ h. record { rounds = h.rounds; channels = h.channels; registers = h.registers }) self.old
+            self.new result header }
     {
         let rounds = self.field(Token::Rounds, 0, MAX_ROUNDS)?;
         let channels = self.field(Token::Channels, 1, MAX_CHANNELS)?;

@@ -3,7 +3,8 @@ ghost use Rattle.std.specs.Prelude.{◌≡◌, ◌++◌, length, map, IfOk, IfEr
 ghost use Rattle.std.specs.List.{flat_map};
 ghost use Rattle.node_lang.specs.declared.fault.FaultKind.TheVariants as kind;
 ghost use Rattle.node_program.specs.Term.{step_of, term_of};
-ghost use Rattle.node_lang.specs.Printed.{operation_name as name_of, own_word, printed_expression, assignment_lines, header_lines, round_lines, printed};
+ghost use Rattle.node_lang.specs.Printed.{operation_name as name_of, own_word, printed_expression, assignment_lines};
+ghost use Rattle.node_lang.specs.Printed.{header_lines, round_lines, printed};
 
 use crate::fault::TextFault;
 use crate::word_tokens::operation_name;
@@ -13,7 +14,8 @@ use std::fmt::Write;
 
 // Appends the name of an operation and the parenthesis that opens its operands.
 fn write_opening(text: &mut String, operation: &Expr) -> Result<(), AllocError>
-    ensures { OnOk result (string_bytes text.new ≡ string_bytes text.old ++ (name_of (term_of operation.now) ++ codes "(")) }
+    ensures { OnOk result (string_bytes text.new
+        ≡ string_bytes text.old ++ (name_of (term_of operation.now) ++ codes "(")) }
 {
     write!(text, "{}(", operation_name(operation))
 }
@@ -36,7 +38,8 @@ pub fn write_word(text: &mut String, expression: &Expr) -> Result<(), AllocError
 
 #[cycle(expression)]
 fn write_expression(text: &mut String, expression: &Expr) -> Result<(), AllocError>
-    ensures { OnOk result (string_bytes text.new ≡ string_bytes text.old ++ printed_expression (term_of expression.now)) }
+    ensures { OnOk result (string_bytes text.new
+        ≡ string_bytes text.old ++ printed_expression (term_of expression.now)) }
 {
     match expression {
         Expr::Number(_) | Expr::Id | Expr::FromLeft | Expr::FromRight | Expr::Register(_) => {
@@ -63,7 +66,8 @@ fn write_expression(text: &mut String, expression: &Expr) -> Result<(), AllocErr
 // Appends an operand and the mark after it.
 #[cycle(expression)]
 fn write_operand(text: &mut String, operand: &Expr, mark: &str) -> Result<(), AllocError>
-    ensures { OnOk result (string_bytes text.new ≡ string_bytes text.old ++ (printed_expression (term_of operand.now) ++ mark.now)) }
+    ensures { OnOk result (string_bytes text.new
+        ≡ string_bytes text.old ++ (printed_expression (term_of operand.now) ++ mark.now)) }
 {
     write_expression(text, operand)?;
     text.push_str(mark)
@@ -71,7 +75,8 @@ fn write_operand(text: &mut String, operand: &Expr, mark: &str) -> Result<(), Al
 
 // Appends an expression after these words, and ends its line.
 fn write_line(text: &mut String, words: &str, expression: &Expr) -> Result<(), AllocError>
-    ensures { OnOk result (string_bytes text.new ≡ string_bytes text.old ++ (words.now ++ (printed_expression (term_of expression.now) ++ codes "\n"))) }
+    ensures { OnOk result (string_bytes text.new
+        ≡ string_bytes text.old ++ (words.now ++ (printed_expression (term_of expression.now) ++ codes "\n"))) }
 {
     text.push_str(words)?;
     write_expression(text, expression)?;
@@ -81,7 +86,8 @@ fn write_line(text: &mut String, words: &str, expression: &Expr) -> Result<(), A
 // Appends an assignment to each register.
 #[tactic(auto, using(crate::proofs::Writing::next_item, std::proofs::Common::append_assoc))]
 fn write_assignments(text: &mut String, expressions: &[Expr]) -> Result<(), AllocError>
-    ensures { OnOk result (string_bytes text.new ≡ string_bytes text.old ++ assignment_lines 0 (map term_of expressions.now)) }
+    ensures { OnOk result (string_bytes text.new
+        ≡ string_bytes text.old ++ assignment_lines 0 (map term_of expressions.now)) }
 {
     'registers: for (register, expression) in expressions.iter().enumerate() {
         write!(text, "r{register}")?;
@@ -100,7 +106,8 @@ fn write_round(text: &mut String, round: &Round) -> Result<(), AllocError>
 
 #[tactic(auto, using(crate::proofs::Writing::next_item, std::proofs::Common::append_assoc))]
 fn write_rounds(text: &mut String, rounds: &[Round]) -> Result<(), AllocError>
-    ensures { OnOk result (string_bytes text.new ≡ string_bytes text.old ++ flat_map round_lines (map step_of rounds.now)) }
+    ensures { OnOk result (string_bytes text.new
+        ≡ string_bytes text.old ++ flat_map round_lines (map step_of rounds.now)) }
 {
     'rounds: for round in rounds {
         write_round(text, round)?;

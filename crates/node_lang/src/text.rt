@@ -1,5 +1,6 @@
 //! Reading a program text.
-ghost use Rattle.std.specs.Prelude.{◌≡◌, ◌≢◌, ℕ, ◌<◌, ◌≤◌, List, Some, Err, length, position, All, IfOk, IfErr, IfSome, IfNone};
+ghost use Rattle.std.specs.Prelude.{◌≡◌, ◌≢◌, ℕ, ◌<◌, ◌≤◌, List, Some, Err, length, position, All, IfOk, IfErr};
+ghost use Rattle.std.specs.Prelude.{IfSome, IfNone};
 ghost use Rattle.node_lang.specs.declared.fault.FaultKind.TheVariants as kind;
 ghost use Rattle.node_program.specs.Term.{ProgramTree};
 ghost use Rattle.node_lang.specs.Grammar.{Reads};
@@ -53,7 +54,8 @@ pub fn parse(alloc: Global, text: &[u8]) -> Result<Program, TextFault>
     ensures none { IfErr result (λ f. f.kind ≢ kind.OutOfMemory → (p : ProgramTree) → Reads text.now p → ⊥) }
     ensures memory { IfErr result (λ f. f.kind ≡ kind.OutOfMemory → f.offset ≡ 0) }
     ensures fault { IfErr result (λ f. f.kind ≢ kind.OutOfMemory → FaultsAt text.now f.kind f.offset) }
-    ensures too_long { LONGEST_TEXT < length text.now → result ≡ Err (record { kind = kind.TooLong; offset = LONGEST_TEXT }) }
+    ensures too_long { LONGEST_TEXT < length text.now
+        → result ≡ Err (record { kind = kind.TooLong; offset = LONGEST_TEXT }) }
     ensures not_ascii { (offset : ℕ) → length text.now ≤ LONGEST_TEXT → IsFirstHighByte text.now offset →
         result ≡ Err (record { kind = kind.NotAscii; offset = offset }) }
 {
@@ -73,7 +75,8 @@ pub fn parse(alloc: Global, text: &[u8]) -> Result<Program, TextFault>
 /// Returns the end for a text without a fault, and `None` for a text that is too long or not ASCII.
 /// Fails with `OutOfMemory` if memory was refused.
 pub fn expected_in(alloc: Global, text: &[u8]) -> Result<Option<Expected>, OutOfMemory>
-    ensures fault { IfOk result (λ found. (k : FaultKind) (offset : ℕ) → FaultsAt text.now k offset → IsExpected text.now k offset found) }
+    ensures fault { IfOk result (λ found. (k : FaultKind) (offset : ℕ) → FaultsAt text.now k offset
+        → IsExpected text.now k offset found) }
     ensures none { IfOk result (λ found. (p : ProgramTree) → Reads text.now p → found ≡ Some expected.End) }
 {
     if text.len() > LONGEST_TEXT {

@@ -4,7 +4,9 @@ ghost use Rattle.std.specs.List.{list_all};
 ghost use Rattle.std.specs.Option.{SomeIff};
 ghost use Rattle.node_program.specs.Term.{term_of};
 ghost use Rattle.node_lang.specs.Printed.{operation_name as name_of};
-ghost use Rattle.node_lang.specs.Words.{is_blank as blank, is_digit as digit, is_word_byte as word_byte, mark_token as mark, register_named, named, keywords, operations, read_on, token_in, word_token};
+ghost use Rattle.node_lang.specs.Words.{is_blank as blank, is_digit as digit, is_word_byte as word_byte};
+ghost use Rattle.node_lang.specs.Words.{mark_token as mark, register_named, named, keywords, operations, read_on};
+ghost use Rattle.node_lang.specs.Words.{token_in, word_token};
 
 use crate::token::Token;
 use node_program::{BinOp, Expr, UnOp};

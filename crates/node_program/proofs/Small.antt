@@ -37,9 +37,11 @@ rounds_small (s ∷ rounds) all zero d lt =
 rounds_small (s ∷ rounds) all (suc k) d lt =
     rounds_small rounds (all_right IsSmall (terms_of_step (step_of s)) (step_terms (map step_of rounds)) all) k d (omega arith)
 
-pub start_small : (p : ProgramTree) (start : List Expr) → IsWithinLimits p → map term_of start ≡ p.start → AreSmall start
+pub start_small : (p : ProgramTree) (start : List Expr) → IsWithinLimits p → map term_of start ≡ p.start
+    → AreSmall start
 start_small p start limits same =
-    all_of_images IsSmall term_of start (rw same (all_left IsSmall p.start (step_terms p.steps ++ p.finish ∷ []) limits.small))
+    all_of_images IsSmall term_of start
+    (rw same (all_left IsSmall p.start (step_terms p.steps ++ p.finish ∷ []) limits.small))
 
 pub steps_small :
     (p : ProgramTree) (rounds : List Round) → IsWithinLimits p → map step_of rounds ≡ p.steps → All IsSmallRound rounds
@@ -49,5 +51,6 @@ steps_small p rounds limits same =
 
 pub finish_small : (p : ProgramTree) → IsWithinLimits p → IsSmall p.finish
 finish_small p limits =
-    all_right IsSmall (step_terms p.steps) (p.finish ∷ []) (all_right IsSmall p.start (step_terms p.steps ++ p.finish ∷ []) limits.small)
+    all_right IsSmall (step_terms p.steps) (p.finish ∷ [])
+    (all_right IsSmall p.start (step_terms p.steps ++ p.finish ∷ []) limits.small)
     0 p.finish (omega arith)

@@ -1,8 +1,11 @@
 -- Upper bounds of the values of a program, from its text and the number m of identifiers alone.
-use Rattle.std.specs.Prelude.{ℕ, zero, suc, ◌+◌, ◌-◌, ◌*◌, ◌/◌, ◌^◌, ◌≤◌, nat_lt, min, max, Option, Some, None, List, [], map, length, slice_get, slice_index, if◌then◌else◌}
+use Rattle.std.specs.Prelude.{ℕ, zero, suc, ◌+◌, ◌-◌, ◌*◌, ◌/◌, ◌^◌, ◌≤◌, nat_lt, min, max, Option, Some, None, List}
+use Rattle.std.specs.Prelude.{[], map, length, slice_get, slice_index, if◌then◌else◌}
 use Rattle.node_program.specs.declared.tree.BinOp.{BinOp}
-use Rattle.node_program.specs.declared.tree.BinOp.TheVariants.{And, Or, Xor, Shl, Shr, Add, Sub, Min, Max, Ldb, Bit, Eq, Ne, Lt, Le}
-use Rattle.node_program.specs.Term.{Term, Literal, Identifier, LeftMessage, RightMessage, RegisterValue, One, Two, Choose, Round, ProgramTree}
+use Rattle.node_program.specs.declared.tree.BinOp.TheVariants.{And, Or, Xor, Shl, Shr, Add, Sub, Min, Max, Ldb, Bit, Eq}
+use Rattle.node_program.specs.declared.tree.BinOp.TheVariants.{Ne, Lt, Le}
+use Rattle.node_program.specs.Term.{Term, Literal, Identifier, LeftMessage, RightMessage, RegisterValue, One, Two}
+use Rattle.node_program.specs.Term.{Choose, Round, ProgramTree}
 use Rattle.node_program.specs.Operations.{top}
 use Rattle.node_program.specs.Value.{Env}
 

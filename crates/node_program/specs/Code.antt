@@ -3,7 +3,8 @@ use Rattle.std.specs.Prelude.{◌≡◌, ℕ, zero, suc, List, [], ◌∷◌, re
 use Rattle.std.proofs.Common.{sym, ◌∙◌, ap}
 use Rattle.std.specs.Coded.{Coded, code_by, coded×, coded_ℕ, coded_list}
 use base.Stored.{Gv, gnum, gcons}
-use Rattle.node_program.specs.Term.{Term, Literal, Identifier, LeftMessage, RightMessage, RegisterValue, One, Two, Choose, Round, ProgramTree}
+use Rattle.node_program.specs.Term.{Term, Literal, Identifier, LeftMessage, RightMessage, RegisterValue, One, Two}
+use Rattle.node_program.specs.Term.{Choose, Round, ProgramTree}
 use Rattle.node_program.specs.declared.tree.UnOp.TheVariants.{Not}
 use Rattle.node_program.specs.declared.tree.BinOp.{BinOp}
 use Rattle.node_program.specs.declared.tree.BinOp.TheVariants as op
@@ -26,7 +27,8 @@ number_of op.Lt = 13
 number_of op.Le = 14
 
 abbrev operation_at : ℕ → BinOp
-operation_at n = slice_index_or (op.And ∷ op.Or ∷ op.Xor ∷ op.Shl ∷ op.Shr ∷ op.Add ∷ op.Sub ∷ op.Min ∷ op.Max ∷ op.Ldb ∷ op.Bit ∷ op.Eq ∷ op.Ne ∷ op.Lt ∷ op.Le ∷ []) n op.And
+operation_at n = slice_index_or (op.And ∷ op.Or ∷ op.Xor ∷ op.Shl ∷ op.Shr ∷ op.Add ∷ op.Sub ∷ op.Min ∷ op.Max ∷ op.Ldb
+    ∷ op.Bit ∷ op.Eq ∷ op.Ne ∷ op.Lt ∷ op.Le ∷ []) n op.And
 
 pub operation_at-number_of : (o : BinOp) → operation_at (number_of o) ≡ o
 operation_at-number_of op.And = refl

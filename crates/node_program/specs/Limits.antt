@@ -1,6 +1,7 @@
 -- The limits that the type of a program keeps.
 use Rattle.std.specs.Prelude.{◌≡◌, ◌^◌, ◌<◌, ◌≤◌, List, length, All, sum_by}
-use Rattle.node_program.specs.declared.limits.TheConstants.{MAX_CHANNELS, MAX_DEPTH, MAX_NODES, MAX_REGISTERS, MAX_ROUNDS}
+use Rattle.node_program.specs.declared.limits.TheConstants.{MAX_CHANNELS, MAX_DEPTH, MAX_NODES}
+use Rattle.node_program.specs.declared.limits.TheConstants.{MAX_REGISTERS, MAX_ROUNDS}
 use Rattle.node_program.specs.Term.{Term, ProgramTree, term_of, depth, size, largest, largest_register, terms}
 use Rattle.node_program.specs.declared.tree.Expr.{Expr}
 use Rattle.node_program.specs.declared.tree.Round as code

@@ -1,11 +1,13 @@
 -- Numbers in decimal, and the byte that ends them.
-use Rattle.std.proofs.Common.{◌≡◌, ℕ, zero, suc, ◌^◌, ◌<◌, true, false, nat_lt, ◌&&◌, ◌==◌, List, [], ◌∷◌, ◌++◌, length, get_or, drop, slice_index, refl, sym, ap, ◌∙◌, arith}
+use Rattle.std.proofs.Common.{◌≡◌, ℕ, zero, suc, ◌^◌, ◌<◌, true, false, nat_lt, ◌&&◌, ◌==◌, List, [], ◌∷◌, ◌++◌, length}
+use Rattle.std.proofs.Common.{get_or, drop, slice_index, refl, sym, ap, ◌∙◌, arith}
 use Rattle.std.specs.Fmt.{decimal}
 use Rattle.std.specs.Str.Parse.{AllDigits, IsNumeral, digits_value}
 use Rattle.std.proofs.lemmas.Bool.{and_parts, eqb-true}
 use Rattle.std.proofs.lemmas.Bool.Decides.{nat_tests}
 use Rattle.std.proofs.lemmas.List.{append_cancel_left}
-use Rattle.std.proofs.lemmas.Fmt.{decimal_is_IsNumeral, decimal_digit, first_decimal, decimal_injective, decimal-digits_value}
+use Rattle.std.proofs.lemmas.Fmt.{decimal_is_IsNumeral, decimal_digit, first_decimal}
+use Rattle.std.proofs.lemmas.Fmt.{decimal_injective, decimal-digits_value}
 use Rattle.std.proofs.lemmas.Str.Parse.{digit_from_value, numerals_by_value, tells_digits}
 use Rattle.numerals.specs.Bytes.{Lacks}
 
@@ -18,7 +20,8 @@ one_zero zero small first = ap length (decimal_digit 0 (omega arith))
 one_zero (suc n) small first = absurd (omega (arith, first_decimal (suc n) (omega arith) (omega arith), first))
 
 -- a word with a leading zero is not a number
-pub padded_word : (word : List ℕ) (n : ℕ) → (nat_lt 1 (length word) && (slice_index word 0 == 48)) ≡ true → n < 2 ^ 32 → word ≡ decimal n → ⊥
+pub padded_word : (word : List ℕ) (n : ℕ) → (nat_lt 1 (length word) && (slice_index word 0 == 48)) ≡ true → n < 2 ^ 32
+    → word ≡ decimal n → ⊥
 padded_word word n padded small same =
     let parts = and_parts (nat_lt 1 (length word)) (slice_index word 0 == 48) padded in
     let zero_first = ap (λ w. get_or w 0 0) (sym same) ∙ eqb-true (slice_index word 0) 48 parts.1 in
@@ -26,7 +29,8 @@ padded_word word n padded small same =
     grind (arith, nat_tests)
 
 -- the digits of a number have it as their value
-pub value-decimal : (word : List ℕ) (n : ℕ) → n < 2 ^ 32 → word ≡ decimal n → IsNumeral 10 word × (digits_value 10 word ≡ n)
+pub value-decimal : (word : List ℕ) (n : ℕ) → n < 2 ^ 32 → word ≡ decimal n
+    → IsNumeral 10 word × (digits_value 10 word ≡ n)
 value-decimal word n small same = rw same (decimal_is_IsNumeral n (omega arith))
 
 -- digits are a number without leading zeros, if they have none
@@ -53,7 +57,8 @@ no_cut end [] rest lacks = lacks.0 refl
 no_cut end (x ∷ front) rest lacks = no_cut end front rest lacks.1
 
 -- a text is cut in one way at the first byte of a value
-pub one_cut : (end : ℕ) (a b xs ys : List ℕ) → Lacks end a → Lacks end b → a ++ end ∷ xs ≡ b ++ end ∷ ys → (a ≡ b) × (xs ≡ ys)
+pub one_cut : (end : ℕ) (a b xs ys : List ℕ) → Lacks end a → Lacks end b → a ++ end ∷ xs ≡ b ++ end ∷ ys
+    → (a ≡ b) × (xs ≡ ys)
 one_cut end [] [] xs ys p q same = (refl, ap (drop 1) same)
 one_cut end [] (y ∷ b) xs ys p q same = absurd (q.0 (sym (ap (λ l. get_or l 0 0) same)))
 one_cut end (x ∷ a) [] xs ys p q same = absurd (p.0 (ap (λ l. get_or l 0 0) same))
@@ -66,7 +71,8 @@ one_cut end (x ∷ a) (y ∷ b) xs ys p q same =
 pub number_once : (end m n : ℕ) (xs ys : List ℕ) → end < 48 → m < 2 ^ 32 → n < 2 ^ 32
     → decimal m ++ end ∷ xs ≡ decimal n ++ end ∷ ys → (m ≡ n) × (xs ≡ ys)
 number_once end m n xs ys small p q same =
-    let cut = one_cut end (decimal m) (decimal n) xs ys (lacks_decimal end m small p) (lacks_decimal end n small q) same in
+    let cut = one_cut end (decimal m) (decimal n) xs ys (lacks_decimal end m small p)
+    (lacks_decimal end n small q) same in
     (decimal_injective m n (omega arith) (omega arith) cut.0, cut.1)
 
 -- the text after a name begins with one number

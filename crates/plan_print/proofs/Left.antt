@@ -19,7 +19,8 @@ use Rattle.plan_print.specs.Notes.{has_note, IsNote, IsNoteOn, IsToldIf}
 use Rattle.plan_print.specs.TaskReport.{IsReport}
 
 -- of bytes that are those of what was found
-pub left_of : (format : Format) (input : List ℕ) (f : Finding) (bytes : List ℕ) (before after : Option (List ℕ)) (e : EngineFault)
+pub left_of : (format : Format) (input : List ℕ) (f : Finding) (bytes : List ℕ) (before after : Option (List ℕ))
+    (e : EngineFault)
     → AreBytes format input f bytes → LeavesFront bytes before after e → LeavesPrefix format input f before after e
 left_of format input f bytes before after fault.Read are left = left
 left_of format input f bytes before after fault.Write are left = record { bytes = bytes; are = are; appended = left }
@@ -29,15 +30,18 @@ left_of format input f bytes before after fault.Stranger are left = left
 
 -- of the report of a task
 pub left_after : (format : Format) (task : Task) (s : Streams) (input : List ℕ) (f : Finding) (e : EngineFault)
-    → GivesInput s.unread s.left (max_read task) input → IsReport task input f → LeavesPrefix format input f s.before s.after e → LeavesOutput format task s e
+    → GivesInput s.unread s.left (max_read task) input → IsReport task input f
+    → LeavesPrefix format input f s.before s.after e → LeavesOutput format task s e
 left_after format task s input f fault.Read read is left = left
-left_after format task s input f fault.Write read is left = record { input = input; read = read; report = f; is_report = is; written = left }
+left_after format task s input f fault.Write read is left =
+    record { input = input; read = read; report = f; is_report = is; written = left }
 left_after format task s input f fault.Memory read is left = left
 left_after format task s input f fault.Thread read is left = left
 left_after format task s input f fault.Stranger read is left = left
 
 -- a note for which there was memory is a note on what was found
-told : (has : Bool) (is : List ℕ → Type 0) (note : String Global) → IsToldIf has is (Some (Ok note)) → (has ≡ true) × is (string_bytes note)
+told : (has : Bool) (is : List ℕ → Type 0) (note : String Global) → IsToldIf has is (Some (Ok note))
+    → (has ≡ true) × is (string_bytes note)
 told true is note said = (refl, said)
 told false is note said = absurd cc
 
@@ -45,15 +49,18 @@ untold : (has : Bool) (is : List ℕ → Type 0) → IsToldIf has is None → ha
 untold true is said = absurd said
 untold false is said = refl
 
-pub note_is : (input : List ℕ) (f : Finding) (note : Option (Result (String Global) OutOfMemory)) → IsNoteOn input f note → HasMemory note
+pub note_is : (input : List ℕ) (f : Finding) (note : Option (Result (String Global) OutOfMemory))
+    → IsNoteOn input f note → HasMemory note
     → IsNoteOf input f (told_text note)
 note_is input f None said memory = untold (has_note f) (IsNote input f) said
 note_is input f (Some (Ok note)) said memory = told (has_note f) (IsNote input f) note said
 note_is input f (Some (Err _)) said memory = absurd memory
 
 -- writing the JSON of what was found, with a note on it
-pub json_writes : (input : List ℕ) (f : Finding) (note : Option (List ℕ)) (before after : Option (List ℕ)) (failed : Bool)
-    (result : Result (Unit {0}) EngineFault) → IsNoteOf input f note → WritesBytes (json_bytes input f note) before after failed result
+pub json_writes : (input : List ℕ) (f : Finding) (note : Option (List ℕ)) (before after : Option (List ℕ))
+    (failed : Bool)
+    (result : Result (Unit {0}) EngineFault) → IsNoteOf input f note
+    → WritesBytes (json_bytes input f note) before after failed result
     → OnOk result (IsReadBack input f note) → Writes Json input f before after failed result
 json_writes input f note before after failed (Ok done) is w read = record {
   written = record { bytes = json_bytes input f note; are = (note, is, refl, read); appended = w.written };

@@ -1,12 +1,14 @@
 -- The effect of the engine on its reader and its writer.
-use Rattle.std.specs.Prelude.{◌≡◌, ◌≢◌, ◌↔◌, ◌+◌, ◌≤◌, ℕ, Bool, List, Option, Result, IfErr, IfOk, IsErrOf, IsTrue, OnErr}
+use Rattle.std.specs.Prelude.{◌≡◌, ◌≢◌, ◌↔◌, ◌+◌, ◌≤◌, ℕ, Bool, List, Option, Result, IfErr, IfOk, IsErrOf}
+use Rattle.std.specs.Prelude.{IsTrue, OnErr}
 use Rattle.std.specs.Io.KnownBytes.{Keeps}
 use Rattle.devices.specs.declared.fault.EngineFault.{EngineFault}
 use Rattle.devices.specs.declared.fault.EngineFault.TheVariants.{Read, Write}
 use Rattle.reports.specs.declared.status.Status.{Status}
 use Rattle.task_words.specs.declared.format.Format.{Format}
 use Rattle.task_words.specs.declared.task.Task.{Task}
-use Rattle.task_words.specs.declared.task.Task.TheVariants.{Table, Judge, Run, Plan, Audit, Apply, Migrate, Formula, Refute}
+use Rattle.task_words.specs.declared.task.Task.TheVariants.{Table, Judge, Run, Plan, Audit, Apply, Migrate}
+use Rattle.task_words.specs.declared.task.Task.TheVariants.{Formula, Refute}
 use Rattle.node_lang.specs.declared.limits.TheConstants.{LONGEST_TEXT}
 use Rattle.table_text.specs.declared.limits.TheConstants.{LONGEST_TABLE_TEXT}
 use Rattle.table_formula.specs.declared.limits.TheConstants.{LONGEST_REFUTATION}
@@ -20,8 +22,8 @@ use Rattle.plan_print.specs.Formats.{WritesAll, WritesPrefix}
 use Rattle.plan_print.specs.Notes.{IsNoteOn}
 use Rattle.plan_print.specs.declared.engine.Reported.{Reported}
 
--- the maximum number of bytes that are read of the input of a task: one more than the length of the longest text that the
--- task is on, so that a longer one is noticed, or none if it is on no text
+-- the maximum number of bytes that are read of the input of a task: one more than the length of the longest text
+-- that the task is on, so that a longer one is noticed, or none if it is on no text
 abbrev pub max_read : Task → ℕ
 max_read (Audit problem) = LONGEST_TABLE_TEXT + 1
 max_read (Apply places) = LONGEST_TABLE_TEXT + 1
@@ -30,8 +32,9 @@ max_read (Formula ids rounds channels demand) = 0
 max_read (Refute ids rounds channels demand) = LONGEST_REFUTATION + 1
 max_read _ = LONGEST_TEXT + 1
 
--- What a call does with its reader and its writer: what the reader has left before and after it, what the writer has before
--- and after it, how often the reader was called before and after it, and whether a read or a write has failed.
+-- What a call does with its reader and its writer: what the reader has left before and after it, what the writer
+-- has before and after it, how often the reader was called before and after it, and whether a read or a write has
+-- failed.
 pub record Streams : Type 0 where
   pub unread : Option (List ℕ)
   pub left : Option (List ℕ)
@@ -43,7 +46,8 @@ pub record Streams : Type 0 where
   pub write_failed : Bool
 
 -- those of a reader and a writer as they were and as they are now, by what a reader has left and what a writer has
-abbrev pub streams_of : {R W : Type 0} → (R → Option (List ℕ)) → (W → Option (List ℕ)) → Watched R → Watched R → Watched W → Watched W → Streams
+abbrev pub streams_of : {R W : Type 0} → (R → Option (List ℕ)) → (W → Option (List ℕ)) → Watched R → Watched R
+    → Watched W → Watched W → Streams
 streams_of remaining contents reader reader_now writer writer_now = record {
   unread = remaining (device_of reader);
   left = remaining (device_of reader_now);
@@ -77,8 +81,8 @@ pub record WritesFront (format : Format) (task : Task) (s : Streams) : Type 0 wh
   pub is_report : IsReport task input report
   pub written : WritesPrefix format input report s.before s.after
 
--- what a fault leaves in the writer: after Write a prefix of the report of the task on the input that was read, after each
--- other fault nothing
+-- what a fault leaves in the writer: after Write a prefix of the report of the task on the input that was read,
+-- after each other fault nothing
 abbrev pub LeavesOutput : Format → Task → Streams → EngineFault → Type 0
 LeavesOutput format task s Write = WritesFront format task s
 LeavesOutput format task s _ = Keeps s.before s.after
@@ -96,10 +100,12 @@ thread_count_of (Run ids ring segments) = segments
 thread_count_of (Plan ids ring workers) = workers
 thread_count_of _ = 0
 
--- A call does a task, with its report in a format: with a report it `tells` what was written; a fault leaves in the writer what it leaves, and has taken
--- no more than is read of an input, in as many reads at most; a fault of threads is only of a task that has some; and a
--- fault of the reader or of the writer is told exactly if there was one.
-pub record DoesTask {T : Type 0} (format : Format) (task : Task) (s : Streams) (tells : Format → Task → Streams → T → Type 0) (result : Result T EngineFault) : Type 0 where
+-- A call does a task, with its report in a format: with a report it `tells` what was written; a fault leaves in the
+-- writer what it leaves, and has taken no more than is read of an input, in as many reads at most; a fault of
+-- threads is only of a task that has some; and a fault of the reader or of the writer is told exactly if there was
+-- one.
+pub record DoesTask {T : Type 0} (format : Format) (task : Task) (s : Streams) (tells : Format → Task → Streams → T
+    → Type 0) (result : Result T EngineFault) : Type 0 where
   pub report : IfOk result (tells format task s)
   pub left : IfErr result (LeavesOutput format task s)
   pub taken : OnErr result (TakesFront s.unread s.left (max_read task))

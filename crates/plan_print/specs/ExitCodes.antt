@@ -38,7 +38,8 @@ IsAnswerFor task answer = MatchResult answer (IsReportedOf task) (MayHave (threa
 
 -- the status after a task is that of a result of the engine for it
 abbrev pub IsStatusOf : Task → ℕ → Type 0
-IsStatusOf task status = (answer : Result Reported EngineFault) × IsAnswerFor task answer × (status ≡ reported_code answer)
+IsStatusOf task status = (answer : Result Reported EngineFault) × IsAnswerFor task answer
+    × (status ≡ reported_code answer)
 
 -- the status after words that give no task: that of their fault, and after help that of writing it
 abbrev pub IsStatusAfter : WordsFault → ℕ → Type 0
@@ -50,9 +51,11 @@ IsStatusAfter OutOfMemory status = status ≡ words_fault_code OutOfMemory
 
 -- the status after words that were parsed: that of the task that is requested, or that of the fault
 abbrev pub IsStatusFor : Result Request WordsFault → ℕ → Type 0
-IsStatusFor parsed status = MatchResult parsed (λ request. IsStatusOf request.task status) (λ fault. IsStatusAfter fault status)
+IsStatusFor parsed status = MatchResult parsed (λ request. IsStatusOf request.task status)
+    (λ fault. IsStatusAfter fault status)
 
 -- the status is one after some words: of a task that they request and that can be done, or of their fault
 abbrev pub IsExitStatus : ℕ → Type 0
 IsExitStatus status =
-    (parsed : Result Request WordsFault) × IsParsed parsed × IfOk parsed (λ request. IsRunnable request.task) × IsStatusFor parsed status
+    (parsed : Result Request WordsFault) × IsParsed parsed × IfOk parsed (λ request. IsRunnable request.task)
+    × IsStatusFor parsed status

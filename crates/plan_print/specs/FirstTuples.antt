@@ -22,13 +22,15 @@ first_count plan s = min FIRST_TUPLES (length (tuples (plan_table plan) s))
 abbrev pub IsFirstBad : ProgramForIds → Separation → List ℕ → Type 0
 IsFirstBad plan s ring = (number : ℕ) × IsLeastBad (plan_table plan) s 0 number ring × (number < first_count plan s)
 
--- the number of tuples that are judged for a problem before the table is filled: FIRST_TUPLES, or all if there are fewer
+-- the number of tuples that are judged for a problem before the table is filled: FIRST_TUPLES, or all if there are
+-- fewer
 abbrev pub first_pattern_count : ProgramForIds → List Pattern → ℕ
 first_pattern_count plan problem = min FIRST_TUPLES (length (problems.tuples (plan_table plan) problem))
 
--- the ring is that of the least bad tuple of the table for a problem, and that is one of those that are judged before the table is
--- filled
+-- the ring is that of the least bad tuple of the table for a problem, and that is one of those that are judged
+-- before the table is filled
 abbrev pub IsFirstBroken : ProgramForIds → List Pattern → List ℕ → Type 0
 IsFirstBroken plan problem ring =
-    (number : ℕ) × (tuple : List ℕ) × problems.IsLeastBad (plan_table plan) problem 0 number tuple × (ring ≡ ring_of tuple)
+    (number : ℕ) × (tuple : List ℕ) × problems.IsLeastBad (plan_table plan) problem 0 number tuple
+    × (ring ≡ ring_of tuple)
     × (number < first_pattern_count plan problem)

@@ -1,5 +1,6 @@
 -- The bytes of a report in a format, and what writing it leaves.
-use Rattle.std.specs.Prelude.{◌≡◌, ◌≢◌, ◌↔◌, ℕ, Bool, true, false, List, Option, Some, None, Result, Ok, Err, String, IfErr, IsErrOf, IsTrue, OnOk, ⊤, string_bytes}
+use Rattle.std.specs.Prelude.{◌≡◌, ◌≢◌, ◌↔◌, ℕ, Bool, true, false, List, Option, Some, None, Result, Ok, Err, String}
+use Rattle.std.specs.Prelude.{IfErr, IsErrOf, IsTrue, OnOk, ⊤, string_bytes}
 use Rattle.std.specs.declared.alloc.Global.{Global}
 use Rattle.std.specs.Io.KnownBytes.{Appends, Keeps}
 use Rattle.node_program.specs.declared.memory.OutOfMemory.{OutOfMemory}
@@ -40,7 +41,8 @@ AreBytes Json input f bytes = (note : Option (List ℕ)) × IsNoteOf input f not
 -- the same, and in JSON a reader finds what was found
 abbrev pub AreReadable : Format → List ℕ → Finding → List ℕ → Type 0
 AreReadable Lines input f bytes = bytes ≡ bytes_of f
-AreReadable Json input f bytes = (note : Option (List ℕ)) × IsNoteOf input f note × (bytes ≡ json_bytes input f note) × IsReadBack input f note
+AreReadable Json input f bytes = (note : Option (List ℕ)) × IsNoteOf input f note × (bytes ≡ json_bytes input f note)
+    × IsReadBack input f note
 
 -- what was found was written
 pub record WritesAll (format : Format) (input : List ℕ) (f : Finding) (before after : Option (List ℕ)) : Type 0 where
@@ -59,9 +61,10 @@ abbrev pub LeavesPrefix : Format → List ℕ → Finding → (before after : Op
 LeavesPrefix format input f before after Write = WritesPrefix format input f before after
 LeavesPrefix format input f before after _ = Keeps before after
 
--- What writing what was found does: with Ok it was written; a fault leaves in the writer what it leaves, and is no fault of a read or
--- of threads; it is Write exactly if a write failed.
-pub record Writes {T : Type 0} (format : Format) (input : List ℕ) (f : Finding) (before after : Option (List ℕ)) (failed : Bool) (result : Result T EngineFault) : Type 0 where
+-- What writing what was found does: with Ok it was written; a fault leaves in the writer what it leaves, and is no
+-- fault of a read or of threads; it is Write exactly if a write failed.
+pub record Writes {T : Type 0} (format : Format) (input : List ℕ) (f : Finding) (before after : Option (List ℕ))
+    (failed : Bool) (result : Result T EngineFault) : Type 0 where
   pub written : OnOk result (WritesAll format input f before after)
   pub left : IfErr result (LeavesPrefix format input f before after)
   pub unread : IfErr result (λ fault. fault ≢ Read)

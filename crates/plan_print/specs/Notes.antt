@@ -1,5 +1,6 @@
 -- The note on a finding.
-use Rattle.std.specs.Prelude.{◌≡◌, ◌≢◌, ℕ, zero, ◌≤◌, Bool, true, false, List, Option, Some, None, Result, Ok, Err, String, ⊤, codes, string_bytes}
+use Rattle.std.specs.Prelude.{◌≡◌, ◌≢◌, ℕ, zero, ◌≤◌, Bool, true, false, List, Option, Some, None, Result, Ok, Err}
+use Rattle.std.specs.Prelude.{String, ⊤, codes, string_bytes}
 use Rattle.std.specs.declared.alloc.Global.{Global}
 use Rattle.node_program.specs.declared.limits.TheConstants.{MAX_ROUNDS}
 use Rattle.node_program.specs.declared.memory.OutOfMemory.{OutOfMemory}
@@ -15,7 +16,8 @@ use Rattle.table_notes.specs.RingNotes.{place_note, ring_note, segments_note}
 use Rattle.table_notes.specs.TableNotes.{IsTableNote}
 use Rattle.table_notes.specs.VerdictNotes.{no_tuples_note, verdict_note, HasPlaces}
 use Rattle.table_formula.specs.declared.refutation.fault.RefuteError.TheVariants as refute
-use Rattle.reports.specs.Findings.{Fault, of_text, of_program, of_ring, of_place, of_segments, of_table_text, of_formula, of_refutation, Finding, refused}
+use Rattle.reports.specs.Findings.{Fault, of_text, of_program, of_ring, of_place, of_segments, of_table_text}
+use Rattle.reports.specs.Findings.{of_formula, of_refutation, Finding, refused}
 use Rattle.reports.specs.Findings as value
 use Rattle.table_formula.specs.RefutationNotes.{IsRefutationNote}
 use Rattle.reports.specs.declared.problem.ProblemFault.{ProblemFault}
@@ -59,7 +61,8 @@ abbrev pub told_on : Finding → Told
 told_on (refused f) = on_fault f
 told_on (value.no s ring places channels) = this (verdict_note ring places channels)
 told_on (value.yes zero nodes ids) = this (no_tuples_note nodes ids)
-told_on (value.broken ring place channels pattern known idle) = this (broken_note ring place channels pattern known idle)
+told_on (value.broken ring place channels pattern known idle) = this
+    (broken_note ring place channels pattern known idle)
 told_on (value.solved tuples (Some idle)) = this (idle_note idle)
 told_on _ = nothing
 
@@ -93,8 +96,8 @@ IsToldIf false is note = note ≡ None
 abbrev pub IsNoteOn : List ℕ → Finding → Option (Result (String Global) OutOfMemory) → Type 0
 IsNoteOn input f note = IsToldIf (has_note f) (IsNote input f) note
 
--- The fault is found in this input: that of a text is one of it. That of a list of identifiers is its own; a formula is of
--- few rounds. OutOfMemory is no fault of a refutation.
+-- The fault is found in this input: that of a text is one of it. That of a list of identifiers is its own; a
+-- formula is of few rounds. OutOfMemory is no fault of a refutation.
 abbrev pub IsFaultOf : List ℕ → Fault → Type 0
 IsFaultOf input (of_text k offset) = FaultsAt input k offset
 IsFaultOf input (of_ring m t places f) = (t ≤ MAX_ROUNDS) × IsFirstFault m t places f

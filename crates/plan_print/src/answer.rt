@@ -9,7 +9,8 @@ ghost use Rattle.plan_print.specs.ReportedFaults.{reported_fill_fault, reported_
 ghost use Rattle.node_program.specs.GlobalRounds.{channels_of};
 ghost use Rattle.reports.specs.Findings as value;
 ghost use Rattle.reports.specs.Findings.{value_of};
-ghost use Rattle.reports.specs.Report.{Finds, IsAnswerOnRing, IsDemandJudgement, IsJudgement, IsProblemJudgement, IsRunAnswer};
+ghost use Rattle.reports.specs.Report.{Finds, IsAnswerOnRing, IsDemandJudgement, IsJudgement};
+ghost use Rattle.reports.specs.Report.{IsProblemJudgement, IsRunAnswer};
 
 use crate::first_broken::first_broken;
 use crate::first_tuples::first_witness;
@@ -134,7 +135,8 @@ fn problem_report<T: Threads + Wait + Sync>(
     workers: u32,
 ) -> Result<Finding, EngineFault>
     requires { IsCount workers }
-    ensures answer { IfOk result (λ f. IsProblemJudgement (table_of plan.now.program plan.now.ids) problem.now (value_of f)) }
+    ensures answer { IfOk result
+        (λ f. IsProblemJudgement (table_of plan.now.program plan.now.ids) problem.now (value_of f)) }
     ensures fault { IfErr result (IsTaskFault workers) }
 {
     if let Some(witness) = first_broken(alloc, plan, problem.patterns())? {

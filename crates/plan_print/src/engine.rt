@@ -46,7 +46,8 @@ pub fn engine<T: Threads + Wait + Sync, R: Read, W: Write>(
     requires runnable { IsRunnable task }
     requires reads { has_failed reader.old ≡ false }
     requires writes { has_failed writer.old ≡ false }
-    ensures { DoesTask Lines task (streams_of R.remaining W.contents reader.old reader.new writer.old writer.new) WritesReport result }
+    ensures { DoesTask Lines task (streams_of R.remaining W.contents reader.old reader.new writer.old writer.new)
+        WritesReport result }
 {
     let request = Request {
         task,
@@ -80,7 +81,8 @@ pub fn engine_with_note<T: Threads + Wait + Sync, R: Read, W: Write>(
     requires runnable { IsRunnable request.task }
     requires reads { has_failed reader.old ≡ false }
     requires writes { has_failed writer.old ≡ false }
-    ensures { DoesTask request.format request.task (streams_of R.remaining W.contents reader.old reader.new writer.old writer.new) TellsReport result }
+    ensures { DoesTask request.format request.task
+        (streams_of R.remaining W.contents reader.old reader.new writer.old writer.new) TellsReport result }
 {
     one_witness();
     let Request { task, format } = request;

@@ -24,8 +24,11 @@ pub(crate) fn first_broken(
 ) -> Result<Option<PatternWitness>, OutOfMemory>
     ensures witness { IfOk result (λ found. IfSome found (λ witness. IsWitness (plan_table plan.now) problem.now
         witness.ring.items witness.place witness.channels witness.pattern)) }
-    ensures first { IfOk result (λ found. IfSome found (λ witness. IsFirstBroken plan.now problem.now witness.ring.items)) }
-    ensures none { IfOk result (λ found. IfNone found (NoneIsBad (plan_table plan.now) problem.now 0 (first_pattern_count plan.now problem.now))) }
+    ensures first { IfOk result
+        (λ found. IfSome found (λ witness. IsFirstBroken plan.now problem.now witness.ring.items)) }
+    ensures none { IfOk result
+        (λ found. IfNone found (NoneIsBad (plan_table plan.now) problem.now 0
+        (first_pattern_count plan.now problem.now))) }
     ensures memory { OnErr result (¬ IsSolvedEverywhere (plan_table plan.now) problem.now) }
 {
     let windows = ProgramWindows { plan };

@@ -27,7 +27,8 @@ pub(crate) fn first_witness(
     ensures witness { IfOk result (λ found. IfSome found (λ witness. IsWitness (plan_table plan.now) separation
         witness.ring.items witness.places witness.channels)) }
     ensures first { IfOk result (λ found. IfSome found (λ witness. IsFirstBad plan.now separation witness.ring.items)) }
-    ensures none { IfOk result (λ found. IfNone found (NoneIsBad (plan_table plan.now) separation 0 (first_count plan.now separation))) }
+    ensures none { IfOk result
+        (λ found. IfNone found (NoneIsBad (plan_table plan.now) separation 0 (first_count plan.now separation))) }
     ensures memory { OnErr result (¬ IsApartEverywhere (plan_table plan.now) separation) }
 {
     let windows = ProgramWindows { plan };

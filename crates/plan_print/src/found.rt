@@ -45,7 +45,8 @@ impl Found<'_> {
     ) -> Result<Option<Result<String, OutOfMemory>>, EngineFault>
         requires found { IsFound self.now.input.now (value_of self.now.finding.now) }
         requires writes { has_failed writer.old ≡ false }
-        ensures writes { Writes format self.now.input.now (value_of self.now.finding.now) (W.contents (device_of writer.old)) (W.contents (device_of writer.new)) (has_failed writer.new) result }
+        ensures writes { Writes format self.now.input.now (value_of self.now.finding.now)
+            (W.contents (device_of writer.old)) (W.contents (device_of writer.new)) (has_failed writer.new) result }
         ensures note { IfOk result (IsNoteOn self.now.input.now (value_of self.now.finding.now)) }
     {
         match format {
@@ -71,7 +72,8 @@ impl Found<'_> {
     ) -> Result<(), EngineFault>
         requires note { IsNoteOn self.now.input.now (value_of self.now.finding.now) note.now }
         requires writes { has_failed writer.old ≡ false }
-        ensures { Writes Json self.now.input.now (value_of self.now.finding.now) (W.contents (device_of writer.old)) (W.contents (device_of writer.new)) (has_failed writer.new) result }
+        ensures { Writes Json self.now.input.now (value_of self.now.finding.now) (W.contents (device_of writer.old))
+            (W.contents (device_of writer.new)) (has_failed writer.new) result }
     {
         let note = text_of(note)?;
         let report = Report {

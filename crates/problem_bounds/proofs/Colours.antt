@@ -1,5 +1,7 @@
 -- Solutions as colours.
-use Rattle.std.proofs.Common.{◌≡◌, ◌≢◌, ◌==◌, ℕ, zero, suc, ◌+◌, ◌-◌, ◌*◌, ◌<◌, ◌≤◌, Bool, true, false, cond, List, Option, Some, None, IsSome, IfSome, option_map, unwrap_or, length, take, slice_index, refl, sym, ap, ◌∙◌, arith, add-zero}
+use Rattle.std.proofs.Common.{◌≡◌, ◌≢◌, ◌==◌, ℕ, zero, suc, ◌+◌, ◌-◌, ◌*◌, ◌<◌, ◌≤◌, Bool, true, false, cond, List}
+use Rattle.std.proofs.Common.{Option, Some, None, IsSome, IfSome, option_map, unwrap_or, length, take, slice_index}
+use Rattle.std.proofs.Common.{refl, sym, ap, ◌∙◌, arith, add-zero}
 use Rattle.std.proofs.lemmas.Bool.{false≢true, eqb-true, eq-eqb}
 use Rattle.win_index.specs.Arcs.{arc, window_around, part_at}
 use Rattle.win_index.specs.Ring.{IsRing}
@@ -35,8 +37,11 @@ below_more : (less more : ℕ) (o : Option ℕ) → less ≤ more → IfSome o (
 below_more less more None le below = tt
 below_more less more (Some c) le below = omega (arith, le, below)
 
-channel_below : (t : ChannelTable) (channels : ℕ) (list : List ℕ) → IsFull t → t.channels ≤ channels → IfSome (channel_of t list) (λ c. c < channels)
-channel_below t channels list is le = below_more t.channels channels (channel_of t list) le (below_at t is list (number_of (2 * t.rounds + 1) t.ids list) refl)
+channel_below : (t : ChannelTable) (channels : ℕ) (list : List ℕ) → IsFull t → t.channels ≤ channels
+    → IfSome (channel_of t list) (λ c. c < channels)
+channel_below t channels list is le =
+    below_more t.channels channels (channel_of t list) le
+    (below_at t is list (number_of (2 * t.rounds + 1) t.ids list) refl)
 
 -- a channel that there is
 is_value : (o : Option ℕ) → IsSome o → o ≡ Some (unwrap_or o 0)
@@ -69,8 +74,8 @@ matchings need t is few good =
 abbrev is_in : Option ℕ → Bool
 is_in o = unwrap_or o 0 == 1
 
--- the colour of a place, by its channel and that of its right neighbour: 0 in the set, 1 to the left of a place in the set,
--- 2 else
+-- the colour of a place, by its channel and that of its right neighbour: 0 in the set, 1 to the left of a place in
+-- the set, 2 else
 abbrev chosen : Bool → Bool → ℕ
 chosen p q = cond p 0 (cond q 1 2)
 
@@ -114,7 +119,8 @@ part_of_wider ring r place s le long =
 
 -- the colour of a window of one more round
 abbrev colour_of : ChannelTable → List ℕ → ℕ
-colour_of t window = colour (channel_of t (part_at t.rounds (1 + 0) window)) (channel_of t (part_at t.rounds (1 + 1) window))
+colour_of t window = colour (channel_of t (part_at t.rounds (1 + 0) window))
+    (channel_of t (part_at t.rounds (1 + 1) window))
 
 shorter : (m t : ℕ) (ring : List ℕ) → IsRing m (t + 1) ring → IsRing m t ring
 shorter m t ring is = let long = is.long in record { long = omega arith; short = is.short; below = is.below; distinct = is.distinct }
@@ -130,14 +136,16 @@ independent_sets need t is few good =
     let at' : ℕ → Option ℕ = λ k. channel_of t (window_around ring r k) in
     let some : (k : ℕ) → IsSome (at' k) = λ k. channel_around t ring k on in
     let below : (k : ℕ) → IfSome (at' k) (λ x. x < 2) = λ k. channel_below t 2 (window_around ring r k) is few in
-    let wider : (k s : ℕ) → s ≤ 1 → channel_of t (part_at r (1 + s) (window_around ring (r + 1) k)) ≡ at' (k + s) = λ k s le.
+    let wider : (k s : ℕ) → s ≤ 1
+    → channel_of t (part_at r (1 + s) (window_around ring (r + 1) k)) ≡ at' (k + s) = λ k s le.
     ap (channel_of t) (part_of_wider ring r k s le (omega arith)) in
     let here : colour_of t (window_around ring (r + 1) place) ≡ colour (at' (place + 0)) (at' (place + 1)) = λ i.
     colour (wider place 0 (omega arith) i) (wider place 1 (omega arith) i) in
     let next : place + 1 + 0 ≡ place + 1 = omega arith in
     let after : place + 1 + 1 ≡ place + 2 = omega arith in
     let there : colour_of t (window_around ring (r + 1) (place + 1)) ≡ colour (at' (place + 1)) (at' (place + 2)) =
-    (λ i. colour (wider (place + 1) 0 (omega arith) i) (wider (place + 1) 1 (omega arith) i)) ∙ (λ i. colour (at' (next i)) (at' (after i))) in
+    (λ i. colour (wider (place + 1) 0 (omega arith) i) (wider (place + 1) 1 (omega arith) i))
+    ∙ (λ i. colour (at' (next i)) (at' (after i))) in
     let not_bad = good ring place on within in
     differ (is_in (at' (place + 0))) (is_in (at' (place + 1))) (is_in (at' (place + 2)))
     (λ p q. not_bad (1, next_to 1 1, refl, (in_is (at' (place + 0)) (some (place + 0)) p, in_is (at' (place + 1)) (some (place + 1)) q, tt)))

@@ -19,7 +19,8 @@ use Rattle.report_laws.proofs.ToldRounds.{answered_by, on_this_ring}
 yes_is_apart : (t : ChannelTable) (s : Separation) (f : Finding) → status_of f ≡ Done → IsJudgement t s f
     → IsApartEverywhere t s
 yes_is_apart t s f done (good apart is) = apart
-yes_is_apart t s f done (bad ring places channels witness is) = let both : No ≡ Done = sym (ap status_of is) ∙ done in cc
+yes_is_apart t s f done (bad ring places channels witness is) =
+    let both : No ≡ Done = sym (ap status_of is) ∙ done in cc
 
 module _ (texts_apart : TableTextsAreApart) (read : TableTextsAreRead) where
   -- what is found on the text of a table is that of this table

@@ -9,7 +9,8 @@ use Rattle.table_formula.specs.Formula.{variable_count, formula}
 use Rattle.table_formula.specs.declared.limits.TheConstants.{MAX_CLAUSES, MAX_VARIABLES}
 use Rattle.reports.specs.ProblemFaults.{HasFormula, IsProblemFault}
 use Rattle.reports.specs.declared.problem.ProblemFault.{ProblemFault}
-use Rattle.reports.specs.declared.problem.ProblemFault.TheVariants.{IdsOutOfRange, TooManyWindows, TooManyVariables, TooManyClauses}
+use Rattle.reports.specs.declared.problem.ProblemFault.TheVariants.{IdsOutOfRange, TooManyWindows}
+use Rattle.reports.specs.declared.problem.ProblemFault.TheVariants.{TooManyVariables, TooManyClauses}
 
 abbrev pub FormulaAnswer : Problem → Type 0
 FormulaAnswer p = HasFormula p ⊎ ((f : ProblemFault) × IsProblemFault p f)

@@ -1,5 +1,6 @@
 -- The channels of each table are apart everywhere, or there is a witness that they are not.
-use Rattle.std.proofs.Common.{◌≡◌, ℕ, zero, suc, ◌+◌, ◌*◌, ◌<◌, ◌≤◌, Option, Some, None, is_some, List, [], ◌∷◌, inl, inr, refl, ap, subst, sym, arith}
+use Rattle.std.proofs.Common.{◌≡◌, ℕ, zero, suc, ◌+◌, ◌*◌, ◌<◌, ◌≤◌, Option, Some, None, is_some, List, [], ◌∷◌, inl}
+use Rattle.std.proofs.Common.{inr, refl, ap, subst, sym, arith}
 use Rattle.std.specs.Prelude.{◌⊎◌, All, slice_get}
 use Rattle.std.specs.Int.{abs_diff}
 use Rattle.std.proofs.lemmas.Bool.{cases_lt}

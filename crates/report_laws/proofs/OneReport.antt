@@ -17,21 +17,26 @@ use Rattle.lang_check.specs.Laws.{OneRefusal, AcceptedProgramsHaveNoRefusal}
 use Rattle.channel_tables.specs.declared.separation.Separation.{Separation}
 use Rattle.channel_tables.specs.Laws.{OneWitness, ApartTablesHaveNoWitness}
 use Rattle.numerals.specs.declared.base.Base.{Base}
-use Rattle.reports.specs.Findings.{Fault, of_text, of_program, of_ring, of_table_text, of_formula, of_refutation, Finding, refused}
+use Rattle.reports.specs.Findings.{Fault, of_text, of_program, of_ring, of_table_text, of_formula, of_refutation}
+use Rattle.reports.specs.Findings.{Finding, refused}
 use Rattle.reports.specs.Findings as value
 use Rattle.reports.specs.Laws.{OneListOfChannels}
 use Rattle.ring_problems.specs.declared.problem.Problem.{Problem as Posed}
 use Rattle.ring_problems.specs.Demands.{known_in, patterns_of}
 use Rattle.ring_problems.specs.Idle.{idle_in}
 use Rattle.ring_problems.specs.Laws.{OneWitness as OneProblemWitness, SolvedTablesHaveNoWitness}
-use Rattle.reports.specs.Report.{Finds, IsRefusedOr, told, answered, IsJudgement, good, bad, IsProblemJudgement, solved, broken, IsAnswerOnRing, IsRunAnswer, IsExplainAnswer, IsTextRefusal, IsPrintReport, IsProgramRefusal, text_fault, check_fault, IsProgramReport, IsOnRingByTable, IsTableRefusal, IsTableReport}
+use Rattle.reports.specs.Report.{Finds, IsRefusedOr, told, answered, IsJudgement, good, bad, IsProblemJudgement, solved}
+use Rattle.reports.specs.Report.{broken, IsAnswerOnRing, IsRunAnswer, IsExplainAnswer, IsTextRefusal, IsPrintReport}
+use Rattle.reports.specs.Report.{IsProgramRefusal, text_fault, check_fault, IsProgramReport, IsOnRingByTable}
+use Rattle.reports.specs.Report.{IsTableRefusal, IsTableReport}
 use Rattle.table_formula.specs.Problems.{Problem}
 use Rattle.table_formula.specs.Refutations.{IsRefutation}
 use Rattle.table_formula.specs.RefutationLaws.{OneRefutationFault, RefutationsAreRight}
 use Rattle.reports.specs.FormulaReports.{IsFormulaRefusal, IsNoRefutation}
 use Rattle.reports.specs.ProblemFaults.{HasFormula, IsProblemFault, problem as numbered}
 use Rattle.reports.specs.declared.problem.ProblemFault.{ProblemFault}
-use Rattle.reports.specs.declared.problem.ProblemFault.TheVariants.{IdsOutOfRange, TooManyWindows, TooManyVariables, TooManyClauses}
+use Rattle.reports.specs.declared.problem.ProblemFault.TheVariants.{IdsOutOfRange, TooManyWindows}
+use Rattle.reports.specs.declared.problem.ProblemFault.TheVariants.{TooManyVariables, TooManyClauses}
 use Rattle.plan_print.proofs.Tasks.{AreFew, by_task}
 use Rattle.report_laws.specs.Laws.{OneReport}
 
@@ -53,13 +58,16 @@ one_of_two refusal answer one apart each f g (answered said) (answered said') = 
 
 one_judgement : OneWitness → ApartTablesHaveNoWitness → (t : ChannelTable) (d : Separation) → IsOne (IsJudgement t d)
 one_judgement one no_witness t d f g (good apart is) (good apart' is') = is ∙ sym is'
-one_judgement one no_witness t d f g (good apart is) (bad ring i c witness is') = absurd (no_witness t d ring i c apart witness)
-one_judgement one no_witness t d f g (bad ring i c witness is) (good apart is') = absurd (no_witness t d ring i c apart witness)
+one_judgement one no_witness t d f g (good apart is) (bad ring i c witness is') =
+    absurd (no_witness t d ring i c apart witness)
+one_judgement one no_witness t d f g (bad ring i c witness is) (good apart is') =
+    absurd (no_witness t d ring i c apart witness)
 one_judgement one no_witness t d f g (bad ring i c witness is) (bad other j e witness' is') =
     let same = one t d ring other i j c e witness witness' in
     is ∙ (λ k. value.no d (same.0 k) (same.1 k) (same.2 k)) ∙ sym is'
 
-one_problem_judgement : OneProblemWitness → SolvedTablesHaveNoWitness → (t : ChannelTable) (problem : Posed) → IsOne (IsProblemJudgement t problem)
+one_problem_judgement : OneProblemWitness → SolvedTablesHaveNoWitness → (t : ChannelTable) (problem : Posed)
+    → IsOne (IsProblemJudgement t problem)
 one_problem_judgement one no_witness t problem f g (solved everywhere is) (solved everywhere' is') = is ∙ sym is'
 one_problem_judgement one no_witness t problem f g (solved everywhere is) (broken ring i c p witness is') =
     absurd (no_witness t (patterns_of problem) ring i c p everywhere witness)
@@ -70,7 +78,8 @@ one_problem_judgement one no_witness t problem f g (broken ring i c p witness is
     is ∙ (λ k. value.broken (same.0 k) (same.1 k) (same.2 k) (same.3 k) (known_in problem) (idle_in (patterns_of problem) t.channels)) ∙ sym is'
 
 -- there is one finding on a list of identifiers, if there is one on a ring
-one_on_ring : OneRingFault → RingsHaveNoFault → (m t : ℕ) (x : List ℕ) (found : Finding → Type 0) → (IsRing m t x → IsOne found)
+one_on_ring : OneRingFault → RingsHaveNoFault → (m t : ℕ) (x : List ℕ) (found : Finding → Type 0)
+    → (IsRing m t x → IsOne found)
     → IsOne (IsAnswerOnRing m t x found)
 one_on_ring one no_fault m t x found each =
     one_of_two _ _ (λ a b p q. p.is ∙ ap (of_ring m t x) (one m t x p.what q.what p.first q.first) ∙ sym q.is)
@@ -103,12 +112,15 @@ one_print one_reading one_text_fault input =
     one_of_two _ _ (one_text_refusal one_text_fault input) (λ fault f none said. none.none said.0 said.1)
     (λ f g p q. p.2 ∙ ap value.program (one_reading input p.0 q.0 p.1 q.1) ∙ sym q.2)
 
-one_program_refusal : OneTextFault → OneReading → OneRefusal → (m : ℕ) (input : List ℕ) → IsOne (IsProgramRefusal m input)
+one_program_refusal : OneTextFault → OneReading → OneRefusal → (m : ℕ) (input : List ℕ)
+    → IsOne (IsProgramRefusal m input)
 one_program_refusal one_text_fault one_reading one_refusal m input a b (text_fault first) (text_fault second) =
     one_text_refusal one_text_fault input a b first second
-one_program_refusal one_text_fault one_reading one_refusal m input a b (text_fault first) (check_fault p f reads refuses is) =
+one_program_refusal one_text_fault one_reading one_refusal m input a b (text_fault first)
+    (check_fault p f reads refuses is) =
     absurd (first.none p reads)
-one_program_refusal one_text_fault one_reading one_refusal m input a b (check_fault p f reads refuses is) (text_fault second) =
+one_program_refusal one_text_fault one_reading one_refusal m input a b (check_fault p f reads refuses is)
+    (text_fault second) =
     absurd (second.none p reads)
 one_program_refusal one_text_fault one_reading one_refusal m input a b (check_fault p f reads refuses is)
     (check_fault q g reads' refuses' is') =
@@ -126,7 +138,8 @@ accepted_or_refused one_reading no_refusal m input fault p reads accepted (check
 
 -- there is one finding on a program text, if there is one on each program
 one_program_report : OneReading → OneTextFault → OneRefusal → AcceptedProgramsHaveNoRefusal
-    → (m : ℕ) (answer : ProgramTree → Finding → Type 0) → ((p : ProgramTree) → AreFew (length p.steps) m → IsOne (answer p)) → (input : List ℕ)
+    → (m : ℕ) (answer : ProgramTree → Finding → Type 0)
+    → ((p : ProgramTree) → AreFew (length p.steps) m → IsOne (answer p)) → (input : List ℕ)
     → IsOne (IsProgramReport m answer input)
 one_program_report one_reading one_text_fault one_refusal no_refusal m answer each input =
     one_of_two _ _ (one_program_refusal one_text_fault one_reading one_refusal m input)
@@ -155,14 +168,16 @@ one_telling apart input t u d e text text' =
 
 -- there is one finding on a table text, if there is one on each table and separation
 one_table_report : OneTableFault → TableTextsAreApart → TableTextsAreRead
-    → (answer : ChannelTable → Separation → Finding → Type 0) → ((t : ChannelTable) (d : Separation) → AreFew t.rounds t.ids → IsOne (answer t d))
+    → (answer : ChannelTable → Separation → Finding → Type 0)
+    → ((t : ChannelTable) (d : Separation) → AreFew t.rounds t.ids → IsOne (answer t d))
     → (input : List ℕ) → IsOne (IsTableReport answer input)
 one_table_report one_fault apart read answer each input =
     one_of_two _ _ (one_table_refusal one_fault input)
     (λ fault f none said. told_or_refused read input fault said.0 said.1 said.2 none)
     (λ f g p q. let same = one_telling apart input q.0 p.0 q.1 p.1 q.2 p.2 in
     let begun = p.2.1.table.begun in
-    each p.0 p.1 (begun.few_rounds, begun.shape.ids.few) f g p.3 (subst (λ x. answer p.0 x g) same.1 (subst (λ x. answer x q.1 g) same.0 q.3)))
+    each p.0 p.1 (begun.few_rounds, begun.shape.ids.few) f g p.3
+    (subst (λ x. answer p.0 x g) same.1 (subst (λ x. answer x q.1 g) same.0 q.3)))
 
 -- a problem has at most one fault, and none if it has a formula
 one_problem_fault : (p : Problem) (f g : ProblemFault) → IsProblemFault p f → IsProblemFault p g → f ≡ g
@@ -191,7 +206,8 @@ no_problem_fault p TooManyClauses has is = is.1.1 has.limits.few_clauses
 
 one_formula_refusal : (p : Problem) → IsOne (IsFormulaRefusal p)
 one_formula_refusal p a b first second =
-    first.is ∙ ap (of_formula p.ids p.rounds) (one_problem_fault p first.what second.what first.first second.first) ∙ sym second.is
+    first.is ∙ ap (of_formula p.ids p.rounds) (one_problem_fault p first.what second.what first.first second.first)
+    ∙ sym second.is
 
 -- there is one finding on a problem, if there is one where it has a formula
 one_on_formula : (p : Problem) (found : Finding → Type 0) → IsOne found
@@ -210,7 +226,8 @@ one_refutation one right p input =
 pub one_report : OneReading → OneTextFault → OneRefusal → AcceptedProgramsHaveNoRefusal → OneRingFault
     → RingsHaveNoFault → OneWitness → ApartTablesHaveNoWitness
     → OneProblemWitness → SolvedTablesHaveNoWitness
-    → OneTableFault → TableTextsAreApart → TableTextsAreRead → OneListOfChannels → OneRefutationFault → RefutationsAreRight
+    → OneTableFault → TableTextsAreApart → TableTextsAreRead → OneListOfChannels → OneRefutationFault
+    → RefutationsAreRight
     → OneReport
 one_report one_reading one_text_fault one_refusal no_refusal one_fault no_fault one_witness no_witness one_problem no_problem one_table_fault
     apart read one_list one_refutation_fault right task input =

@@ -1,5 +1,6 @@
 -- Each table solves a problem, or there is a witness that it does not.
-use Rattle.std.proofs.Common.{◌≡◌, ℕ, zero, suc, ◌+◌, ◌<◌, Option, Some, None, IsSome, unwrap_or, option_map, List, [], ◌∷◌, inl, inr, refl, ap, subst, sym, arith}
+use Rattle.std.proofs.Common.{◌≡◌, ℕ, zero, suc, ◌+◌, ◌<◌, Option, Some, None, IsSome, unwrap_or, option_map, List, []}
+use Rattle.std.proofs.Common.{◌∷◌, inl, inr, refl, ap, subst, sym, arith}
 use Rattle.std.specs.Prelude.{◌⊎◌, ◌*◌, ◌==◌, All, true, false, slice_get, slice_index}
 use Rattle.std.proofs.lemmas.Bool.Decides.{eqb_tells}
 use Rattle.std.proofs.lemmas.Option.{none-some, same_Some}
@@ -36,7 +37,8 @@ all_or_not A B C (inr a) b c = inr (λ all. a all.0)
 
 matches_or_not : (p : Pattern) (a b c : Option ℕ) → Matches p a b c ⊎ (¬ Matches p a b c)
 matches_or_not p a b c =
-    all_or_not (Fits p.first a) (Fits p.second b) (Fits p.third c) (fits_or_not p.first a) (fits_or_not p.second b) (fits_or_not p.third c)
+    all_or_not (Fits p.first a) (Fits p.second b) (Fits p.third c) (fits_or_not p.first a) (fits_or_not p.second b)
+    (fits_or_not p.third c)
 
 -- a first pattern matches, or none does
 first_or_none : (problem : List Pattern) (a b c : Option ℕ)
@@ -44,12 +46,14 @@ first_or_none : (problem : List Pattern) (a b c : Option ℕ)
 first_or_none [] a b c = inr (λ bad. none-some bad.1 bad.2)
 first_or_none (p ∷ ps) a b c = go (matches_or_not p a b c) (first_or_none ps a b c)
   where
-    before : (q : Pattern) → ¬ Matches p a b c → (own : IsFirstMatch ps a b c q) → (n : ℕ) (other : Pattern) → n < suc own.number
+    before : (q : Pattern) → ¬ Matches p a b c → (own : IsFirstMatch ps a b c q) → (n : ℕ) (other : Pattern)
+        → n < suc own.number
         → slice_get (p ∷ ps) n ≡ Some other → ¬ Matches other a b c
     before q not own zero other lt item = λ m. not (subst (λ x. Matches x a b c) (sym (same_Some p other item)) m)
     before q not own (suc n) other lt item = own.first n other (omega (arith, lt)) item
 
-    none : ¬ Matches p a b c → ¬ IsForbidden ps a b c → (n : ℕ) (q : Pattern) → slice_get (p ∷ ps) n ≡ Some q → ¬ Matches q a b c
+    none : ¬ Matches p a b c → ¬ IsForbidden ps a b c → (n : ℕ) (q : Pattern) → slice_get (p ∷ ps) n ≡ Some q
+        → ¬ Matches q a b c
     none not rest zero q item = λ m. not (subst (λ x. Matches x a b c) (sym (same_Some p q item)) m)
     none not rest (suc n) q item = λ m. rest (n, q, item, m)
 
@@ -61,7 +65,8 @@ first_or_none (p ∷ ps) a b c = go (matches_or_not p a b c) (first_or_none ps a
         inl (found.0, record { number = suc found.1.number; item = found.1.item; matches = found.1.matches; first = before found.0 not found.1 })
     go (inr not) (inr rest) = inr (λ bad. none not rest bad.0 bad.1 bad.2 bad.3)
 
-bad_or_not : (t : ChannelTable) (problem : List Pattern) (tuple : List ℕ) → IsBad t problem tuple ⊎ (¬ IsBad t problem tuple)
+bad_or_not : (t : ChannelTable) (problem : List Pattern) (tuple : List ℕ)
+    → IsBad t problem tuple ⊎ (¬ IsBad t problem tuple)
 unfolding IsBad
 bad_or_not t problem tuple = go (first_or_none problem (at 0) (at 1) (at 2))
   where
@@ -76,7 +81,8 @@ bad_or_not t problem tuple = go (first_or_none problem (at 0) (at 1) (at 2))
 -- the table solves the problem, or there is a witness
 pub data ProblemAnswer (t : ChannelTable) (problem : List Pattern) : Type 0 where
   solves : IsSolvedEverywhere t problem → ProblemAnswer t problem
-  breaks : (ring : List ℕ) (place : ℕ) (channels : ℕ × ℕ × ℕ) (pattern : Pattern) → IsWitness t problem ring place channels pattern
+  breaks : (ring : List ℕ) (place : ℕ) (channels : ℕ × ℕ × ℕ) (pattern : Pattern)
+      → IsWitness t problem ring place channels pattern
       → ProblemAnswer t problem
 
 some_number : (o : Option ℕ) → IsSome o → o ≡ Some (unwrap_or o 0)
@@ -87,10 +93,12 @@ some_channel : (f : ℕ → ℕ) (o : Option ℕ) → IsSome o → IsSome (optio
 some_channel f None h = cc
 some_channel f (Some n) h = refl
 
-module _ (suffice : TuplesSuffice) (bad_ring : BadTuplesAreRings) (have : WindowsHaveNumbers) (rings : RingsHaveWindows) where
+module _ (suffice : TuplesSuffice) (bad_ring : BadTuplesAreRings) (have : WindowsHaveNumbers)
+    (rings : RingsHaveWindows) where
   -- each place of a ring has a channel
   channel_there : (t : ChannelTable) (ring : List ℕ) (place : ℕ) → IsRing t.ids t.rounds ring
-      → channel_of t (window_around ring t.rounds place) ≡ Some (unwrap_or (channel_of t (window_around ring t.rounds place)) 0)
+      → channel_of t (window_around ring t.rounds place)
+      ≡ Some (unwrap_or (channel_of t (window_around ring t.rounds place)) 0)
   channel_there t ring place is =
       let long = is.long in
       let window = window_around ring t.rounds place in
@@ -98,14 +106,17 @@ module _ (suffice : TuplesSuffice) (bad_ring : BadTuplesAreRings) (have : Window
       (some_channel (slice_index t.entries) (number_of (2 * t.rounds + 1) t.ids window)
       ((have (2 * t.rounds + 1) t.ids window).1 (rings t.ids t.rounds t.rounds place ring is (omega arith))))
 
-  witness : (t : ChannelTable) (problem : List Pattern) → IsFirst (IsBad t problem) (tuples t problem) → ProblemAnswer t problem
+  witness : (t : ChannelTable) (problem : List Pattern) → IsFirst (IsBad t problem) (tuples t problem)
+      → ProblemAnswer t problem
   witness t problem first = go (first_or_none problem (Some (at 0)) (Some (at 1)) (Some (at 2)))
     where
       ring : List ℕ
       ring = ring_of first.list
 
-      broken : IsRing t.ids t.rounds ring × IsForbidden problem (channel_of t (window_around ring t.rounds (t.rounds + 0)))
-          (channel_of t (window_around ring t.rounds (t.rounds + 1))) (channel_of t (window_around ring t.rounds (t.rounds + 2)))
+      broken : IsRing t.ids t.rounds ring
+          × IsForbidden problem (channel_of t (window_around ring t.rounds (t.rounds + 0)))
+          (channel_of t (window_around ring t.rounds (t.rounds + 1)))
+          (channel_of t (window_around ring t.rounds (t.rounds + 2)))
       broken = bad_ring t problem first.list (tuple_at t problem first.number first.list first.item) first.is
 
       at : ℕ → ℕ
@@ -150,6 +161,7 @@ module _ (suffice : TuplesSuffice) (bad_ring : BadTuplesAreRings) (have : Window
   pub problem_answer : (t : ChannelTable) (problem : List Pattern) → ProblemAnswer t problem
   problem_answer t problem = go (first_of (IsBad t problem) (bad_or_not t problem) (tuples t problem))
     where
-      go : All (λ tuple. ¬ IsBad t problem tuple) (tuples t problem) ⊎ IsFirst (IsBad t problem) (tuples t problem) → ProblemAnswer t problem
+      go : All (λ tuple. ¬ IsBad t problem tuple) (tuples t problem) ⊎ IsFirst (IsBad t problem) (tuples t problem)
+          → ProblemAnswer t problem
       go (inl none) = solves ((suffice t problem).0 none)
       go (inr first) = witness t problem first

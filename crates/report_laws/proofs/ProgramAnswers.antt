@@ -1,6 +1,7 @@
 -- Each program is accepted or refused, each list of identifiers is a ring or has a fault, and each number of segments
 -- is in its range or not.
-use Rattle.std.proofs.Common.{◌≡◌, ◌≢◌, ℕ, zero, suc, ◌+◌, ◌*◌, ◌<◌, ◌≤◌, Bool, true, false, Option, Some, None, List, length, take, get_or, inl, inr, refl, arith, add-one}
+use Rattle.std.proofs.Common.{◌≡◌, ◌≢◌, ℕ, zero, suc, ◌+◌, ◌*◌, ◌<◌, ◌≤◌, Bool, true, false, Option, Some, None, List}
+use Rattle.std.proofs.Common.{length, take, get_or, inl, inr, refl, arith, add-one}
 use Rattle.std.specs.Prelude.{◌⊎◌}
 use Rattle.std.proofs.lemmas.Bool.{cases_lt, cases_eq}
 use Rattle.std.proofs.lemmas.List.{take_all, get_or-take}
@@ -17,7 +18,9 @@ use Rattle.win_index.specs.Ring.{IsRing}
 use Rattle.win_index.specs.RingFaults.{HasRingLength, HasNoFaultBefore, IsFirstFault}
 use Rattle.win_index.proofs.Windows.{front_more, lacks_from_differs}
 use Rattle.lang_check.specs.declared.acceptance.CheckFault.{CheckFault}
-use Rattle.lang_check.specs.declared.acceptance.CheckFault.TheVariants.{IdsOutOfRange, TooManyWindows, RegisterOutOfRange, IdOutsideStart, MessageOutsideStep, ChannelBound}
+use Rattle.lang_check.specs.declared.acceptance.CheckFault.TheVariants.{IdsOutOfRange, TooManyWindows}
+use Rattle.lang_check.specs.declared.acceptance.CheckFault.TheVariants.{RegisterOutOfRange, IdOutsideStart}
+use Rattle.lang_check.specs.declared.acceptance.CheckFault.TheVariants.{MessageOutsideStep, ChannelBound}
 use Rattle.lang_check.specs.Acceptance.{IsAccepted}
 use Rattle.lang_check.specs.Refusals.{IsFirstRefusal}
 use Rattle.border_exchange.specs.declared.segment.limits.TheConstants.{MAX_SEGMENTS}

@@ -15,11 +15,14 @@ use Rattle.node_program.specs.GlobalRounds.{channel_at, channels_of}
 use Rattle.win_index.specs.Ring.{IsRing}
 use Rattle.task_words.specs.Counts.{IsNear, IsFar}
 use Rattle.reports.specs.Bytes.{bytes_of}
-use Rattle.reports.specs.Findings.{Fault, of_text, of_program, of_ring, of_place, of_segments, of_table_text, of_formula, of_refutation, Finding, fault_status, status_of}
+use Rattle.reports.specs.Findings.{Fault, of_text, of_program, of_ring, of_place, of_segments, of_table_text}
+use Rattle.reports.specs.Findings.{of_formula, of_refutation, Finding, fault_status, status_of}
 use Rattle.reports.specs.Findings as value
 use Rattle.reports.specs.Laws.{OneListOfChannels}
-use Rattle.reports.specs.Report.{Finds, HasChannels, IsRefusedOr, told, answered, IsApplyAnswer, IsAnswerOnRing, IsAudit, IsTableText, IsTableReport, IsProgramReport}
-use Rattle.report_laws.specs.Laws.{MigrateKeepsNewTexts, MigrateTwiceIsOnce, AuditOfTableIsJudge, AuditOfTableSolves, ApplyOfTableIsPlan}
+use Rattle.reports.specs.Report.{Finds, HasChannels, IsRefusedOr, told, answered, IsApplyAnswer, IsAnswerOnRing}
+use Rattle.reports.specs.Report.{IsAudit, IsTableText, IsTableReport, IsProgramReport}
+use Rattle.report_laws.specs.Laws.{MigrateKeepsNewTexts, MigrateTwiceIsOnce, AuditOfTableIsJudge}
+use Rattle.report_laws.specs.Laws.{AuditOfTableSolves, ApplyOfTableIsPlan}
 use Rattle.report_laws.proofs.ToldRounds.{answered_by}
 
 -- a refusal is not done
@@ -59,7 +62,8 @@ unfolding table_of
 by_rounds has one p m ring s f (told fault none same) = told fault none same
 by_rounds has one p m ring s f (answered said) =
     let on = said.1 in
-    let list = one (table_of p m) ring on.channels (channel_at p ring) on.are (channels_of_rounds has p m ring said.0) in
+    let list = one (table_of p m) ring on.channels (channel_at p ring) on.are
+    (channels_of_rounds has p m ring said.0) in
     answered (said.0, on.is ∙ ap (value.places ring) list)
 
 module _ (texts_apart : TableTextsAreApart) (read : TableTextsAreRead) where
@@ -87,8 +91,10 @@ module _ (texts_apart : TableTextsAreApart) (read : TableTextsAreRead) where
       keeps said.0 said.1 g said.2.1.table (in_range said.2.0 said.1 said.2.1.told) text ∙ sym said.3
 
   -- what a task on a table text finds on the report of table
-  on_report : (answer : ChannelTable → Separation → Finding → Type 0) → ProgramTablesAreTables → (m near far : ℕ) (input : List ℕ)
-      (f g : Finding) → IsNear near → IsFar far → IsProgramReport m (λ p. IsTableText (table_of p m) (record { near = near; far = far })) input f
+  on_report : (answer : ChannelTable → Separation → Finding → Type 0) → ProgramTablesAreTables
+      → (m near far : ℕ) (input : List ℕ)
+      (f g : Finding) → IsNear near → IsFar far
+      → IsProgramReport m (λ p. IsTableText (table_of p m) (record { near = near; far = far })) input f
       → status_of f ≡ Done → IsTableReport answer (bytes_of f) g
       → IsProgramReport m (λ p. answer (table_of p m) (record { near = near; far = far })) input g
   on_report answer tables m near far input f g is_near is_far is done again =
@@ -102,10 +108,12 @@ module _ (texts_apart : TableTextsAreApart) (read : TableTextsAreRead) where
       answered (p, said.1, said.2, on_text answer (table_of p m) s g (tables p m said.1.limits said.2) range text)
 
   pub audit : ProgramTablesAreTables → AuditOfTableIsJudge
-  audit tables m v w near far input f g is_near is_far = on_report (IsAudit None) tables m near far input f g is_near is_far
+  audit tables m v w near far input f g is_near is_far =
+      on_report (IsAudit None) tables m near far input f g is_near is_far
 
   pub audit_solves : ProgramTablesAreTables → AuditOfTableSolves
-  audit_solves tables m v w near far problem input f g is_near is_far = on_report (IsAudit (Some problem)) tables m near far input f g is_near is_far
+  audit_solves tables m v w near far problem input f g is_near is_far =
+      on_report (IsAudit (Some problem)) tables m near far input f g is_near is_far
 
   pub apply : ProgramTablesAreTables → TableHasTheChannelsOfRounds → OneListOfChannels → ApplyOfTableIsPlan
   apply tables has one m v w near far ring input f g is_near is_far is done again =
@@ -114,4 +122,9 @@ module _ (texts_apart : TableTextsAreApart) (read : TableTextsAreRead) where
       go : IsProgramReport m (λ p. IsApplyAnswer ring.items (table_of p m) (record { near = near; far = far })) input g
           → IsProgramReport m (λ p. IsAnswerOnRing m (length p.steps) ring.items (Finds (value.places ring.items (channels_of p ring.items)))) input g
       go (told fault refusal same) = told fault refusal same
-      go (answered said) = answered (said.0, said.1, said.2, by_rounds has one said.0 m ring.items (record { near = near; far = far }) g said.3)
+      go (answered said) = answered (
+        said.0,
+        said.1,
+        said.2,
+        by_rounds has one said.0 m ring.items (record { near = near; far = far }) g said.3,
+      )

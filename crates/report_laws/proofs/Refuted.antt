@@ -2,7 +2,8 @@
 use Rattle.std.proofs.Common.{◌≡◌, ◌⊎◌, ℕ, ◌+◌, ◌*◌, ◌≤◌, List, [], refl, inl, inr, arith}
 use Rattle.std.proofs.lemmas.Option.{none-some}
 use Rattle.node_program.specs.Term.{ProgramTree}
-use Rattle.win_index.specs.Laws.{NumberOfWindow, WindowOfNumber, WindowsHaveNumbers, RingsHaveWindows, CountOfWindows, LengthOfArcs, ItemsOfArcs}
+use Rattle.win_index.specs.Laws.{NumberOfWindow, WindowOfNumber, WindowsHaveNumbers, RingsHaveWindows, CountOfWindows}
+use Rattle.win_index.specs.Laws.{LengthOfArcs, ItemsOfArcs}
 use Rattle.win_index.specs.ShapeRange.{IsShape}
 use Rattle.channel_tables.specs.Tables.{ChannelTable}
 use Rattle.channel_tables.specs.declared.separation.Separation.{Separation}
@@ -25,7 +26,9 @@ use Rattle.ring_problems.specs.Laws.{SolvedTablesHaveNoWitness}
 use Rattle.ring_problems.specs.Problems.{IsSolvedEverywhere}
 use Rattle.headline.specs.Headline.{ChannelsSolve}
 use Rattle.reports.specs.ProblemFaults.{problem as numbered}
-use Rattle.report_laws.specs.Laws.{IsAcceptedText, NoTableIfRefuted, NoTableSolvesIfRefuted, NoProgramIfRefuted, NoProgramSolvesIfRefuted, ProgramsNeedChannels, ProgramsNeedThree, Fails, FailsOnARing}
+use Rattle.report_laws.specs.Laws.{IsAcceptedText, NoTableIfRefuted, NoTableSolvesIfRefuted, NoProgramIfRefuted}
+use Rattle.report_laws.specs.Laws.{NoProgramSolvesIfRefuted, ProgramsNeedChannels, ProgramsNeedThree}
+use Rattle.report_laws.specs.Laws.{Fails, FailsOnARing}
 use Rattle.report_laws.proofs.JudgeAnswers.{JudgeAnswer, apart, not_apart}
 use Rattle.report_laws.proofs.SeenTables.{seen_table, seen_is_table, seen_is_apart, seen_is_free, seen_solves}
 use Rattle.report_laws.proofs.ReadBack.{done_answer}
@@ -84,7 +87,8 @@ no_table_solves sound number item have rings count arcs items m t channels probl
 
 -- a program fails if the channels of its table are not apart everywhere
 pub program_fails : OneReading → AcceptedProgramsHaveNoRefusal → ApartTablesHaveNoWitness → ProgramTablesAreApart
-    → ((t : ChannelTable) (s : Separation) → JudgeAnswer t s) → (ids : ℕ) (s : Separation) (text : List ℕ) (p : ProgramTree)
+    → ((t : ChannelTable) (s : Separation) → JudgeAnswer t s)
+    → (ids : ℕ) (s : Separation) (text : List ℕ) (p : ProgramTree)
     → IsAcceptedText text ids p → ¬ IsApartEverywhere (table_of p ids) s → Fails ids s text p
 program_fails one_reading no_refusal no_witness apart_tables judged ids s text p accepted none =
     record {

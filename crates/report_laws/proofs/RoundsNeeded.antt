@@ -1,5 +1,6 @@
 -- The lower bound for the channels of global rounds.
-use Rattle.std.proofs.Common.{◌≡◌, ℕ, suc, ◌+◌, ◌*◌, ◌<◌, ◌≤◌, ◌++◌, ◌∷◌, [], List, length, get_or, take, sym, ap, ◌∙◌, arith, length-append}
+use Rattle.std.proofs.Common.{◌≡◌, ℕ, suc, ◌+◌, ◌*◌, ◌<◌, ◌≤◌, ◌++◌, ◌∷◌, [], List, length, get_or, take, sym, ap, ◌∙◌}
+use Rattle.std.proofs.Common.{arith, length-append}
 use Rattle.std.proofs.Math.Seq.{take-append_seam}
 use Rattle.std.proofs.lemmas.List.{length-map}
 use Rattle.std.proofs.lemmas.List.Elements.{All-map}
@@ -17,11 +18,14 @@ use Rattle.headline.specs.Laws.{ProgramTablesAreApart, ProgramTablesSolve}
 use Rattle.problem_bounds.specs.Laws as problem_bounds
 use Rattle.ring_problems.specs.Known.{independent_set, matching}
 use Rattle.lower_bound.specs.Laws.{IsFull, TablesNeedChannels, TablesNeedThree, TablesNeedFour, TablesNeedFive}
-use Rattle.report_laws.specs.Laws.{ChannelsAreBelow, IndependentSetsNeedRounds, MatchingsNeedRounds, RoundsNeedChannels, RoundsNeedThree, RoundsNeedFour, RoundsNeedFive}
+use Rattle.report_laws.specs.Laws.{ChannelsAreBelow, IndependentSetsNeedRounds, MatchingsNeedRounds, RoundsNeedChannels}
+use Rattle.report_laws.specs.Laws.{RoundsNeedThree, RoundsNeedFour, RoundsNeedFive}
 
 -- the channel that a window leaves is that of global rounds on some ring
-window_below : TableHasTheChannelsOfRounds → TableHasTheChannelsOfWindows → TuplesAreRings → (p : ProgramTree) (m c : ℕ) (window : List ℕ)
-    → 2 * length p.steps + 2 ≤ m → ChannelsAreBelow p m c → IsWindow (2 * length p.steps + 1) m window → window_channel p window < c
+window_below : TableHasTheChannelsOfRounds → TableHasTheChannelsOfWindows → TuplesAreRings
+    → (p : ProgramTree) (m c : ℕ) (window : List ℕ)
+    → 2 * length p.steps + 2 ≤ m → ChannelsAreBelow p m c → IsWindow (2 * length p.steps + 1) m window
+    → window_channel p window < c
 window_below of_rounds of_windows tuples p m c window long below is =
     let t : ℕ = length p.steps in
     let size = is.size in
@@ -53,40 +57,50 @@ full_table of_rounds of_windows tuples p m c long below =
           (windows_all len m k (get_or (windows len m) k d) (slice_get-get_or (windows len m) k d lt)));
     }
 
-pub rounds_need : TablesNeedChannels → ProgramTablesAreApart → TableHasTheChannelsOfRounds → TableHasTheChannelsOfWindows → TuplesAreRings
+pub rounds_need : TablesNeedChannels → ProgramTablesAreApart → TableHasTheChannelsOfRounds
+    → TableHasTheChannelsOfWindows → TuplesAreRings
     → RoundsNeedChannels
 unfolding table_of of_program
 rounds_need need apart_tables of_rounds of_windows tuples p m c s long below near far apart =
-    need (of_program p m c) s (full_table of_rounds of_windows tuples p m c long below) near far ((apart_tables p m s).1 apart)
+    need (of_program p m c) s (full_table of_rounds of_windows tuples p m c long below) near far
+    ((apart_tables p m s).1 apart)
 
-pub rounds_need_three : TablesNeedThree → ProgramTablesAreApart → TableHasTheChannelsOfRounds → TableHasTheChannelsOfWindows → TuplesAreRings
+pub rounds_need_three : TablesNeedThree → ProgramTablesAreApart → TableHasTheChannelsOfRounds
+    → TableHasTheChannelsOfWindows → TuplesAreRings
     → RoundsNeedThree
 unfolding table_of of_program
 rounds_need_three need apart_tables of_rounds of_windows tuples p m c s long below near apart =
-    need (of_program p m c) s (full_table of_rounds of_windows tuples p m c (omega (arith, long)) below) near long ((apart_tables p m s).1 apart)
+    need (of_program p m c) s (full_table of_rounds of_windows tuples p m c (omega (arith, long)) below) near long
+    ((apart_tables p m s).1 apart)
 
-pub rounds_need_four : TablesNeedFour → ProgramTablesAreApart → TableHasTheChannelsOfRounds → TableHasTheChannelsOfWindows → TuplesAreRings
+pub rounds_need_four : TablesNeedFour → ProgramTablesAreApart → TableHasTheChannelsOfRounds
+    → TableHasTheChannelsOfWindows → TuplesAreRings
     → RoundsNeedFour
 unfolding table_of of_program
 rounds_need_four need apart_tables of_rounds of_windows tuples p m c n s long short no_multiple below near far apart =
     need (of_program p m c) s n (full_table of_rounds of_windows tuples p m c (omega (arith, long, short)) below) near far long short no_multiple
     ((apart_tables p m s).1 apart)
 
-pub rounds_need_five : TablesNeedFive → ProgramTablesAreApart → TableHasTheChannelsOfRounds → TableHasTheChannelsOfWindows → TuplesAreRings
+pub rounds_need_five : TablesNeedFive → ProgramTablesAreApart → TableHasTheChannelsOfRounds
+    → TableHasTheChannelsOfWindows → TuplesAreRings
     → RoundsNeedFive
 unfolding table_of of_program
 rounds_need_five need apart_tables of_rounds of_windows tuples p m c s rounds ids below near far apart =
     need (of_program p m c) s (full_table of_rounds of_windows tuples p m c (omega (arith, rounds, ids)) below) near far rounds ids
     ((apart_tables p m s).1 apart)
 
-pub sets_need : problem_bounds.IndependentSetsNeedRounds → ProgramTablesSolve → TableHasTheChannelsOfRounds → TableHasTheChannelsOfWindows
+pub sets_need : problem_bounds.IndependentSetsNeedRounds → ProgramTablesSolve → TableHasTheChannelsOfRounds
+    → TableHasTheChannelsOfWindows
     → TuplesAreRings → IndependentSetsNeedRounds
 unfolding table_of of_program
 sets_need need solving of_rounds of_windows tuples p m long below solve =
-    need (of_program p m 2) (full_table of_rounds of_windows tuples p m 2 long below) (omega arith) ((solving p m independent_set).1 solve)
+    need (of_program p m 2) (full_table of_rounds of_windows tuples p m 2 long below) (omega arith)
+    ((solving p m independent_set).1 solve)
 
-pub matchings_need : problem_bounds.MatchingsNeedRounds → ProgramTablesSolve → TableHasTheChannelsOfRounds → TableHasTheChannelsOfWindows
+pub matchings_need : problem_bounds.MatchingsNeedRounds → ProgramTablesSolve → TableHasTheChannelsOfRounds
+    → TableHasTheChannelsOfWindows
     → TuplesAreRings → MatchingsNeedRounds
 unfolding table_of of_program
 matchings_need need solving of_rounds of_windows tuples p m long below solve =
-    need (of_program p m 3) (full_table of_rounds of_windows tuples p m 3 long below) (omega arith) ((solving p m matching).1 solve)
+    need (of_program p m 3) (full_table of_rounds of_windows tuples p m 3 long below) (omega arith)
+    ((solving p m matching).1 solve)

@@ -1,5 +1,8 @@
 -- The table for fewer identifiers and more rounds that a table gives: a node need not use all that it sees.
-use Rattle.std.proofs.Common.{◌≡◌, ℕ, zero, suc, ◌+◌, ◌-◌, ◌*◌, ◌%◌, ◌<◌, ◌≤◌, Option, Some, None, IsSome, unwrap_or, option_map, List, [], map, length, get_or, take, drop, All, slice_index, refl, sym, ap, ◌∙◌, subst, arith, inl, inr, length-take-le, length-drop, get_or-take, get_or-drop, mul-le-mul}
+use Rattle.std.proofs.Common.{◌≡◌, ℕ, zero, suc, ◌+◌, ◌-◌, ◌*◌, ◌%◌, ◌<◌, ◌≤◌, Option, Some, None, IsSome, unwrap_or}
+use Rattle.std.proofs.Common.{option_map, List, [], map, length, get_or, take, drop, All, slice_index, refl, sym, ap}
+use Rattle.std.proofs.Common.{◌∙◌, subst, arith, inl, inr, length-take-le, length-drop, get_or-take}
+use Rattle.std.proofs.Common.{get_or-drop, mul-le-mul}
 use Rattle.std.specs.Prelude.{◌⊎◌}
 use Rattle.std.proofs.lemmas.Bool.{cases_lt}
 use Rattle.std.proofs.lemmas.List.{length-map, get_or-map, get_or_past, ext_get_or}
@@ -8,7 +11,8 @@ use Rattle.std.proofs.lemmas.Option.{slice_get_within, get_or_from_slice_get}
 use Rattle.node_program.specs.declared.limits.TheConstants.{MAX_ROUNDS}
 use Rattle.win_index.specs.Arcs.{window_around, part_at}
 use Rattle.win_index.specs.Falling.{falling}
-use Rattle.win_index.specs.Laws.{NumberOfWindow, WindowOfNumber, WindowsHaveNumbers, RingsHaveWindows, CountOfWindows, LengthOfArcs, ItemsOfArcs}
+use Rattle.win_index.specs.Laws.{NumberOfWindow, WindowOfNumber, WindowsHaveNumbers, RingsHaveWindows, CountOfWindows}
+use Rattle.win_index.specs.Laws.{LengthOfArcs, ItemsOfArcs}
 use Rattle.win_index.specs.Ring.{IsRing}
 use Rattle.win_index.specs.ShapeRange.{IsShape}
 use Rattle.win_index.specs.Windows.{windows, number_of}
@@ -210,6 +214,7 @@ module _ (len : LengthOfArcs) (item : ItemsOfArcs) where
         → IsApartEverywhere (seen_table t m rounds) (record { near = 0; far = 0 })
     seen_is_free t m rounds le fewer ring place is long within =
         let here : (i : ℕ) → IsSome (channel_of (seen_table t m rounds) (window_around ring rounds i)) =
-        λ i. some_channel (slice_index (seen_table t m rounds).entries) (number_of (2 * rounds + 1) m (window_around ring rounds i))
+        λ i. some_channel (slice_index (seen_table t m rounds).entries)
+        (number_of (2 * rounds + 1) m (window_around ring rounds i))
         ((have (2 * rounds + 1) m (window_around ring rounds i)).1 (rings m rounds rounds i ring is (omega (arith, is.long)))) in
         (apart_by_none _ _ (here place) (here (place + 1)), apart_by_none _ _ (here place) (here (place + 2)))

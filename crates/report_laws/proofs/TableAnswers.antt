@@ -1,5 +1,6 @@
 -- Each text is that of a table and a separation, or has a fault.
-use Rattle.std.proofs.Common.{◌≡◌, ◌≢◌, ℕ, zero, suc, ◌+◌, ◌-◌, ◌*◌, ◌^◌, ◌<◌, ◌≤◌, Option, Some, None, List, [], ◌∷◌, ◌++◌, length, inl, inr, refl, sym, ap, ◌∙◌, arith, append-nil, length-append}
+use Rattle.std.proofs.Common.{◌≡◌, ◌≢◌, ℕ, zero, suc, ◌+◌, ◌-◌, ◌*◌, ◌^◌, ◌<◌, ◌≤◌, Option, Some, None, List, [], ◌∷◌}
+use Rattle.std.proofs.Common.{◌++◌, length, inl, inr, refl, sym, ap, ◌∙◌, arith, append-nil, length-append}
 use Rattle.std.specs.Prelude.{◌⊎◌, codes, slice_get}
 use Rattle.std.specs.Fmt.{decimal}
 use Rattle.std.proofs.lemmas.Bool.{cases_lt, cases_eq}
@@ -15,12 +16,15 @@ use Rattle.table_text.specs.declared.version.Version.TheVariants.{One, Two}
 use Rattle.table_text.specs.declared.limits.TheConstants.{LONGEST_TABLE_TEXT}
 use Rattle.table_text.specs.declared.fault.TableFault.{TableFault}
 use Rattle.table_text.specs.declared.fault.TableFault.TheVariants.{Syntax, WrongWindow, ChannelTooLarge, OutOfMemory}
-use Rattle.table_text.specs.TableText.{Written, written, title_then, counts_then, counts_end, distances_then, sizes_then, ids_then, entry_then, end_then, lines_then, text_of}
+use Rattle.table_text.specs.TableText.{Written, written, title_then, counts_then, counts_end, distances_then}
+use Rattle.table_text.specs.TableText.{sizes_then, ids_then, entry_then, end_then, lines_then, text_of}
 use Rattle.table_text.specs.Texts.{IsBegunText, IsWritten, IsTextOf}
 use Rattle.table_text.specs.LineForms.{AreSizes, IsSeparationOf, HasTitle, HasSizes, IsEntry, HasEntry}
-use Rattle.table_text.specs.Faults.{IsWithin, IsMalformed, no_title, no_sizes, no_entry, no_end, bytes_after, IsNextWindow, IsFault}
+use Rattle.table_text.specs.Faults.{IsWithin, IsMalformed, no_title, no_sizes, no_entry, no_end, bytes_after}
+use Rattle.table_text.specs.Faults.{IsNextWindow, IsFault}
 use Rattle.table_text.proofs.TableTexts.{rest_within, lines_more, begun_more}
-use Rattle.report_laws.proofs.Fronts.{Decided, Follows, IsPart, nothing, byte, both, bytes, number, field, Below, below, Lists, lists}
+use Rattle.report_laws.proofs.Fronts.{Decided, Follows, IsPart, nothing, byte, both, bytes, number, field, Below, below}
+use Rattle.report_laws.proofs.Fronts.{Lists, lists}
 
 -- the lines are parts of a text
 title : (version : Version) → IsPart (title_then version)

@@ -1,5 +1,6 @@
 -- Reports and global rounds, and the report of a print.
-use Rattle.std.proofs.Common.{◌≡◌, ℕ, ◌-◌, ◌<◌, ◌≤◌, List, [], ◌∷◌, ◌++◌, codes, replicate, ap, ap₂, append_assoc, arith, refl, subst, sym, ◌∙◌}
+use Rattle.std.proofs.Common.{◌≡◌, ℕ, ◌-◌, ◌<◌, ◌≤◌, List, [], ◌∷◌, ◌++◌, codes, replicate, ap, ap₂, append_assoc}
+use Rattle.std.proofs.Common.{arith, refl, subst, sym, ◌∙◌}
 use Rattle.std.specs.Prelude.{◌==◌, ◌↔◌, false, if◌then◌else◌, length}
 use Rattle.std.specs.List.{flat_map, range_with_len}
 use Rattle.std.specs.Fmt.{decimal, digits}
@@ -30,12 +31,17 @@ use Rattle.value_trees.specs.Trace.{register_lines, round_lines, row_line, trace
 use Rattle.reports.specs.Bytes.{bytes_of}
 use Rattle.reports.specs.Findings.{Fault, Finding, status_of}
 use Rattle.reports.specs.Findings as value
-use Rattle.reports.specs.Report.{IsRefusedOr, told, answered, IsJudgement, good, bad, IsProblemJudgement, solved, broken, IsAnswerOnRing, IsRunAnswer, IsExplainAnswer, IsProgramReport}
-use Rattle.report_laws.specs.Laws.{IsAcceptedText, JudgeTellsRounds, JudgeTellsSolutions, RunTellsRounds, TraceTellsRounds, TraceEndsWithRun, ExplainTellsRounds, ExplainShowsTrace, PlanTellsRounds, TableTellsRounds, PrintsAreReadBack, SameForWorkers, SameForSegments}
+use Rattle.reports.specs.Report.{IsRefusedOr, told, answered, IsJudgement, good, bad, IsProblemJudgement, solved}
+use Rattle.reports.specs.Report.{broken, IsAnswerOnRing, IsRunAnswer, IsExplainAnswer, IsProgramReport}
+use Rattle.report_laws.specs.Laws.{IsAcceptedText, JudgeTellsRounds, JudgeTellsSolutions, RunTellsRounds}
+use Rattle.report_laws.specs.Laws.{TraceTellsRounds, TraceEndsWithRun, ExplainTellsRounds, ExplainShowsTrace}
+use Rattle.report_laws.specs.Laws.{PlanTellsRounds, TableTellsRounds, PrintsAreReadBack}
+use Rattle.report_laws.specs.Laws.{SameForWorkers, SameForSegments}
 use Rattle.report_laws.proofs.OneReport.{accepted_or_refused}
 
 -- what is found is the answer if there is no refusal
-pub answered_by : (refusal : Fault → Type 0) (answer : Finding → Type 0) (f : Finding) → ((fault : Fault) → refusal fault → ⊥)
+pub answered_by : (refusal : Fault → Type 0) (answer : Finding → Type 0) (f : Finding)
+    → ((fault : Fault) → refusal fault → ⊥)
     → IsRefusedOr refusal answer f → answer f
 answered_by refusal answer f none (told fault is same) = absurd (none fault is)
 answered_by refusal answer f none (answered said) = said
@@ -45,7 +51,8 @@ answer_on : OneReading → AcceptedProgramsHaveNoRefusal
     → (m : ℕ) (answer : ProgramTree → Finding → Type 0) (input : List ℕ) (p : ProgramTree) (f : Finding)
     → IsAcceptedText input m p → IsProgramReport m answer input f → answer p f
 answer_on one_reading no_refusal m answer input p f text is =
-    let said = answered_by _ _ f (λ fault. accepted_or_refused one_reading no_refusal m input fault p text.0 text.1) is in
+    let said = answered_by _ _ f
+    (λ fault. accepted_or_refused one_reading no_refusal m input fault p text.0 text.1) is in
     subst (λ h. answer h f) (one_reading input said.0 p said.1 text.0) said.3
 
 -- a judgement on a table decides whether the channels of global rounds are apart
@@ -73,7 +80,8 @@ judge_tells one_reading no_refusal no_witness tables m workers near far input p 
 -- a judgement on a problem decides whether the channels of global rounds solve it
 solution_tells : SolvedTablesHaveNoWitness → ProgramTablesSolve
     → (p : ProgramTree) (m : ℕ) (problem : Problem) (f : Finding) → IsProblemJudgement (table_of p m) problem f
-    → ((status_of f ≡ Done) ↔ ChannelsSolve p m (patterns_of problem)) × ((status_of f ≡ No) ↔ (¬ ChannelsSolve p m (patterns_of problem)))
+    → ((status_of f ≡ Done) ↔ ChannelsSolve p m (patterns_of problem))
+    × ((status_of f ≡ No) ↔ (¬ ChannelsSolve p m (patterns_of problem)))
 solution_tells no_witness tables p m problem f (solved everywhere is) =
     let rounds = (tables p m (patterns_of problem)).0 everywhere in (
       (λ done. rounds, λ are. ap status_of is),
@@ -81,12 +89,14 @@ solution_tells no_witness tables p m problem f (solved everywhere is) =
     )
 solution_tells no_witness tables p m problem f (broken ring place channels pattern witness is) =
     let not : ¬ ChannelsSolve p m (patterns_of problem) =
-    λ are. no_witness (table_of p m) (patterns_of problem) ring place channels pattern ((tables p m (patterns_of problem)).1 are) witness in (
+    λ are. no_witness (table_of p m) (patterns_of problem) ring place channels pattern
+    ((tables p m (patterns_of problem)).1 are) witness in (
       (λ done. absurd (let both : No ≡ Done = sym (ap status_of is) ∙ done in cc), λ are. absurd (not are)),
       (λ no. not, λ n. ap status_of is),
     )
 
-pub judge_solves : OneReading → AcceptedProgramsHaveNoRefusal → SolvedTablesHaveNoWitness → ProgramTablesSolve → JudgeTellsSolutions
+pub judge_solves : OneReading → AcceptedProgramsHaveNoRefusal → SolvedTablesHaveNoWitness → ProgramTablesSolve
+    → JudgeTellsSolutions
 judge_solves one_reading no_refusal no_witness tables m workers problem input p f text is =
     solution_tells no_witness tables p m problem f (answer_on one_reading no_refusal m _ input p f text is)
 
@@ -97,7 +107,8 @@ on_this_ring no_fault m t places found f ring is =
     (answered_by _ _ f (λ fault none. no_fault m t places none.what ring none.first) is).1
 
 run_in_range : (p : ProgramTree) (places : List ℕ) (segments : ℕ) (f : Finding)
-    → IsSegmentCount segments (length places) → IsRunAnswer p places segments f → f ≡ value.channels (channels_of p places)
+    → IsSegmentCount segments (length places) → IsRunAnswer p places segments f
+    → f ≡ value.channels (channels_of p places)
 run_in_range p places segments f within is = (answered_by _ _ f (λ fault none. none.0 within) is).1
 
 pub run_tells : OneReading → AcceptedProgramsHaveNoRefusal → RingsHaveNoFault → RunTellsRounds
@@ -124,7 +135,8 @@ pub explain_shows : ExplanationsShowTraces → OneReading → AcceptedProgramsHa
     RingsHaveNoFault → ExplainShowsTrace
 explain_shows shown one_reading no_refusal no_fault m place ring base input p f text is_ring within is =
     let same = explain_tells one_reading no_refusal no_fault m place ring base input p f text is_ring within is in
-    subst (λ (g : Finding). ShowsTrace base p ring.items place (bytes_of g)) (sym same) (shown base p ring.items place within)
+    subst (λ (g : Finding). ShowsTrace base p ring.items place (bytes_of g)) (sym same)
+    (shown base p ring.items place within)
 
 -- a number in base ten has no leading zeros
 plain : (b : Base) (ns : List ℕ) (n : ℕ) → radix b ≡ 10 → codes " " ++ padded (form_of b ns) n ≡ 32 ∷ decimal n
@@ -133,12 +145,14 @@ plain b ns n ten =
     ap (λ r. 32 ∷ (replicate ((if r == 10 then 0 else widest b ns) - length (digits r false n)) 48 ++ digits r false n)) ten
     ∙ ap (λ k. 32 ∷ (replicate k 48 ++ decimal n)) none
 
-all_plain : (b : Base) (ms ns : List ℕ) → radix b ≡ 10 → after_blanks (form_of b ms) ns ≡ flat_map (λ n. 32 ∷ decimal n) ns
+all_plain : (b : Base) (ms ns : List ℕ) → radix b ≡ 10
+    → after_blanks (form_of b ms) ns ≡ flat_map (λ n. 32 ∷ decimal n) ns
 all_plain b ms [] ten = refl
 all_plain b ms (n ∷ ns) ten = ap₂ (λ a b. a ++ b) (plain b ms n ten) (all_plain b ms ns ten)
 
 -- a row in base ten is a blank and the line of its numbers
-row_is_line : (b : Base) (ns : List ℕ) → radix b ≡ 10 → 0 < length ns → row b ns ≡ codes " " ++ line (numbers_text ns ∷ [])
+row_is_line : (b : Base) (ns : List ℕ) → radix b ≡ 10 → 0 < length ns
+    → row b ns ≡ codes " " ++ line (numbers_text ns ∷ [])
 row_is_line b [] ten some = absurd (omega arith)
 row_is_line b (n ∷ ns) ten some =
     ap (λ l. l ++ codes "\n") (all_plain b (n ∷ ns) (n ∷ ns) ten)
@@ -168,8 +182,11 @@ trace_ends one_reading no_refusal no_fault m segments ring base input p f g text
     let channels = run_tells one_reading no_refusal no_fault m segments ring input p g text is_ring within run in
     let some : 0 < length x = omega (arith, is_ring.long) in
     let front = row_line base (codes "ring") x
-    ++ (register_lines base p x 0 ++ flat_map (round_lines base p x) (range_with_len 0 (length p.steps))) in
-    (front, ap bytes_of lines ∙ ends base p x ten some ∙ ap (λ l. front ++ (codes "finish " ++ l)) (sym (ap bytes_of channels)))
+    ++ (register_lines base p x 0 ++ flat_map (round_lines base p x) (range_with_len 0 (length p.steps))) in (
+      front,
+      ap bytes_of lines ∙ ends base p x ten some
+          ∙ ap (λ l. front ++ (codes "finish " ++ l)) (sym (ap bytes_of channels)),
+    )
 
 pub print_tells : OneReading → PrintedIsRead → PrintsAreReadBack
 print_tells one_reading read input p f reads is =

@@ -1,6 +1,7 @@
 -- The laws: a task has one report on an input, reports agree with global rounds, and prints and table texts are read
 -- back. A report is what the task finds, whose bytes are those of `bytes_of`.
-use Rattle.std.specs.Prelude.{◌≡◌, ◌≢◌, ◌↔◌, ◌⊎◌, ℕ, ◌+◌, ◌*◌, ◌%◌, ◌<◌, ◌≤◌, List, ◌++◌, Vec, Some, None, ⊤, length, map, codes}
+use Rattle.std.specs.Prelude.{◌≡◌, ◌≢◌, ◌↔◌, ◌⊎◌, ℕ, ◌+◌, ◌*◌, ◌%◌, ◌<◌, ◌≤◌, List, ◌++◌, Vec, Some, None, ⊤, length}
+use Rattle.std.specs.Prelude.{map, codes}
 use Rattle.std.specs.Int.{abs_diff}
 use Rattle.std.specs.List.{range_with_len}
 use Rattle.std.specs.declared.alloc.Global.{Global}
@@ -32,7 +33,8 @@ use Rattle.headline.specs.Headline.{ChannelsAreApart, ChannelsSolve}
 use Rattle.table_text.specs.TableText.{table_text}
 use Rattle.table_text.specs.Texts.{IsTextOf}
 use Rattle.task_words.specs.declared.task.Task.{Task}
-use Rattle.task_words.specs.declared.task.Task.TheVariants.{Print, Table, Judge, Run, Trace, Explain, Plan, Audit, Apply, Migrate, Refute}
+use Rattle.task_words.specs.declared.task.Task.TheVariants.{Print, Table, Judge, Run, Trace, Explain, Plan, Audit}
+use Rattle.task_words.specs.declared.task.Task.TheVariants.{Apply, Migrate, Refute}
 use Rattle.reports.specs.declared.status.Status.TheVariants.{Done, No}
 use Rattle.table_formula.specs.declared.refutation.fault.RefuteError.TheVariants as refute
 use Rattle.table_formula.specs.RefutationNotes.{MayHaveAdvice}
@@ -67,13 +69,14 @@ JudgeTellsRounds =
     → ((status_of r ≡ Done) ↔ ChannelsAreApart p m (record { near = near; far = far }))
     × ((status_of r ≡ No) ↔ (¬ ChannelsAreApart p m (record { near = near; far = far })))
 
--- on a problem it has the status of a yes exactly if no ring has channels of global rounds that a pattern matches, and that of a no
--- exactly if one has
+-- on a problem it has the status of a yes exactly if no ring has channels of global rounds that a pattern matches,
+-- and that of a no exactly if one has
 abbrev pub JudgeTellsSolutions : Type 0
 JudgeTellsSolutions =
     (m workers : ℕ) (problem : Problem) (input : List ℕ) (p : ProgramTree) (r : Finding) → IsAcceptedText input m p →
     IsReport (Judge m workers (Solve problem)) input r
-    → ((status_of r ≡ Done) ↔ ChannelsSolve p m (patterns_of problem)) × ((status_of r ≡ No) ↔ (¬ ChannelsSolve p m (patterns_of problem)))
+    → ((status_of r ≡ Done) ↔ ChannelsSolve p m (patterns_of problem))
+    × ((status_of r ≡ No) ↔ (¬ ChannelsSolve p m (patterns_of problem)))
 
 -- the report of a run on a ring, in a number of segments in its range, is the channels of global rounds
 abbrev pub RunTellsRounds : Type 0
@@ -83,7 +86,8 @@ RunTellsRounds =
     IsReport (Run m ring segments) input r
     → r ≡ value.channels (channels_of p ring.items)
 
--- the report of a trace on a ring is the trace of the identifiers, the registers and the messages of its places in global rounds
+-- the report of a trace on a ring is the trace of the identifiers, the registers and the messages of its places in
+-- global rounds
 abbrev pub TraceTellsRounds : Type 0
 TraceTellsRounds =
     (m : ℕ) (ring : Vec ℕ Global) (base : Base) (input : List ℕ) (p : ProgramTree) (r : Finding) →
@@ -99,8 +103,8 @@ ExplainTellsRounds =
     → IsRing m (length p.steps) ring.items → place < length ring.items → IsReport (Explain m ring place base) input r
     → r ≡ value.tree base p ring.items place
 
--- so its bytes have below each heading a tree whose first line has the number that the line of a trace has at the place, and
--- below `finish` the one that a run has there
+-- so its bytes have below each heading a tree whose first line has the number that the line of a trace has at the
+-- place, and below `finish` the one that a run has there
 abbrev pub ExplainShowsTrace : Type 0
 ExplainShowsTrace =
     (m place : ℕ) (ring : Vec ℕ Global) (base : Base) (input : List ℕ) (p : ProgramTree) (r : Finding) →
@@ -108,8 +112,8 @@ ExplainShowsTrace =
     → IsRing m (length p.steps) ring.items → place < length ring.items → IsReport (Explain m ring place base) input r
     → ShowsTrace base p ring.items place (bytes_of r)
 
--- in base ten the last line of a trace is a word, followed by the bytes of the report of a run on the ring, in any number of
--- segments in its range
+-- in base ten the last line of a trace is a word, followed by the bytes of the report of a run on the ring, in any
+-- number of segments in its range
 abbrev pub TraceEndsWithRun : Type 0
 TraceEndsWithRun =
     (m segments : ℕ) (ring : Vec ℕ Global) (base : Base) (input : List ℕ) (p : ProgramTree) (r s : Finding) →
@@ -140,9 +144,9 @@ TableTellsRounds =
     × ((ring : List ℕ) (place : ℕ) → IsRing m (length p.steps) ring → place < length ring
     → channel_of (table_of p m) (window_around ring (length p.steps) place) ≡ Some (channel_at p ring place))
 
--- The reports on an accepted program agree with global rounds: the status of a judge of channels that are apart or solve a
--- problem, the channels of a run, a trace, which ends with those of a run, an explanation, which shows what a trace and a run
--- have, the channels of a plan, and a table.
+-- The reports on an accepted program agree with global rounds: the status of a judge of channels that are apart or
+-- solve a problem, the channels of a run, a trace, which ends with those of a run, an explanation, which shows what
+-- a trace and a run have, the channels of a plan, and a table.
 pub record ReportsTellRounds : Type 0 where
   pub judge : JudgeTellsRounds
   pub solve : JudgeTellsSolutions
@@ -178,7 +182,8 @@ MigrateKeepsNewTexts =
 -- a second migrate changes nothing
 abbrev pub MigrateTwiceIsOnce : Type 0
 MigrateTwiceIsOnce =
-    (input : List ℕ) (r s : Finding) → IsReport Migrate input r → status_of r ≡ Done → IsReport Migrate (bytes_of r) s → s ≡ r
+    (input : List ℕ) (r s : Finding) → IsReport Migrate input r → status_of r ≡ Done
+    → IsReport Migrate (bytes_of r) s → s ≡ r
 
 -- the report of audit on the text of the report of table is that of judge, with the same near and far
 abbrev pub AuditOfTableIsJudge : Type 0
@@ -201,8 +206,8 @@ ApplyOfTableIsPlan =
     IsReport (Table m v near far) input r → status_of r ≡ Done
     → IsReport (Apply ring) (bytes_of r) s → IsReport (Plan m ring w) input s
 
--- If the report of audit on a table text is a yes, that of apply on each ring with at least as many nodes as a tuple has
--- channels that are as far apart as the text asks.
+-- If the report of audit on a table text is a yes, that of apply on each ring with at least as many nodes as a
+-- tuple has channels that are as far apart as the text asks.
 abbrev pub AuditedChannelsAreApart : Type 0
 AuditedChannelsAreApart =
     (input : List ℕ) (t : ChannelTable) (s : Separation) (ring : Vec ℕ Global) (judged r : Finding)
@@ -213,8 +218,8 @@ AuditedChannelsAreApart =
     → (s.near ≤ abs_diff (channel place) (channel (right_of ring.items place)))
     × (s.far ≤ abs_diff (channel place) (channel (right_of ring.items (right_of ring.items place)))))
 
--- the note on such a refusal has no advice: a list that is no ring, a place that a ring has not, a number of segments, or a fault of
--- a refutation other than a line that has not its form or an end too early
+-- the note on such a refusal has no advice: a list that is no ring, a place that a ring has not, a number of
+-- segments, or a fault of a refutation other than a line that has not its form or an end too early
 abbrev pub IsPlain : Fault → Type 0
 IsPlain (of_ring m t places f) = ⊤
 IsPlain (of_place place places) = ⊤
@@ -236,7 +241,8 @@ HasNoAdvice f = IsToldPlainly (told_on f)
 -- a finding without advice has at most one note
 abbrev pub OneNote : Type 0
 OneNote =
-    (input : List ℕ) (f : Finding) (note other : List ℕ) → HasNoAdvice f → IsNote input f note → IsNote input f other → note ≡ other
+    (input : List ℕ) (f : Finding) (note other : List ℕ) → HasNoAdvice f → IsNote input f note
+    → IsNote input f other → note ≡ other
 
 -- the report of refute on a text is that the formula is refuted
 pub record IsRefuted (m t channels : ℕ) (demand : Demand) : Type 0 where
@@ -263,7 +269,8 @@ NoTableIfRefuted =
 -- and if the formula of a problem is refuted, no such table solves it
 abbrev pub NoTableSolvesIfRefuted : Type 0
 NoTableSolvesIfRefuted =
-    (m t channels : ℕ) (problem : Problem) (table : ChannelTable) → IsRefuted m t channels (Solve problem) → IsTable table →
+    (m t channels : ℕ) (problem : Problem) (table : ChannelTable) → IsRefuted m t channels (Solve problem)
+    → IsTable table →
     m ≤ table.ids → table.rounds ≤ t → table.channels ≤ channels → ¬ IsSolvedEverywhere table (patterns_of problem)
 
 -- two channels of the table are too close on some ring
@@ -284,11 +291,12 @@ NoProgramIfRefuted =
     IsAcceptedText text ids p → m ≤ ids
     → length p.steps ≤ t → p.channels ≤ channels → AsksForAsMuch ids t own s → Fails ids own text p
 
--- and no accepted program with these numbers solves the problem: on some ring a pattern matches channels of its global rounds, and
--- the report of a judge on its text is a no
+-- and no accepted program with these numbers solves the problem: on some ring a pattern matches channels of its
+-- global rounds, and the report of a judge on its text is a no
 abbrev pub NoProgramSolvesIfRefuted : Type 0
 NoProgramSolvesIfRefuted =
-    (m t channels ids workers : ℕ) (problem : Problem) (text : List ℕ) (p : ProgramTree) → IsRefuted m t channels (Solve problem) →
+    (m t channels ids workers : ℕ) (problem : Problem) (text : List ℕ) (p : ProgramTree)
+    → IsRefuted m t channels (Solve problem) →
     IsAcceptedText text ids p → m ≤ ids → length p.steps ≤ t → p.channels ≤ channels
     → (¬ ChannelsSolve p ids (patterns_of problem))
     × ((r : Finding) → IsReport (Judge ids workers (Solve problem)) text r → status_of r ≡ No)
@@ -297,7 +305,8 @@ NoProgramSolvesIfRefuted =
 abbrev pub ProgramsNeedChannels : Type 0
 ProgramsNeedChannels =
     (ids : ℕ) (s : Separation) (text : List ℕ) (p : ProgramTree) → IsAcceptedText text ids p → 1 ≤ s.near
-    → (s.far ≡ 0) ⊎ (2 * length p.steps + 3 ≤ ids) → tower (2 * length p.steps) (spread p.channels s.near) < ids → Fails ids s text p
+    → (s.far ≡ 0) ⊎ (2 * length p.steps + 3 ≤ ids) → tower (2 * length p.steps) (spread p.channels s.near) < ids
+    → Fails ids s text p
 
 -- on every ring the channels of global rounds are below c
 abbrev pub ChannelsAreBelow : ProgramTree → ℕ → ℕ → Type 0
@@ -310,7 +319,8 @@ ChannelsAreBelow p m c =
 abbrev pub RoundsNeedChannels : Type 0
 RoundsNeedChannels =
     (p : ProgramTree) (m c : ℕ) (s : Separation) → 2 * length p.steps + 2 ≤ m → ChannelsAreBelow p m c → 1 ≤ s.near
-    → (s.far ≡ 0) ⊎ (2 * length p.steps + 3 ≤ m) → ChannelsAreApart p m s → m ≤ tower (2 * length p.steps) (spread c s.near)
+    → (s.far ≡ 0) ⊎ (2 * length p.steps + 3 ≤ m) → ChannelsAreApart p m s
+    → m ≤ tower (2 * length p.steps) (spread c s.near)
 
 -- and if they are a maximal independent set on every ring, m is at most the tower of height 2t+2 over 3
 abbrev pub IndependentSetsNeedRounds : Type 0
@@ -321,26 +331,31 @@ IndependentSetsNeedRounds =
 -- if they are a maximal matching, m is at most the tower of height 2t over 3
 abbrev pub MatchingsNeedRounds : Type 0
 MatchingsNeedRounds =
-    (p : ProgramTree) (m : ℕ) → 2 * length p.steps + 2 ≤ m → ChannelsAreBelow p m 3 → ChannelsSolve p m matching → m ≤ tower (2 * length p.steps) 3
+    (p : ProgramTree) (m : ℕ) → 2 * length p.steps + 2 ≤ m → ChannelsAreBelow p m 3 → ChannelsSolve p m matching
+    → m ≤ tower (2 * length p.steps) 3
 
 -- with identifiers for a ring of 2t+3 nodes a program has more channels than twice near, or fails
 abbrev pub RoundsNeedThree : Type 0
 RoundsNeedThree =
-    (p : ProgramTree) (m c : ℕ) (s : Separation) → 2 * length p.steps + 3 ≤ m → ChannelsAreBelow p m c → 1 ≤ s.near → ChannelsAreApart p m s → 2 * s.near < c
+    (p : ProgramTree) (m c : ℕ) (s : Separation) → 2 * length p.steps + 3 ≤ m → ChannelsAreBelow p m c → 1 ≤ s.near
+    → ChannelsAreApart p m s → 2 * s.near < c
 
 abbrev pub ProgramsNeedThree : Type 0
 ProgramsNeedThree =
-    (ids : ℕ) (s : Separation) (text : List ℕ) (p : ProgramTree) → IsAcceptedText text ids p → 1 ≤ s.near → 2 * length p.steps + 3 ≤ ids
+    (ids : ℕ) (s : Separation) (text : List ℕ) (p : ProgramTree) → IsAcceptedText text ids p → 1 ≤ s.near
+    → 2 * length p.steps + 3 ≤ ids
     → p.channels ≤ 2 * s.near → Fails ids s text p
 
 -- with far above 0 they are four or more if a ring can have a number of nodes that is no multiple of three
 abbrev pub RoundsNeedFour : Type 0
 RoundsNeedFour =
-    (p : ProgramTree) (m c n : ℕ) (s : Separation) → 2 * length p.steps + 3 ≤ n → n ≤ m → n % 3 ≢ 0 → ChannelsAreBelow p m c → 1 ≤ s.near → 1 ≤ s.far
+    (p : ProgramTree) (m c n : ℕ) (s : Separation) → 2 * length p.steps + 3 ≤ n → n ≤ m → n % 3 ≢ 0
+    → ChannelsAreBelow p m c → 1 ≤ s.near → 1 ≤ s.far
     → ChannelsAreApart p m s → 4 ≤ c
 
 -- and five or more if a ring can have five nodes
 abbrev pub RoundsNeedFive : Type 0
 RoundsNeedFive =
-    (p : ProgramTree) (m c : ℕ) (s : Separation) → length p.steps ≤ 1 → 5 ≤ m → ChannelsAreBelow p m c → 1 ≤ s.near → 1 ≤ s.far → ChannelsAreApart p m s
+    (p : ProgramTree) (m c : ℕ) (s : Separation) → length p.steps ≤ 1 → 5 ≤ m → ChannelsAreBelow p m c → 1 ≤ s.near
+    → 1 ≤ s.far → ChannelsAreApart p m s
     → 5 ≤ c

@@ -58,12 +58,11 @@ pub fn each_task_has_a_report()
 }
 
 /// The reports on an accepted program agree with synchronous rounds on rings (Linial 1992). The
-/// status of a judge says whether their channels are apart, or solve the problem, on every ring. The line of a run and the
-/// lines of a plan have their channels on the ring. The lines of a trace have the registers and the
-/// messages of the ring's places, and end with the report of a run. An explanation has the value of
-/// each part of each expression at its place; that of a whole expression is the number that a trace
-/// has there, or the channel that a run has. A table has their channels at
-/// the windows of every ring.
+/// status of a judge says whether their channels are apart, or solve the problem, on every ring. The line of a run
+/// and the lines of a plan have their channels on the ring. The lines of a trace have the registers and the
+/// messages of the ring's places, and end with the report of a run. An explanation has the value of each part of
+/// each expression at its place; that of a whole expression is the number that a trace has there, or the channel
+/// that a run has. A table has their channels at the windows of every ring.
 pub fn reports_tell_rounds()
     ensures { law.ReportsTellRounds }
 {

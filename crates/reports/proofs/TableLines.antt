@@ -1,5 +1,6 @@
 -- The channels of a ring's places by a table.
-use Rattle.std.proofs.Common.{◌≡◌, ℕ, zero, suc, ◌+◌, ◌*◌, ◌<◌, ◌∷◌, List, map, Option, None, Some, length, option_map, refl, sym, ap, ap₂, subst, ◌∙◌, arith}
+use Rattle.std.proofs.Common.{◌≡◌, ℕ, zero, suc, ◌+◌, ◌*◌, ◌<◌, ◌∷◌, List, map, Option, None, Some, length, option_map}
+use Rattle.std.proofs.Common.{refl, sym, ap, ap₂, subst, ◌∙◌, arith}
 use Rattle.std.specs.Prelude.{IsSome, slice_index}
 use Rattle.std.specs.List.{range_with_len}
 use Rattle.std.proofs.lemmas.Option.{same_Some}
@@ -62,7 +63,8 @@ same_shape m r t ring ids rounds is = subst (λ r. IsRing t.ids r ring) rounds (
 
 -- so the table has no place without a channel
 pub no_channel : TablesHaveChannels → (t : ChannelTable) (ring window : List ℕ) (place : ℕ)
-    → IsRing t.ids t.rounds ring → place < length ring → window ≡ window_around ring t.rounds place → None ≡ channel_of t window → ⊥
+    → IsRing t.ids t.rounds ring → place < length ring → window ≡ window_around ring t.rounds place
+    → None ≡ channel_of t window → ⊥
 no_channel have t ring window place is within same none =
     let met = have t ring is in
     let both : None ≡ Some (met.0 place) = none ∙ ap (channel_of t) same ∙ met.1 place within in cc

@@ -1,5 +1,6 @@
 -- The bytes of a finding.
-use Rattle.std.specs.Prelude.{◌==◌, ◌&&◌, if◌then◌else◌, ℕ, ◌+◌, ◌%◌, List, [], ◌∷◌, ◌++◌, length, map, max, take, slice_index, codes}
+use Rattle.std.specs.Prelude.{◌==◌, ◌&&◌, if◌then◌else◌, ℕ, ◌+◌, ◌%◌, List, [], ◌∷◌, ◌++◌, length, map, max, take}
+use Rattle.std.specs.Prelude.{slice_index, codes}
 use Rattle.std.specs.List.{flat_map, range_with_len}
 use Rattle.std.specs.Fmt.{decimal}
 use Rattle.node_lang.specs.Printed.{printed}
@@ -19,7 +20,8 @@ use Rattle.reports.specs.Lines.{line, numbers_text, right_aligned}
 -- the line of a program that is accepted
 abbrev pub accepted_line : (ids rounds channels bound windows : ℕ) → List ℕ
 accepted_line ids rounds channels bound windows =
-    line (codes "accepted ids " ∷ decimal ids ∷ codes " rounds " ∷ decimal rounds ∷ codes " channels " ∷ decimal channels
+    line (codes "accepted ids " ∷ decimal ids ∷ codes " rounds " ∷ decimal rounds ∷ codes " channels "
+    ∷ decimal channels
     ∷ codes " bound " ∷ decimal bound ∷ codes " windows " ∷ decimal windows ∷ [])
 
 -- the line of a table whose channels are far enough apart everywhere, with the number of its tuples
@@ -29,7 +31,8 @@ good_line count = line (codes "yes: " ∷ decimal count ∷ codes " tuples" ∷ 
 -- the line of a ring on which a place and its right neighbour have the same channel
 abbrev pub bad_line : List ℕ → ℕ → ℕ → List ℕ
 bad_line ring place channel =
-    line (codes "no: ring " ∷ numbers_text ring ∷ codes " place " ∷ decimal place ∷ codes " channel " ∷ decimal channel ∷ [])
+    line (codes "no: ring " ∷ numbers_text ring ∷ codes " place " ∷ decimal place ∷ codes " channel "
+    ∷ decimal channel ∷ [])
 
 -- the line of a ring on which the channels of two places are too close
 abbrev pub close_line : List ℕ → ℕ × ℕ → ℕ × ℕ → List ℕ
@@ -46,14 +49,16 @@ no_line s ring places channels =
 abbrev pub places_from : List ℕ → ℕ → ℕ → List ℕ
 places_from ring place count = map (λ step. (place + step) % length ring) (range_with_len 0 count)
 
--- how many places the line of a pattern that matches has: those up to its last entry that asks for a channel, at least two
+-- how many places the line of a pattern that matches has: those up to its last entry that asks for a channel, at
+-- least two
 abbrev pub shown : Pattern → ℕ
 shown pattern = max 2 (span pattern)
 
 -- the line of a ring on which the channels of a place and of those after it match a pattern
 abbrev pub broken_line : List ℕ → ℕ → ℕ × ℕ × ℕ → Pattern → List ℕ
 broken_line ring place channels pattern =
-    line (codes "no: ring " ∷ numbers_text ring ∷ codes " places " ∷ numbers_text (places_from ring place (shown pattern)) ∷ codes " channels "
+    line (codes "no: ring " ∷ numbers_text ring ∷ codes " places "
+    ∷ numbers_text (places_from ring place (shown pattern)) ∷ codes " channels "
     ∷ numbers_text (take (shown pattern) (channels.0 ∷ channels.1 ∷ channels.2 ∷ [])) ∷ [])
 
 -- the line of a place, with its identifier and its channel
@@ -74,7 +79,8 @@ demand_text s patterns = codes " forbid" ++ patterns_text patterns
 -- the line of a problem whose formula is refuted
 abbrev pub refuted_line : Problem → List ℕ
 refuted_line p =
-    line (codes "refuted: ids " ∷ decimal p.ids ∷ codes " rounds " ∷ decimal p.rounds ∷ codes " channels " ∷ decimal p.channels
+    line (codes "refuted: ids " ∷ decimal p.ids ∷ codes " rounds " ∷ decimal p.rounds ∷ codes " channels "
+    ∷ decimal p.channels
     ∷ demand_text p.separation p.forbidden ∷ [])
 
 -- the line of a refusal

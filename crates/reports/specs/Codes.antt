@@ -13,7 +13,8 @@ use Rattle.table_formula.specs.declared.refutation.fault.LineFault.{LineFault}
 use Rattle.table_formula.specs.declared.refutation.fault.LineFault.TheVariants as line_fault
 use Rattle.table_formula.specs.declared.refutation.fault.RefuteError.{RefuteError}
 use Rattle.table_formula.specs.declared.refutation.fault.RefuteError.TheVariants as refute
-use Rattle.reports.specs.Findings.{Fault, of_text, of_program, of_ring, of_place, of_segments, of_table_text, of_formula, of_refutation}
+use Rattle.reports.specs.Findings.{Fault, of_text, of_program, of_ring, of_place, of_segments, of_table_text}
+use Rattle.reports.specs.Findings.{of_formula, of_refutation}
 use Rattle.reports.specs.declared.problem.ProblemFault.{ProblemFault}
 use Rattle.reports.specs.declared.problem.ProblemFault.TheVariants as problem
 
@@ -102,7 +103,8 @@ details_of (of_text k offset) = codes " at " ++ decimal offset
 details_of (of_program p ids (check.RegisterOutOfRange j)) = codes " register " ++ decimal j
 details_of (of_program p ids (check.ChannelBound bound)) = codes " bound " ++ decimal bound
 details_of (of_ring m t places (ring.IdTooLarge place)) = codes " place " ++ decimal place
-details_of (of_ring m t places (ring.Repeated first second)) = codes " places " ++ (decimal first ++ (codes " " ++ decimal second))
+details_of (of_ring m t places (ring.Repeated first second)) = codes " places "
+    ++ (decimal first ++ (codes " " ++ decimal second))
 details_of (of_place place places) = codes " place " ++ decimal place
 details_of (of_table_text (table.Syntax offset)) = codes " at " ++ decimal offset
 details_of (of_table_text (table.WrongWindow number)) = codes " line " ++ decimal number

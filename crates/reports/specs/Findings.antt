@@ -25,9 +25,9 @@ use Rattle.reports.specs.declared.status.Status.{Status}
 use Rattle.reports.specs.declared.status.Status.TheVariants.{Done, No, Words, Refused, RingRefused, FormulaRefused}
 
 -- Why an input is refused: the fault of a program text and its place; the refusal of a program for a number of
--- identifiers; the fault of a list of identifiers, for m identifiers and t rounds; a place, or a number of segments, for a
--- number of places; the fault of a table text; why there is no formula of m identifiers and t rounds; the fault of a
--- refutation.
+-- identifiers; the fault of a list of identifiers, for m identifiers and t rounds; a place, or a number of
+-- segments, for a number of places; the fault of a table text; why there is no formula of m identifiers and t
+-- rounds; the fault of a refutation.
 pub data Fault : Type 0 where
   of_text : (kind : FaultKind) (offset : ℕ) → Fault
   of_program : (p : ProgramTree) (ids : ℕ) (f : CheckFault) → Fault
@@ -38,19 +38,21 @@ pub data Fault : Type 0 where
   of_formula : (m t : ℕ) (f : ProblemFault) → Fault
   of_refutation : (f : RefuteError) → Fault
 
--- What a task finds: the numbers of an accepted program; a program; that channels are apart on so many tuples of so many
--- nodes and identifiers, or that a separation is broken on a ring at two places by two channels; that a problem is solved on so
--- many tuples, with a pattern that never matches if there is one, or that a pattern matches on a ring from a place on, with the
--- channels of this place and of the two after it, the problem's name if it has one, and a pattern that never matches; the
--- channels of a ring; a trace of a program on a ring; how one of its places computes; a ring with its channels; a table with a
--- separation; a formula, or that it is refuted; or that the input is refused.
+-- What a task finds: the numbers of an accepted program; a program; that channels are apart on so many tuples of so
+-- many nodes and identifiers, or that a separation is broken on a ring at two places by two channels; that a
+-- problem is solved on so many tuples, with a pattern that never matches if there is one, or that a pattern matches
+-- on a ring from a place on, with the channels of this place and of the two after it, the problem's name if it has
+-- one, and a pattern that never matches; the channels of a ring; a trace of a program on a ring; how one of its
+-- places computes; a ring with its channels; a table with a separation; a formula, or that it is refuted; or that
+-- the input is refused.
 pub data Finding : Type 0 where
   accepted : (ids rounds channels bound windows : ℕ) → Finding
   program : (p : ProgramTree) → Finding
   yes : (tuples nodes ids : ℕ) → Finding
   no : (s : Separation) (ring : List ℕ) (places channels : ℕ × ℕ) → Finding
   solved : (tuples : ℕ) (idle : Option IdlePattern) → Finding
-  broken : (ring : List ℕ) (place : ℕ) (channels : ℕ × ℕ × ℕ) (pattern : Pattern) (known : Option KnownProblem) (idle : Option IdlePattern) → Finding
+  broken : (ring : List ℕ) (place : ℕ) (channels : ℕ × ℕ × ℕ) (pattern : Pattern) (known : Option KnownProblem)
+      (idle : Option IdlePattern) → Finding
   channels : (of : List ℕ) → Finding
   trace : (b : Base) (p : ProgramTree) (ring : List ℕ) → Finding
   tree : (b : Base) (p : ProgramTree) (ring : List ℕ) (place : ℕ) → Finding

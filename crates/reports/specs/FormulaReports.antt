@@ -27,8 +27,8 @@ pub record IsNoRefutation (p : Problem) (input : List ℕ) (fault : Fault) : Typ
   pub first : IsFault p input what
   pub is : fault ≡ of_refutation what
 
--- What is found on a refutation: the refusal of the numbers, the fault of a text that is no refutation, or that the formula
--- is refuted.
+-- What is found on a refutation: the refusal of the numbers, the fault of a text that is no refutation, or that the
+-- formula is refuted.
 abbrev pub IsRefuteReport : Problem → List ℕ → Finding → Type 0
 IsRefuteReport p input = IsRefusedOr (IsFormulaRefusal p)
     (λ f. HasFormula p × IsRefusedOr (IsNoRefutation p input) (λ f. IsRefutation p input × (f ≡ value.refuted p)) f)

@@ -13,5 +13,6 @@ TablesHaveChannels =
 -- a table has one list of channels on a ring: they are those that the table has there
 abbrev pub OneListOfChannels : Type 0
 OneListOfChannels =
-    (t : ChannelTable) (ring channels : List ℕ) (channel : ℕ → ℕ) → AreTableChannels t ring channels → HasChannels t ring channel
+    (t : ChannelTable) (ring channels : List ℕ) (channel : ℕ → ℕ) → AreTableChannels t ring channels
+    → HasChannels t ring channel
     → channels ≡ map channel (range_with_len 0 (length ring))

@@ -1,5 +1,5 @@
--- The definitions that the contracts cite: exit statuses, the numbers of a problem, findings, the codes of faults, their bytes, which
--- finding a task has, what writing one leaves, and the laws.
+-- The definitions that the contracts cite: exit statuses, the numbers of a problem, findings, the codes of faults,
+-- their bytes, which finding a task has, what writing one leaves, and the laws.
 pub mod StatusCodes
 pub mod Lines
 pub mod ProblemFaults

@@ -10,7 +10,8 @@ use Rattle.table_formula.specs.Limits.{IsWithinLimits}
 use Rattle.table_formula.specs.FormulaFaults.{IsFormulaFault}
 use Rattle.table_formula.specs.declared.formula.FormulaFault.TheVariants as formula
 use Rattle.reports.specs.declared.problem.ProblemFault.{ProblemFault}
-use Rattle.reports.specs.declared.problem.ProblemFault.TheVariants.{IdsOutOfRange, TooManyWindows, TooManyVariables, TooManyClauses}
+use Rattle.reports.specs.declared.problem.ProblemFault.TheVariants.{IdsOutOfRange, TooManyWindows}
+use Rattle.reports.specs.declared.problem.ProblemFault.TheVariants.{TooManyVariables, TooManyClauses}
 use Rattle.reports.specs.declared.problem.ProblemNumbers.{ProblemNumbers}
 
 -- whether there is a table of so many identifiers, rounds and channels that is as demanded

@@ -30,7 +30,8 @@ use Rattle.ring_problems.specs.Problems.{IsSolvedEverywhere}
 use Rattle.ring_problems.specs.Witnesses as problem_witnesses
 use Rattle.border_exchange.specs.SegmentCounts.{IsSegmentCount}
 use Rattle.numerals.specs.declared.base.Base.{Base}
-use Rattle.reports.specs.Findings.{Fault, of_text, of_program, of_ring, of_place, of_segments, of_table_text, Finding, refused}
+use Rattle.reports.specs.Findings.{Fault, of_text, of_program, of_ring, of_place, of_segments, of_table_text}
+use Rattle.reports.specs.Findings.{Finding, refused}
 use Rattle.reports.specs.Findings as value
 use Rattle.table_text.specs.declared.fault.TableFault.{TableFault}
 use Rattle.table_text.specs.declared.fault.TableFault.TheVariants as table
@@ -46,7 +47,8 @@ pub data IsRefusedOr (refusal : Fault → Type 0) (answer : Finding → Type 0) 
   told : (fault : Fault) → refusal fault → f ≡ refused fault → IsRefusedOr refusal answer f
   answered : answer f → IsRefusedOr refusal answer f
 
--- the numbers of a program that is accepted for `ids` identifiers; its windows are those of `2t+1` identifiers for `t` rounds
+-- the numbers of a program that is accepted for `ids` identifiers; its windows are those of `2t+1` identifiers for
+-- `t` rounds
 abbrev pub numbers_of : ℕ → ProgramTree → Finding
 numbers_of ids p =
     value.accepted ids (length p.steps) p.channels (finish_bound p ids) (length (windows (2 * length p.steps + 1) ids))
@@ -69,15 +71,16 @@ yes_of t s = value.yes (length (tuples t s)) (2 * t.rounds + 1 + extra s) t.ids
 -- What the judge finds: the channels are apart everywhere as the separation requires, or not on this ring.
 pub data IsJudgement (t : ChannelTable) (s : Separation) (f : Finding) : Type 0 where
   good : IsApartEverywhere t s → f ≡ yes_of t s → IsJudgement t s f
-  bad : (ring : List ℕ) (places channels : ℕ × ℕ) → IsWitness t s ring places channels → f ≡ value.no s ring places channels → IsJudgement t s f
+  bad : (ring : List ℕ) (places channels : ℕ × ℕ) → IsWitness t s ring places channels
+      → f ≡ value.no s ring places channels → IsJudgement t s f
 
 -- a no to a problem of a table with so many channels, on a ring from a place on
 abbrev pub broken_of : Problem → ℕ → List ℕ → ℕ → ℕ × ℕ × ℕ → Pattern → Finding
 broken_of problem count ring place channels pattern =
     value.broken ring place channels pattern (known_in problem) (idle_in (patterns_of problem) count)
 
--- What the judge finds on a problem: the table solves it, or a pattern matches on this ring; and a pattern that never matches, as the
--- table lacks a channel, if there is one.
+-- What the judge finds on a problem: the table solves it, or a pattern matches on this ring; and a pattern that
+-- never matches, as the table lacks a channel, if there is one.
 pub data IsProblemJudgement (t : ChannelTable) (problem : Problem) (f : Finding) : Type 0 where
   solved : IsSolvedEverywhere t (patterns_of problem)
       → f ≡ value.solved (length (problems.tuples t (patterns_of problem))) (idle_in (patterns_of problem) t.channels)
@@ -145,11 +148,12 @@ pub record IsTextRefusal (input : List ℕ) (fault : Fault) : Type 0 where
 abbrev pub IsPrintReport : List ℕ → Finding → Type 0
 IsPrintReport input = IsRefusedOr (IsTextRefusal input) (λ f. (p : ProgramTree) × Reads input p × (f ≡ value.program p))
 
--- Why a program text is refused for m identifiers: the fault of a text that reads as no program, or the first refusal of
--- its program.
+-- Why a program text is refused for m identifiers: the fault of a text that reads as no program, or the first
+-- refusal of its program.
 pub data IsProgramRefusal (m : ℕ) (input : List ℕ) (fault : Fault) : Type 0 where
   text_fault : IsTextRefusal input fault → IsProgramRefusal m input fault
-  check_fault : (p : ProgramTree) (f : CheckFault) → Reads input p → IsFirstRefusal m p f → fault ≡ of_program p m f → IsProgramRefusal m input fault
+  check_fault : (p : ProgramTree) (f : CheckFault) → Reads input p → IsFirstRefusal m p f → fault ≡ of_program p m f
+      → IsProgramRefusal m input fault
 
 -- What a task finds on a program text for m identifiers: its refusal, or what it finds on the accepted program.
 abbrev pub IsProgramReport : ℕ → (ProgramTree → Finding → Type 0) → List ℕ → Finding → Type 0

@@ -1,5 +1,6 @@
 -- The effect of writing a report on the writer, and the faults of a task.
-use Rattle.std.specs.Prelude.{◌≢◌, ◌↔◌, ◌<◌, ℕ, Bool, List, Option, Result, IfErr, IsErrOf, IsTrue, OnOk, ⊤, string_bytes}
+use Rattle.std.specs.Prelude.{◌≢◌, ◌↔◌, ◌<◌, ℕ, Bool, List, Option, Result, IfErr, IsErrOf, IsTrue, OnOk}
+use Rattle.std.specs.Prelude.{⊤, string_bytes}
 use Rattle.std.specs.Io.KnownBytes.{Appends, Keeps}
 use Rattle.devices.specs.declared.fault.EngineFault.{EngineFault}
 use Rattle.devices.specs.declared.fault.EngineFault.TheVariants.{Read, Write, Memory, Thread, Stranger}
@@ -9,7 +10,8 @@ use Rattle.reports.specs.Findings.{Fault, of_segments, of_formula, of_refutation
 use Rattle.reports.specs.declared.fault_line.Line.{Line}
 use Rattle.reports.specs.declared.fault_line.Line.TheVariants as line
 
--- what a fault leaves in the writer of a report of these bytes: after Write a prefix of it, after each other fault nothing
+-- what a fault leaves in the writer of a report of these bytes: after Write a prefix of it, after each other fault
+-- nothing
 abbrev pub LeavesFront : List ℕ → (before after : Option (List ℕ)) → EngineFault → Type 0
 LeavesFront bytes before after Write = AppendsFront before after bytes
 LeavesFront bytes before after _ = Keeps before after
@@ -28,8 +30,8 @@ abbrev pub bytes_in : Line → List ℕ
 bytes_in (line.Fixed text) = text.now
 bytes_in (line.Made text) = string_bytes text
 
--- the line of a refusal takes memory, except those of a number of segments, of the numbers of a formula, and of a refutation that is
--- too long
+-- the line of a refusal takes memory, except those of a number of segments, of the numbers of a formula, and of a
+-- refutation that is too long
 abbrev pub NeedsMemory : Fault → Type 0
 NeedsMemory (of_segments segments places) = ⊥
 NeedsMemory (of_formula m t f) = ⊥
@@ -41,9 +43,10 @@ abbrev pub MayLackMemory : Finding → EngineFault → Type 0
 MayLackMemory (refused f) Memory = NeedsMemory f
 MayLackMemory _ _ = ⊤
 
--- What writing a report of these bytes does: with Ok they were written; a fault leaves in the writer what it leaves, and is no
--- fault of a read or of threads; it is Write exactly if a write failed.
-pub record WritesBytes {T : Type 0} (bytes : List ℕ) (before after : Option (List ℕ)) (failed : Bool) (result : Result T EngineFault) : Type 0 where
+-- What writing a report of these bytes does: with Ok they were written; a fault leaves in the writer what it
+-- leaves, and is no fault of a read or of threads; it is Write exactly if a write failed.
+pub record WritesBytes {T : Type 0} (bytes : List ℕ) (before after : Option (List ℕ)) (failed : Bool)
+    (result : Result T EngineFault) : Type 0 where
   pub written : OnOk result (Appends before after bytes)
   pub left : IfErr result (LeavesFront bytes before after)
   pub unread : IfErr result (λ fault. fault ≢ Read)

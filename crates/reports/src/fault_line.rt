@@ -106,7 +106,8 @@ fn write_details(out: &mut String, fault: &Fault) -> Result<(), AllocError>
 
 // Writes the details of the refusal of a program.
 fn write_check_details(out: &mut String, fault: CheckFault) -> Result<(), AllocError>
-    ensures { (p : ProgramTree) (ids : ℕ) → OnOk result (string_bytes out.new ≡ string_bytes out.old ++ details_of (of_program p ids fault)) }
+    ensures { (p : ProgramTree) (ids : ℕ)
+        → OnOk result (string_bytes out.new ≡ string_bytes out.old ++ details_of (of_program p ids fault)) }
 {
     match fault {
         CheckFault::RegisterOutOfRange(register) => write!(out, " register {register}"),
@@ -120,7 +121,8 @@ fn write_check_details(out: &mut String, fault: CheckFault) -> Result<(), AllocE
 
 // Writes the details of the fault of a list of identifiers.
 fn write_ring_details(out: &mut String, fault: RingFault) -> Result<(), AllocError>
-    ensures { (ids rounds : ℕ) (places : List ℕ) → OnOk result (string_bytes out.new ≡ string_bytes out.old ++ details_of (of_ring ids rounds places fault)) }
+    ensures { (ids rounds : ℕ) (places : List ℕ)
+        → OnOk result (string_bytes out.new ≡ string_bytes out.old ++ details_of (of_ring ids rounds places fault)) }
 {
     match fault {
         RingFault::IdTooLarge(place) => write!(out, " place {place}"),

@@ -23,7 +23,8 @@ pub(crate) fn refuted_line(alloc: Global, numbers: &ProblemNumbers) -> Result<St
 
 // Returns the words of what is asked of the channels.
 fn demand_text(alloc: Global, demand: &Demand) -> Result<String, AllocError>
-    ensures { IfOk result (λ text. string_bytes text ≡ report.demand_text (separation_of demand.now) (forbidden_of demand.now)) }
+    ensures { IfOk result (λ text. string_bytes text
+        ≡ report.demand_text (separation_of demand.now) (forbidden_of demand.now)) }
 {
     let forbidden = demand.forbidden();
     if forbidden.is_empty() {

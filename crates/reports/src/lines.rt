@@ -141,7 +141,8 @@ fn broken_line(alloc: Global, witness: &PatternWitness) -> Result<String, AllocE
 
 // Returns the lines of a ring's places with these channels.
 fn places_text(alloc: Global, ring: &Ring, channels: &[u32]) -> Result<String, OutOfMemory>
-    ensures { IfOk result (λ text. string_bytes text ≡ report.lines_of_places ring.now.places (slice_index channels.now)) }
+    ensures { IfOk result (λ text. string_bytes text
+        ≡ report.lines_of_places ring.now.places (slice_index channels.now)) }
 {
     let mut text = String::new(alloc);
     for place in 0..ring.len() {

@@ -30,7 +30,8 @@ pub fn problem_answer(table: &Table, problem: &Problem, verdict: ProblemVerdict)
 
 /// Returns the finding of a no with this witness, for a table with this many channels.
 pub fn broken_answer(channels: u32, problem: &Problem, witness: PatternWitness) -> Finding
-    ensures { value_of result ≡ broken_of problem.now channels witness.ring.items witness.place witness.channels witness.pattern }
+    ensures { value_of result
+        ≡ broken_of problem.now channels witness.ring.items witness.place witness.channels witness.pattern }
 {
     Finding::Answer(Answer::Broken {
         witness,
@@ -42,7 +43,8 @@ pub fn broken_answer(channels: u32, problem: &Problem, witness: PatternWitness) 
 // Returns the finding of a yes on the table.
 fn solved_answer(table: &Table, problem: &Problem) -> Finding
     ensures { value_of result
-        ≡ value.solved (length (tuples table.now (patterns_of problem.now))) (idle_in (patterns_of problem.now) table.now.channels) }
+        ≡ value.solved (length (tuples table.now (patterns_of problem.now)))
+        (idle_in (patterns_of problem.now) table.now.channels) }
 {
     let tuples = ProblemTuples {
         windows: table,

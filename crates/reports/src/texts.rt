@@ -6,7 +6,8 @@ ghost use Rattle.lang_check.specs.Acceptance.{IsAccepted};
 ghost use Rattle.table_text.specs.LineForms.{IsSeparation};
 ghost use Rattle.table_text.specs.Texts.{IsTextOf};
 ghost use Rattle.reports.specs.Findings.{fault_of, value_of};
-ghost use Rattle.reports.specs.Report.{numbers_of, IsApplyAnswer, IsAudit, IsPrintReport, IsProgramRefusal, IsTableRefusal, IsTableReport, IsTableText, IsTextRefusal};
+ghost use Rattle.reports.specs.Report.{numbers_of, IsApplyAnswer, IsAudit, IsPrintReport, IsProgramRefusal};
+ghost use Rattle.reports.specs.Report.{IsTableRefusal, IsTableReport, IsTableText, IsTextRefusal};
 
 use crate::fault::Fault;
 use crate::finding::{Answer, Finding, TableReport};

@@ -33,7 +33,8 @@ pub fn write_finding<R: Threads + Sync, W: Write>(
     writer: &mut Watched<W>,
 ) -> Result<(), EngineFault>
     requires { has_failed writer.old ≡ false }
-    ensures writes { WritesBytes (bytes_of (value_of finding.now)) (W.contents (device_of writer.old)) (W.contents (device_of writer.new)) (has_failed writer.new) result }
+    ensures writes { WritesBytes (bytes_of (value_of finding.now)) (W.contents (device_of writer.old))
+        (W.contents (device_of writer.new)) (has_failed writer.new) result }
     ensures memory { IfErr result (MayLackMemory (value_of finding.now)) }
 {
     match finding {
@@ -52,7 +53,8 @@ fn write_report<R: Threads + Sync, W: Write>(
     writer: &mut Watched<W>,
 ) -> Result<(), OutFault>
     requires { has_failed writer.old ≡ false }
-    ensures { WritesText (table_text report.now.table report.now.separation) (W.contents (device_of writer.old)) (W.contents (device_of writer.new)) (has_failed writer.new) result }
+    ensures { WritesText (table_text report.now.table report.now.separation) (W.contents (device_of writer.old))
+        (W.contents (device_of writer.new)) (has_failed writer.new) result }
 {
     write_table_with_workers(
         rt,
@@ -71,7 +73,8 @@ fn write_answer<W: Write>(
     writer: &mut Watched<W>,
 ) -> Result<(), EngineFault>
     requires { has_failed writer.old ≡ false }
-    ensures { WritesBytes (bytes_of (answer_of answer.now)) (W.contents (device_of writer.old)) (W.contents (device_of writer.new)) (has_failed writer.new) result }
+    ensures { WritesBytes (bytes_of (answer_of answer.now)) (W.contents (device_of writer.old))
+        (W.contents (device_of writer.new)) (has_failed writer.new) result }
 {
     let text = text_of(alloc, answer)?;
     send(writer, text.as_bytes())?;
@@ -85,7 +88,8 @@ fn write_fault<W: Write>(
     writer: &mut Watched<W>,
 ) -> Result<(), EngineFault>
     requires { has_failed writer.old ≡ false }
-    ensures writes { WritesBytes (fault_line (fault_of fault.now)) (W.contents (device_of writer.old)) (W.contents (device_of writer.new)) (has_failed writer.new) result }
+    ensures writes { WritesBytes (fault_line (fault_of fault.now)) (W.contents (device_of writer.old))
+        (W.contents (device_of writer.new)) (has_failed writer.new) result }
     ensures memory { IfErr result (MayLackMemory (refused (fault_of fault.now))) }
 {
     let line = line_of(alloc, fault)?;

@@ -18,7 +18,8 @@ module _ (v : Parts) (kept : FitTogether v) where
       length (part_at v s).segment.plan.program.steps ≡ length v.plan.program.steps
   steps_are s lt = ap (λ (a : RingSegment). length a.plan.program.steps) (kept.segments_are s lt)
 
-  pub may_send : (s count : ℕ) (sent : List ℕ) → length sent ≡ count → CanSend (machine_of v) s sent → MaySend (part_at v s).segment count
+  pub may_send : (s count : ℕ) (sent : List ℕ) → length sent ≡ count → CanSend (machine_of v) s sent
+      → MaySend (part_at v s).segment count
   may_send s count sent size can =
       let lt = is_part s can.is_segment in
       let round = round_is v kept s lt in
@@ -27,7 +28,8 @@ module _ (v : Parts) (kept : FitTogether v) where
         unsent = omega (arith, can.unsent, round, size);
       }
 
-  pub can_send : (s count : ℕ) (sent : List ℕ) → s < length v.items → length sent ≡ count → MaySend (part_at v s).segment count
+  pub can_send : (s count : ℕ) (sent : List ℕ) → s < length v.items → length sent ≡ count
+      → MaySend (part_at v s).segment count
       → CanSend (machine_of v) s sent
   can_send s count sent lt size may =
       let round = round_is v kept s lt in

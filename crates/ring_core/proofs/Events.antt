@@ -6,7 +6,8 @@ use Rattle.border_exchange.specs.declared.Side.TheVariants.{Rightward, Leftward}
 use Rattle.round_eval.specs.Laws.{StretchesAreRows}
 use Rattle.ring_core.specs.declared.event.RingEvent.TheVariants.{Advance}
 use Rattle.ring_core.specs.Machine.{Steps}
-use Rattle.ring_core.specs.Progress.{Progress, Parts, FitTogether, MaySend, part_at, round_at, at_round, sent_by, after_sending, sending, machine_of}
+use Rattle.ring_core.specs.Progress.{Progress, Parts, FitTogether, MaySend, part_at, round_at, at_round, sent_by}
+use Rattle.ring_core.specs.Progress.{after_sending, sending, machine_of}
 use Rattle.ring_core.proofs.Enabled.{is_part, can_send, can_advance, may_send}
 use Rattle.ring_core.proofs.Views.{own_right_size, own_left_size}
 use Rattle.ring_core.proofs.Fits.{MayAdvance, fits, sent_next, advanced_next}

@@ -6,7 +6,8 @@ use Rattle.border_exchange.specs.declared.Side.{Side}
 use Rattle.border_exchange.specs.declared.Side.TheVariants.{Rightward, Leftward}
 use Rattle.border_exchange.specs.Segments.{RingSegment}
 use Rattle.ring_core.specs.Machine.{border_before, segment_after}
-use Rattle.ring_core.specs.Progress.{Progress, Parts, IsInStep, FitTogether, MaySend, no_part, part_at, round_at, at_round, sent_by, after_sending}
+use Rattle.ring_core.specs.Progress.{Progress, Parts, IsInStep, FitTogether, MaySend, no_part, part_at, round_at}
+use Rattle.ring_core.specs.Progress.{at_round, sent_by, after_sending}
 use Rattle.ring_core.proofs.Updates.{set_cases}
 
 -- new may replace part s
@@ -65,7 +66,12 @@ fits v s new kept lt next =
 
 -- a segment that has sent once more
 one_more : (a : RingSegment) (sent : ℕ) → IsInStep a sent → MaySend a sent → IsInStep a (sent + 1)
-one_more a sent step may = record { low = omega (arith, step.low); high = omega (arith, may.unsent); end = omega (arith, may.unfinished, may.unsent) }
+one_more a sent step may =
+    record {
+      low = omega (arith, step.low);
+      high = omega (arith, may.unsent);
+      end = omega (arith, may.unfinished, may.unsent);
+    }
 
 pub sent_next :
     (v : Parts) (s : ℕ) (new : Progress) (side : Side) → FitTogether v → s < length v.items

@@ -12,12 +12,16 @@ use Rattle.round_eval.specs.Laws.{StretchesAreRows}
 use Rattle.border_exchange.specs.Messages.{Heading, sent_under}
 use Rattle.border_exchange.specs.Segments.{RingSegment, first_of, places_of, states_of}
 use Rattle.border_exchange.specs.Needs.{from_left, from_right}
-use Rattle.ring_core.specs.Machine.{SegmentState, BorderState, no_messages, segment_at, left_border, right_border, border_before, segment_after, sent_right, sent_left, advanced}
-use Rattle.ring_core.specs.Progress.{Progress, Parts, FitTogether, no_part, part_at, round_at, at_round, rightward_headings, leftward_headings, headings_of, sent_by, after_sending, segment_state, values_under, rightward_values, leftward_values, machine_of}
+use Rattle.ring_core.specs.Machine.{SegmentState, BorderState, no_messages, segment_at, left_border, right_border}
+use Rattle.ring_core.specs.Machine.{border_before, segment_after, sent_right, sent_left, advanced}
+use Rattle.ring_core.specs.Progress.{Progress, Parts, FitTogether, no_part, part_at, round_at, at_round}
+use Rattle.ring_core.specs.Progress.{rightward_headings, leftward_headings, headings_of, sent_by, after_sending}
+use Rattle.ring_core.specs.Progress.{segment_state, values_under, rightward_values, leftward_values, machine_of}
 use Rattle.ring_core.proofs.Fits.{MayAdvance}
 use Rattle.ring_core.proofs.Neighbours.{before_inside, after_before, before_after}
 use Rattle.ring_core.proofs.Updates.{set_unseen, set_made}
-use Rattle.ring_core.proofs.Views.{value_at, message_of, message_is, plain, some_places, inside_ring, part_needed, count_is, plain_is, own_leftward, own_rightward, came_rightward, came_leftward}
+use Rattle.ring_core.proofs.Views.{value_at, message_of, message_is, plain, some_places, inside_ring, part_needed}
+use Rattle.ring_core.proofs.Views.{count_is, plain_is, own_leftward, own_rightward, came_rightward, came_leftward}
 
 -- one value more
 more_values :

@@ -2,7 +2,8 @@
 use Rattle.std.proofs.Common.{◌≡◌, ◌⊎◌, [], ◌∷◌, sym, subst, ◌∙◌, inl, inr}
 use Rattle.ring_core.specs.declared.event.RingEvent.{RingEvent}
 use Rattle.ring_core.specs.declared.event.RingEvent.TheVariants.{SendRight, SendLeft, Advance}
-use Rattle.ring_core.specs.Machine.{Machine, CanSendRight, sent_right, CanSendLeft, sent_left, CanAdvance, advanced, Steps, Runs}
+use Rattle.ring_core.specs.Machine.{Machine, CanSendRight, sent_right, CanSendLeft, sent_left, CanAdvance, advanced}
+use Rattle.ring_core.specs.Machine.{Steps, Runs}
 use Rattle.ring_core.specs.Laws.{OneRun}
 
 -- an event that changes the machine if it is enabled, and else does not

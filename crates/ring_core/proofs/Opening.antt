@@ -6,7 +6,8 @@ use Rattle.std.proofs.lemmas.List.FromFn.{fill_by_all, length-map-range_with_len
 use Rattle.lang_check.specs.Plans.{ProgramForIds}
 use Rattle.win_index.specs.Ring.{OrientedRing}
 use Rattle.ring_core.specs.Machine.{no_places, no_messages, segment_after, opening, opening_segment}
-use Rattle.ring_core.specs.Progress.{Progress, Parts, IsInStep, FitTogether, opening_part, no_part, part_at, machine_of, segment_state, border_state, rightward_values, leftward_values}
+use Rattle.ring_core.specs.Progress.{Progress, Parts, IsInStep, FitTogether, opening_part, no_part, part_at, machine_of}
+use Rattle.ring_core.specs.Progress.{segment_state, border_state, rightward_values, leftward_values}
 use Rattle.ring_core.proofs.Neighbours.{after_inside}
 
 module _ (plan : ProgramForIds) (ring : OrientedRing) (g : ℕ) where
@@ -22,7 +23,8 @@ module _ (plan : ProgramForIds) (ring : OrientedRing) (g : ℕ) where
   in_step : (s : ℕ) → s < g → (sent : Progress → ℕ) → sent (opening_part plan ring g s) ≡ 0
       → IsInStep (part_at opening_parts s).segment (sent (part_at opening_parts s))
   in_step s lt sent none =
-      subst (λ p. IsInStep p.segment (sent p)) (sym (part_is s lt)) (rw none (record { low = omega arith; high = omega arith; end = omega arith }))
+      subst (λ p. IsInStep p.segment (sent p)) (sym (part_is s lt))
+      (rw none (record { low = omega arith; high = omega arith; end = omega arith }))
 
   pub opening_fits : 1 ≤ g → g ≤ length ring.places → FitTogether opening_parts
   opening_fits some few =

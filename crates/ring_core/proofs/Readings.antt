@@ -1,5 +1,6 @@
 -- The accessors of a machine, and its invariant.
-use Rattle.std.proofs.Common.{◌≡◌, ℕ, ◌+◌, ◌<◌, suc, List, [], ◌∷◌, map, length, Option, None, Some, IfNone, slice_get, slice_index, arith, refl, subst, sym, ◌∙◌, ap}
+use Rattle.std.proofs.Common.{◌≡◌, ℕ, ◌+◌, ◌<◌, suc, List, [], ◌∷◌, map, length, Option, None, Some, IfNone, slice_get}
+use Rattle.std.proofs.Common.{slice_index, arith, refl, subst, sym, ◌∙◌, ap}
 use Rattle.std.specs.List.{range_with_len}
 use Rattle.std.proofs.lemmas.List.FromFn.{length-map-range_with_len, fill_by_all}
 use Rattle.border_exchange.specs.declared.Side.{Side}
@@ -11,11 +12,16 @@ use Rattle.border_exchange.specs.Messages.{Heading, sent_under}
 use Rattle.border_exchange.specs.Headings.{heading_of}
 use Rattle.border_exchange.specs.Segments.{RingSegment, first_of, places_of, states_of}
 use Rattle.border_exchange.specs.Needs.{to_the_left, to_the_right}
-use Rattle.ring_core.specs.Machine.{SegmentState, BorderState, Machine, segment_at, border_at, left_border, right_border, segment_after}
-use Rattle.ring_core.specs.MachinePromises.{HasGlobalStates, HasGlobalMessages, AreNear, segment_after_rounds, sent_at, heading_at}
-use Rattle.ring_core.specs.Progress.{Parts, Progress, FitTogether, AreInOrder, part_at, round_at, sent_by, sent_to, needed_to, sender_of, came_to, rightward_headings, leftward_headings, values_under, machine_of}
+use Rattle.ring_core.specs.Machine.{SegmentState, BorderState, Machine, segment_at, border_at, left_border}
+use Rattle.ring_core.specs.Machine.{right_border, segment_after}
+use Rattle.ring_core.specs.MachinePromises.{HasGlobalStates, HasGlobalMessages, AreNear, segment_after_rounds}
+use Rattle.ring_core.specs.MachinePromises.{sent_at, heading_at}
+use Rattle.ring_core.specs.Progress.{Parts, Progress, FitTogether, AreInOrder, part_at, round_at, sent_by, sent_to}
+use Rattle.ring_core.specs.Progress.{needed_to, sender_of, came_to, rightward_headings, leftward_headings}
+use Rattle.ring_core.specs.Progress.{values_under, machine_of}
 use Rattle.ring_core.proofs.Neighbours.{after_inside, before_after}
-use Rattle.ring_core.proofs.Views.{value_at, plain, count_is, plain_is, round_is, is_needed, own_rightward, own_right_size, came_leftward, came_left_size}
+use Rattle.ring_core.proofs.Views.{value_at, plain, count_is, plain_is, round_is, is_needed, own_rightward}
+use Rattle.ring_core.proofs.Views.{own_right_size, came_leftward, came_left_size}
 
 -- the case without a message
 pub if_none : {T : Type 0} (o : Option T) (P Q : Type 0) → (P → Q) → IfNone o P → IfNone o Q

@@ -11,8 +11,11 @@ use Rattle.border_exchange.specs.Messages.{Heading, sent_under}
 use Rattle.border_exchange.specs.SegmentPlaces.{first_place}
 use Rattle.border_exchange.specs.Segments.{RingSegment, first_of, places_of, states_of}
 use Rattle.border_exchange.specs.Needs.{in_its_round}
-use Rattle.ring_core.specs.Machine.{SegmentState, BorderState, no_places, no_messages, segment_at, border_at, left_border, right_border, border_before, segment_after, first_state, last_state}
-use Rattle.ring_core.specs.Progress.{Progress, Parts, FitTogether, no_part, part_at, round_at, sent_to, needed_to, sender_of, rightward_headings, leftward_headings, headings_of, segment_state, values_under, rightward_values, leftward_values, border_state, machine_of}
+use Rattle.ring_core.specs.Machine.{SegmentState, BorderState, no_places, no_messages, segment_at, border_at}
+use Rattle.ring_core.specs.Machine.{left_border, right_border, border_before, segment_after, first_state, last_state}
+use Rattle.ring_core.specs.Progress.{Progress, Parts, FitTogether, no_part, part_at, round_at, sent_to, needed_to}
+use Rattle.ring_core.specs.Progress.{sender_of, rightward_headings, leftward_headings, headings_of, segment_state}
+use Rattle.ring_core.specs.Progress.{values_under, rightward_values, leftward_values, border_state, machine_of}
 use Rattle.border_exchange.proofs.Places.{first_place-grows, first_place-inside}
 use Rattle.ring_core.proofs.Neighbours.{before_inside, sender_inside, after_before, left_end, right_end}
 
@@ -82,7 +85,8 @@ module _ (v : Parts) (kept : FitTogether v) where
       → headings_of (part_at v (sender_of (length v.items) s side)).segment side r ≡ needed_to side (plain s r)
   part_needed side s r lt =
       let b = sender_of (length v.items) s side in
-      ap (λ (a : RingSegment). headings_of a side r) (kept.segments_are b (sender_inside (length v.items) s side kept.some))
+      ap (λ (a : RingSegment). headings_of a side r)
+      (kept.segments_are b (sender_inside (length v.items) s side kept.some))
       ∙ is_needed side s r lt
 
   -- segments and borders of the machine

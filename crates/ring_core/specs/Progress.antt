@@ -15,7 +15,8 @@ use Rattle.border_exchange.specs.Segments.{RingSegment, states_of}
 use Rattle.border_exchange.specs.Needs.{from_left, from_right, to_the_right, to_the_left}
 use Rattle.ring_core.specs.declared.event.RingEvent.{RingEvent}
 use Rattle.ring_core.specs.declared.event.RingEvent.TheVariants.{SendRight, SendLeft}
-use Rattle.ring_core.specs.Machine.{SegmentState, BorderState, Machine, left_border, right_border, border_before, segment_after}
+use Rattle.ring_core.specs.Machine.{SegmentState, BorderState, Machine, left_border, right_border}
+use Rattle.ring_core.specs.Machine.{border_before, segment_after}
 
 -- a segment, and the numbers of its messages to the right and to the left
 pub record Progress : Type 0 where

@@ -28,7 +28,11 @@ impl<'a> Model for SegmentProgress<'a> {
 
     ghost coded = { progress_code };
 
-    ghost view = { λ p. record { segment = p.segment; rightward = vec_len p.rightward; leftward = vec_len p.leftward } };
+    ghost view = { λ p. record {
+      segment = p.segment;
+      rightward = vec_len p.rightward;
+      leftward = vec_len p.leftward;
+    } };
 
     ghost invariant = { λ p. KeepsMessages p.segment p.rightward.items p.leftward.items };
 }
@@ -67,7 +71,8 @@ impl<'a> SegmentProgress<'a> {
 
     // Returns the registers of the places.
     pub(crate) fn states(&self) -> &[u32]
-        ensures value { rows (length self.now.segment.plan.program.start) (places_of self.now.segment) result.now ≡ states_of self.now.segment }
+        ensures value { rows (length self.now.segment.plan.program.start) (places_of self.now.segment) result.now
+            ≡ states_of self.now.segment }
         ensures size { length result.now ≡ places_of self.now.segment * length self.now.segment.plan.program.start }
     {
         self.segment.states()
@@ -103,7 +108,8 @@ impl<'a> SegmentProgress<'a> {
 
     // Returns whether it has sent both ways in its current round.
     pub(crate) fn has_sent(&self) -> bool
-        ensures { IsTrue result ↔ ((self.now.segment.round < self.now.rightward) × (self.now.segment.round < self.now.leftward)) }
+        ensures { IsTrue result ↔ ((self.now.segment.round < self.now.rightward)
+            × (self.now.segment.round < self.now.leftward)) }
     {
         let round = self.segment.round() as usize;
         round < self.rightward.len() && round < self.leftward.len()

@@ -1,9 +1,11 @@
 //! The state after a list of events.
-ghost use Rattle.std.specs.Prelude.{◌≡◌, ◌*◌, ◌^◌, ◌<◌, ◌≤◌, ℕ, Some, IfOk, IfSome, IfNone, OnOk, length, slice_get, map};
+ghost use Rattle.std.specs.Prelude.{◌≡◌, ◌*◌, ◌^◌, ◌<◌, ◌≤◌, ℕ, Some, IfOk, IfSome, IfNone, OnOk, length};
+ghost use Rattle.std.specs.Prelude.{slice_get, map};
 ghost use Rattle.std.specs.List.{range_with_len};
 ghost use Rattle.round_eval.specs.Rows.{rows};
 ghost use Rattle.border_exchange.specs.Segments.{states_of};
-ghost use Rattle.ring_core.specs.Machine.{Steps, CanAdvance, segment_at, left_border, right_border, opening as opening_of};
+ghost use Rattle.ring_core.specs.Machine.{Steps, CanAdvance, segment_at, left_border};
+ghost use Rattle.ring_core.specs.Machine.{right_border, opening as opening_of};
 ghost use Rattle.ring_core.specs.MachinePromises.{KeepsPromises, segment_after_rounds, sent_at, heading_at};
 ghost use Rattle.ring_core.specs.Progress.{CanBeCut, opening_part, sending, came_to, needed_to, sender_of, sent_to};
 
@@ -86,8 +88,10 @@ impl<'a> World<'a> {
     fn needed(&self, segment: u32) -> Option<(Msg<'a>, Msg<'a>)>
         ensures none { IfNone result (¬ CanAdvance self.now segment) }
         ensures some { IfSome result (λ _. CanAdvance self.now segment) }
-        ensures left { IfSome result (λ needed. heading_of needed.0 ≡ from_left (segment_after_rounds self.now segment (segment_at self.now segment).round)) }
-        ensures right { IfSome result (λ needed. heading_of needed.1 ≡ from_right (segment_after_rounds self.now segment (segment_at self.now segment).round)) }
+        ensures left { IfSome result (λ needed. heading_of needed.0
+            ≡ from_left (segment_after_rounds self.now segment (segment_at self.now segment).round)) }
+        ensures right { IfSome result (λ needed. heading_of needed.1
+            ≡ from_right (segment_after_rounds self.now segment (segment_at self.now segment).round)) }
     {
         let index = segment as usize;
         if index >= self.count() || !self.part(index).has_sent() {
@@ -108,7 +112,8 @@ impl<'a> World<'a> {
         requires { index < length self.now.segments }
         ensures none { IfNone result (came_to self.now index side ≤ round) }
         ensures some { IfSome result (λ _. round < came_to self.now index side) }
-        ensures needed { IfSome result (λ m. heading_of m ≡ needed_to side (segment_after_rounds self.now index round)) }
+        ensures needed { IfSome result
+            (λ m. heading_of m ≡ needed_to side (segment_after_rounds self.now index round)) }
     {
         self.neighbours();
         let sender = self.sender(side, index);
@@ -131,7 +136,8 @@ impl<'a> World<'a> {
     // Proves that what the neighbours of a segment send in a round is what it needs in that round.
     fn neighbours(&self)
         ensures { (side : Side) (s r : ℕ) → s < length self.now.segments
-            → sent_to side (segment_after_rounds self.now (sender_of (length self.now.segments) s side) r) ≡ needed_to side (segment_after_rounds self.now s r) }
+            → sent_to side (segment_after_rounds self.now (sender_of (length self.now.segments) s side) r)
+            ≡ needed_to side (segment_after_rounds self.now s r) }
     {
         // The proof takes the invariant of the parts from this loan.
         let _parts = &self.parts;
@@ -175,9 +181,12 @@ impl<'a> World<'a> {
     /// many rounds as it has done.
     pub fn states(&self, segment: u32) -> &[u32]
         requires { segment < length self.now.segments }
-        ensures value { rows (length self.now.plan.program.start) (length (segment_at self.now segment).states) result.now ≡ (segment_at self.now segment).states }
-        ensures size { length result.now ≡ length (segment_at self.now segment).states * length self.now.plan.program.start }
-        ensures global { (segment_at self.now segment).states ≡ states_of (segment_after_rounds self.now segment (segment_at self.now segment).round) }
+        ensures value { rows (length self.now.plan.program.start) (length (segment_at self.now segment).states)
+            result.now ≡ (segment_at self.now segment).states }
+        ensures size { length result.now
+            ≡ length (segment_at self.now segment).states * length self.now.plan.program.start }
+        ensures global { (segment_at self.now segment).states
+            ≡ states_of (segment_after_rounds self.now segment (segment_at self.now segment).round) }
     {
         self.promises();
         self.part(segment as usize).states()
@@ -188,7 +197,8 @@ impl<'a> World<'a> {
     pub fn sent(&self, border: u32, side: Side) -> &[Msg<'a>]
         requires { border < length self.now.segments }
         ensures value { map (λ m. sent_under (heading_of m)) result.now ≡ sent_at self.now border side }
-        ensures global { (k : ℕ) (m : Msg) → slice_get result.now k ≡ Some m → heading_of m ≡ heading_at self.now border side k }
+        ensures global { (k : ℕ) (m : Msg) → slice_get result.now k ≡ Some m
+            → heading_of m ≡ heading_at self.now border side k }
     {
         self.promises();
         let index = border as usize;
@@ -207,7 +217,8 @@ fn opening_parts<'a>(
     segments: u32,
 ) -> Result<Vec<SegmentProgress<'a>>, OutOfMemory>
     requires { CanBeCut plan.now ring.now segments }
-    ensures { IfOk result (λ parts. parts.items ≡ map (opening_part plan.now ring.now segments) (range_with_len 0 segments)) }
+    ensures { IfOk result (λ parts. parts.items
+        ≡ map (opening_part plan.now ring.now segments) (range_with_len 0 segments)) }
 {
     let mut parts = Vec::new(alloc);
     for index in 0..segments {

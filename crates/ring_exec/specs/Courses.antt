@@ -1,5 +1,6 @@
 -- Runs on their way. No public contract cites this file.
-use Rattle.std.specs.Prelude.{◌≡◌, ◌≢◌, ℕ, ◌+◌, ◌<◌, ◌≤◌, ◌⊎◌, List, length, Option, None, Some, IsSome, IsNone, slice_get, vec_len, vec_capacity}
+use Rattle.std.specs.Prelude.{◌≡◌, ◌≢◌, ℕ, ◌+◌, ◌<◌, ◌≤◌, ◌⊎◌, List, length, Option, None, Some, IsSome, IsNone}
+use Rattle.std.specs.Prelude.{slice_get, vec_len, vec_capacity}
 use Rattle.border_exchange.specs.Segments.{RingSegment}
 use Rattle.border_exchange.specs.declared.segment.limits.TheConstants.{MAX_SEGMENTS}
 use Rattle.ring_exec.specs.Faults.{blamed}
@@ -10,8 +11,8 @@ use Rattle.ring_exec.specs.declared.fault.ThreadFault.TheVariants.{Work, NoThrea
 use Rattle.ring_exec.specs.declared.joined.Joined.{Joined}
 use Rattle.ring_exec.specs.declared.progress.Progress.{Progress}
 
--- the next segment has this index, the number of threads that were started, and the indices of the segments that are not
--- started fall to it
+-- the next segment has this index, the number of threads that were started, and the indices of the segments that
+-- are not started fall to it
 pub record AreWaiting (index threads : ℕ) (waiting : List RingSegment) : Type 0 where
   pub index_is : index ≡ threads
   pub falling : (k : ℕ) (s : RingSegment) → slice_get waiting k ≡ Some s → s.index + k + 1 ≡ index + length waiting
@@ -51,7 +52,8 @@ pub record HasStartedNext (before after : Progress) : Type 0 where
 -- memory
 pub record HasRefusedNext (before after : Progress) (fault : ThreadFault) : Type 0 where
   pub taken : HasTakenNext before after
-  pub why : ((fault ≡ NoThread) × (after.index ≡ before.index + 1)) ⊎ ((fault ≡ Work OutOfMemory) × (after.index ≡ before.index))
+  pub why : ((fault ≡ NoThread) × (after.index ≡ before.index + 1))
+      ⊎ ((fault ≡ Work OutOfMemory) × (after.index ≡ before.index))
 
 -- after the start of a segment: without a fault, there is one thread more, and no outcome
 abbrev pub HasStarted : Progress → Progress → Type 0

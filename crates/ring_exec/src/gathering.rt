@@ -49,7 +49,8 @@ fn write_part(plan: &Plan, segment: &Segment<'_>, first: usize, end: usize, chan
     requires done { (segment.now.plan ≡ plan.now) × (segment.now.round ≡ length plan.now.program.steps) }
     requires places { (first ≡ first_of segment.now) × (end ≡ first + places_of segment.now) }
     requires room { end ≤ length channels.old }
-    requires before { (i : ℕ) → i < first → slice_index channels.old i ≡ channel_at plan.now.program segment.now.ring.places i }
+    requires before { (i : ℕ) → i < first
+        → slice_index channels.old i ≡ channel_at plan.now.program segment.now.ring.places i }
     ensures { (i : ℕ) → i < end → slice_index channels.new i ≡ channel_at plan.now.program segment.now.ring.places i }
 {
     let width = width_of(plan);

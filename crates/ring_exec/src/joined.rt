@@ -1,5 +1,6 @@
 //! The outcomes of the segments of a run.
-ghost use Rattle.std.specs.Prelude.{◌≡◌, ◌+◌, ◌<◌, ◌≤◌, ◌++◌, [], ◌∷◌, None, Some, IfOk, IfErr, MatchResult, vec_len, vec_capacity};
+ghost use Rattle.std.specs.Prelude.{◌≡◌, ◌+◌, ◌<◌, ◌≤◌, ◌++◌, [], ◌∷◌, None, Some, IfOk, IfErr, MatchResult};
+ghost use Rattle.std.specs.Prelude.{vec_len, vec_capacity};
 ghost use Rattle.ring_exec.specs.Faults.{blamed};
 ghost use Rattle.ring_exec.specs.SegmentFaults.{work_fault_of};
 ghost use Rattle.ring_exec.specs.declared.fault.ThreadFault.TheVariants.{Work, NoThread};
@@ -32,9 +33,12 @@ impl<'a> Joined<'a> {
     pub(crate) fn add(&mut self, outcome: SegmentOutcome<'a>)
         requires { vec_len self.old.segments < vec_capacity self.old.segments }
         ensures added { MatchResult outcome.entry
-            (λ segment. (self.new.fault ≡ self.old.fault) × (self.new.segments.items ≡ self.old.segments.items ++ segment ∷ []))
-            (λ fault. (self.new.fault ≡ Some (blamed self.old.fault (Work (work_fault_of fault)))) × (self.new.segments ≡ self.old.segments)) }
-        ensures room { (vec_len self.new.segments ≤ vec_len self.old.segments + 1) × (vec_capacity self.new.segments ≡ vec_capacity self.old.segments) }
+            (λ segment. (self.new.fault ≡ self.old.fault)
+            × (self.new.segments.items ≡ self.old.segments.items ++ segment ∷ []))
+            (λ fault. (self.new.fault ≡ Some (blamed self.old.fault (Work (work_fault_of fault))))
+            × (self.new.segments ≡ self.old.segments)) }
+        ensures room { (vec_len self.new.segments ≤ vec_len self.old.segments + 1)
+            × (vec_capacity self.new.segments ≡ vec_capacity self.old.segments) }
         ensures no_thread { self.new.fault ≡ Some NoThread → self.old.fault ≡ Some NoThread }
     {
         match outcome {

@@ -1,5 +1,6 @@
 //! The run of a ring by messages, a thread for each segment.
-ghost use Rattle.std.specs.Prelude.{◌≡◌, ◌+◌, ◌-◌, ◌<◌, ◌↔◌, ℕ, [], None, IfOk, OnOk, IfErr, IfSome, IsErrOf, length, vec_len, slice_get};
+ghost use Rattle.std.specs.Prelude.{◌≡◌, ◌+◌, ◌-◌, ◌<◌, ◌↔◌, ℕ, [], None, IfOk, OnOk, IfErr, IfSome, IsErrOf, length};
+ghost use Rattle.std.specs.Prelude.{vec_len, slice_get};
 ghost use Rattle.node_program.specs.GlobalRounds.{channels_of};
 ghost use Rattle.ring_exec.specs.Borders.{AreBlanksOf};
 ghost use Rattle.ring_exec.specs.Courses.{AreWaiting};
@@ -47,7 +48,8 @@ pub fn run<'a, R: Threads + Wait + Sync, G: Gate + Sync>(
     requires shape { IsOfShape ring.now plan.now }
     ensures channels { IfOk result (λ channels. channels.items ≡ channels_of plan.now.program ring.now.places) }
     ensures in_range { OnOk result (IsSegmentCount segments (length ring.now.places)) }
-    ensures out_of_range { IfErr result (λ fault. (fault ≡ RunFault.SegmentsOutOfRange) ↔ (¬ IsSegmentCount segments (length ring.now.places))) }
+    ensures out_of_range { IfErr result (λ fault. (fault ≡ RunFault.SegmentsOutOfRange)
+        ↔ (¬ IsSegmentCount segments (length ring.now.places))) }
     ensures alone { IsErrOf result RunFault.NoThread → 1 < segments }
 {
     if segments == 0 || segments > MAX_SEGMENTS || segments > ring.len() {
@@ -117,9 +119,11 @@ fn no_progress<'a>(
 ) -> Result<Progress<'a>, OutOfMemory>
     requires { CanRun plan.now ring.now segments }
     ensures no_fault { IfOk result (λ progress. progress.joined.fault ≡ None) }
-    ensures first { IfOk result (λ progress. (progress.index ≡ 0) × (vec_len progress.threads ≡ 0) × (progress.joined.segments.items ≡ [])) }
+    ensures first { IfOk result (λ progress. (progress.index ≡ 0) × (vec_len progress.threads ≡ 0)
+        × (progress.joined.segments.items ≡ [])) }
     ensures waiting { IfOk result (λ progress. vec_len progress.waiting ≡ segments) }
-    ensures next { IfOk result (λ progress. AreWaiting progress.index (vec_len progress.threads) progress.waiting.items) }
+    ensures next { IfOk result
+        (λ progress. AreWaiting progress.index (vec_len progress.threads) progress.waiting.items) }
 {
     let waiting = waiting_segments(alloc, plan, ring, segments)?;
     let threads = Vec::with_capacity(alloc, segments as usize)?;
@@ -142,7 +146,13 @@ fn waiting_segments<'a>(
     requires { CanRun plan.now ring.now segments }
     ensures count { IfOk result (λ waiting. vec_len waiting ≡ segments) }
     ensures opening { IfOk result (λ waiting. (i : ℕ) → IfSome (slice_get waiting.items i)
-        (λ s. s ≡ record { plan = plan.now; ring = ring.now; segments = segments; index = segments - 1 - i; round = 0 })) }
+        (λ s. s ≡ record {
+          plan = plan.now;
+          ring = ring.now;
+          segments = segments;
+          index = segments - 1 - i;
+          round = 0;
+        })) }
 {
     let Ok(mut waiting) = Vec::with_capacity(alloc, segments as usize) else {
         return Err(OutOfMemory);

@@ -32,7 +32,8 @@ impl<'a> Progress<'a> {
         requires next { IfSome thread (λ thread. thread.promise.0 ≡ vec_len self.old.threads) }
         requires room { HasRoom self.old }
         ensures index { self.new.index ≡ self.old.index + 1 }
-        ensures kept { MatchOption thread.entry ((result ≡ Err NoThread) × (vec_len self.new.threads ≡ vec_len self.old.threads))
+        ensures kept { MatchOption thread.entry ((result ≡ Err NoThread)
+            × (vec_len self.new.threads ≡ vec_len self.old.threads))
             (λ _. (result ≡ Ok tt) × (vec_len self.new.threads ≡ vec_len self.old.threads + 1)) }
         ensures rest { (self.new.waiting ≡ self.old.waiting) × (self.new.joined ≡ self.old.joined) }
     {

@@ -2,7 +2,8 @@
 ghost use Rattle.std.specs.Prelude.{◌≡◌, ◌+◌, ◌<◌, IsNone, IsSome, IfErr, IfSome, OnOk};
 ghost use Rattle.border_exchange.specs.declared.Side.TheVariants.{Leftward};
 ghost use Rattle.ring_exec.specs.Borders.{AreBlanksOf};
-ghost use Rattle.ring_exec.specs.Courses.{HasEnded, HasNextSegment, HasRefused, HasRefusedNext, HasStarted, HasStartedNext, IsOnCourse};
+ghost use Rattle.ring_exec.specs.Courses.{HasEnded, HasNextSegment, HasRefused, HasRefusedNext, HasStarted};
+ghost use Rattle.ring_exec.specs.Courses.{HasStartedNext, IsOnCourse};
 ghost use Rattle.ring_exec.specs.Seats.{AreSeatsOf};
 
 use crate::border_name::{Blanks, BorderName};

@@ -148,7 +148,8 @@ fn send<'a, R: Wait, A: BorderName, B: BorderName>(
     right: &mut End<Msg<'a>, B>,
 ) -> Result<(), EndStop>
     requires { HasRoundToDo segment.now left.old.seat right.old.seat }
-    ensures seats { OnOk result (AreSeatsOf (record segment.now { round = segment.now.round + 1 }) left.new.seat right.new.seat) }
+    ensures seats { OnOk result
+        (AreSeatsOf (record segment.now { round = segment.now.round + 1 }) left.new.seat right.new.seat) }
 {
     let (rightward, leftward) = segment.outgoing();
     right.put(rt, rightward)?;
@@ -179,9 +180,12 @@ fn advance<'a>(
 ) -> Result<(), RunStop<'a>>
     requires more { segment.old.round < length segment.old.plan.program.steps }
     requires messages { AreOfRound segment.old.round (heading_of from_left) (heading_of from_right) }
-    ensures exactly { IsOk result ↔ ((heading_of from_left.entry ≡ needs.from_left segment.old) × (heading_of from_right.entry ≡ needs.from_right segment.old)) }
+    ensures exactly { IsOk result
+        ↔ ((heading_of from_left.entry ≡ needs.from_left segment.old)
+        × (heading_of from_right.entry ≡ needs.from_right segment.old)) }
     ensures advanced { OnOk result (segment.new ≡ record segment.old { round = segment.old.round + 1 }) }
-    ensures strange { IfErr result (λ stop. (stop ≡ StrangeTaken from_left.entry from_right.entry) × (segment.new ≡ segment.old)) }
+    ensures strange { IfErr result (λ stop. (stop ≡ StrangeTaken from_left.entry from_right.entry)
+        × (segment.new ≡ segment.old)) }
 {
     match segment.advance(from_left, from_right) {
         Ok(()) => Ok(()),

@@ -38,7 +38,8 @@ pub(crate) struct Mismatch<'a> {
     pub(crate) segment: Segment<'a>,
     pub(crate) from_left: Msg<'a>,
     pub(crate) from_right: Msg<'a>,
-    ghost unneeded: { ¬ ((heading_of from_left ≡ needs.from_left segment) × (heading_of from_right ≡ needs.from_right segment)) },
+    ghost unneeded: { ¬ ((heading_of from_left ≡ needs.from_left segment)
+        × (heading_of from_right ≡ needs.from_right segment)) },
 }
 
 // The fault of a segment.

@@ -1,11 +1,13 @@
 -- Patterns that match, and by how much tuples are longer than windows.
-use Rattle.std.proofs.Common.{◌≡◌, ℕ, ◌<◌, ◌≤◌, Bool, true, false, cond, List, Option, Some, slice_get, sym, ap, ◌∙◌, refl, arith}
+use Rattle.std.proofs.Common.{◌≡◌, ℕ, ◌<◌, ◌≤◌, Bool, true, false, cond, List, Option, Some, slice_get, sym, ap, ◌∙◌}
+use Rattle.std.proofs.Common.{refl, arith}
 use Rattle.std.proofs.lemmas.Map.Keys.{any_passes_from_place}
 use Rattle.std.proofs.lemmas.Option.{same_Some}
 use Rattle.ring_problems.specs.declared.pattern.Entry.{Entry}
 use Rattle.ring_problems.specs.declared.pattern.Entry.TheVariants.{Wildcard, Channel}
 use Rattle.ring_problems.specs.declared.pattern.Pattern.{Pattern}
-use Rattle.ring_problems.specs.Patterns.{Fits, Matches, IsForbidden, IsFirstMatch, is_channel, has_third, is_long, extra}
+use Rattle.ring_problems.specs.Patterns.{Fits, Matches, IsForbidden, IsFirstMatch, is_channel, has_third}
+use Rattle.ring_problems.specs.Patterns.{is_long, extra}
 
 two_or_one : (b : Bool) → (1 ≤ cond b 2 1) × (cond b 2 1 ≤ 2)
 two_or_one true = (omega arith, omega arith)
@@ -15,7 +17,8 @@ pub extra_range : (problem : List Pattern) → (1 ≤ extra problem) × (extra p
 extra_range problem = two_or_one (is_long problem)
 
 -- a pattern that asks something of the third place makes tuples longer
-pub extra_of_third : (problem : List Pattern) (n : ℕ) (p : Pattern) → slice_get problem n ≡ Some p → has_third p ≡ true → extra problem ≡ 2
+pub extra_of_third : (problem : List Pattern) (n : ℕ) (p : Pattern) → slice_get problem n ≡ Some p → has_third p ≡ true
+    → extra problem ≡ 2
 extra_of_third problem n p item third = ap (λ b. cond b 2 1) (any_passes_from_place has_third problem n p item third)
 
 -- the channel matters only to an entry that asks for one
@@ -24,7 +27,8 @@ fits_along Wildcard a b same fits = tt
 fits_along (Channel c) a b same fits = sym (same refl) ∙ fits
 
 pub matches_along :
-    (p : Pattern) (a b c d e f : Option ℕ) → a ≡ d → b ≡ e → (has_third p ≡ true → c ≡ f) → Matches p a b c → Matches p d e f
+    (p : Pattern) (a b c d e f : Option ℕ) → a ≡ d → b ≡ e → (has_third p ≡ true → c ≡ f) → Matches p a b c
+    → Matches p d e f
 matches_along p a b c d e f first second third m =
     (fits_along p.first a d (λ h. first) m.0, fits_along p.second b e (λ h. second) m.1, fits_along p.third c f third m.2)
 
@@ -53,11 +57,13 @@ first_along problem a b c d e f p first second third own =
           (matches_along q d e f a b c (sym first) (sym second) (λ h. sym (longer n q item h)) m);
     }
 
-pub first_is_forbidden : (problem : List Pattern) (a b c : Option ℕ) (p : Pattern) → IsFirstMatch problem a b c p → IsForbidden problem a b c
+pub first_is_forbidden : (problem : List Pattern) (a b c : Option ℕ) (p : Pattern) → IsFirstMatch problem a b c p
+    → IsForbidden problem a b c
 first_is_forbidden problem a b c p own = (own.number, p, own.item, own.matches)
 
 -- there is one first pattern
-pub one_first : (problem : List Pattern) (a b c : Option ℕ) (p q : Pattern) → IsFirstMatch problem a b c p → IsFirstMatch problem a b c q → p ≡ q
+pub one_first : (problem : List Pattern) (a b c : Option ℕ) (p q : Pattern) → IsFirstMatch problem a b c p
+    → IsFirstMatch problem a b c q → p ≡ q
 one_first problem a b c p q x y =
     let after : ¬ (y.number < x.number) = λ lt. x.first y.number q lt y.item y.matches in
     let before : ¬ (x.number < y.number) = λ lt. y.first x.number p lt x.item x.matches in

@@ -1,5 +1,6 @@
 -- The tuples that begin with the same 2t+2 identifiers are consecutive.
-use Rattle.std.proofs.Common.{◌≡◌, ℕ, ◌+◌, ◌-◌, ◌*◌, ◌<◌, ◌≤◌, ◌^◌, Bool, true, false, cond, List, take, length, slice_get, Some, sym, ap, ◌∙◌, ⊎_elim, arith, lit<}
+use Rattle.std.proofs.Common.{◌≡◌, ℕ, ◌+◌, ◌-◌, ◌*◌, ◌<◌, ◌≤◌, ◌^◌, Bool, true, false, cond, List, take, length}
+use Rattle.std.proofs.Common.{slice_get, Some, sym, ap, ◌∙◌, ⊎_elim, arith, lit<}
 use Rattle.std.proofs.lemmas.Bool.{cases_lt}
 use Rattle.std.proofs.lemmas.Nat.{mul-le}
 use Rattle.std.proofs.lemmas.Option.{same_Some}
@@ -22,18 +23,24 @@ pub next_none : (t : ChannelTable) (problem : List Pattern) (number : ℕ) (pair
 next_none t problem number pair at' none n tuple low high item bad =
     let k : ℕ = 2 * t.rounds + 1 + 1 in
     let parts = tuple_parts t.ids t.rounds n problem tuple item in
-    let same : parts.place ≡ number = one_run (per_pair t.ids t.rounds problem) parts.place parts.rest number n parts.inside parts.number low high in
-    let begins : take k tuple ≡ pair = same_Some (take k tuple) pair (sym parts.front_at ∙ ap (slice_get (windows k t.ids)) same ∙ at') in
+    let same : parts.place ≡ number =
+    one_run (per_pair t.ids t.rounds problem) parts.place parts.rest number n parts.inside
+    parts.number low high in
+    let begins : take k tuple ≡ pair =
+    same_Some (take k tuple) pair (sym parts.front_at ∙ ap (slice_get (windows k t.ids)) same ∙ at') in
     none tuple parts.is begins bad
 
 -- two ranges of tuples none of which is bad
-pub none_more : (t : ChannelTable) (problem : List Pattern) (low middle high : ℕ) → NoneIsBad t problem low middle → NoneIsBad t problem middle high
+pub none_more : (t : ChannelTable) (problem : List Pattern) (low middle high : ℕ) → NoneIsBad t problem low middle
+    → NoneIsBad t problem middle high
     → NoneIsBad t problem low high
 none_more t problem low middle high first second n tuple from to item =
-    ⊎_elim (λ (lt : n < middle). first n tuple from lt item) (λ (le : middle ≤ n). second n tuple le to item) (cases_lt n middle)
+    ⊎_elim (λ (lt : n < middle). first n tuple from lt item) (λ (le : middle ≤ n). second n tuple le to item)
+    (cases_lt n middle)
 
 -- the least bad tuple from a number on, where none before is bad
-pub least_more : (t : ChannelTable) (problem : List Pattern) (low middle n : ℕ) (tuple : List ℕ) → low ≤ middle → NoneIsBad t problem low middle
+pub least_more : (t : ChannelTable) (problem : List Pattern) (low middle n : ℕ) (tuple : List ℕ) → low ≤ middle
+    → NoneIsBad t problem low middle
     → IsLeastBad t problem middle n tuple → IsLeastBad t problem low n tuple
 least_more t problem low middle n tuple le none own =
     record {
@@ -53,7 +60,8 @@ pair_within m t problem number lt =
     rows_below a c b lt = grind arith
 
 -- the least bad tuple that begins with some 2t+2 identifiers, where none with those before is bad
-pub least_here : (t : ChannelTable) (problem : List Pattern) (low high count n : ℕ) → NoneIsBad t problem 0 low → high ≤ count
+pub least_here : (t : ChannelTable) (problem : List Pattern) (low high count n : ℕ)
+    → NoneIsBad t problem 0 low → high ≤ count
     → IsLeastIn t problem low high (Some n) → IsLeastIn t problem 0 count (Some n)
 least_here t problem low high count n none le own =
     (omega (arith, own.0, le), (own.1.0, least_more t problem 0 low n own.1.0 (omega arith) none own.1.1))
@@ -81,7 +89,8 @@ tuples_fit s problem =
 pub pair_fits : (s : Shape) (m t : ℕ) (problem : List Pattern) (number : ℕ) → s.ids ≡ m → s.rounds ≡ t
     → number < length (windows (2 * t + 1 + 1) m) → number * per_pair m t problem + per_pair m t problem < 2 ^ 64
 pair_fits s m t problem number ids rounds lt =
-    let same : length (windows (2 * s.rounds + 1 + 1) s.ids) * per_pair s.ids s.rounds problem ≡ length (windows (2 * t + 1 + 1) m) * per_pair m t problem =
+    let same : length (windows (2 * s.rounds + 1 + 1) s.ids) * per_pair s.ids s.rounds problem
+    ≡ length (windows (2 * t + 1 + 1) m) * per_pair m t problem =
     λ i. length (windows (2 * rounds i + 1 + 1) (ids i)) * per_pair (ids i) (rounds i) problem in
     omega (arith, tuples_fit s problem, same, tuple_count m t problem, pair_within m t problem number lt)
 

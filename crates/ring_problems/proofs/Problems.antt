@@ -1,6 +1,7 @@
--- What other crates cite of problems: patterns that match, tuples and their numbers, bad tuples, and what is in a list. Of the files
--- here they import this one alone.
-use Rattle.std.proofs.Common.{◌≡◌, ◌≢◌, ℕ, ◌+◌, ◌-◌, ◌*◌, ◌<◌, ◌≤◌, Bool, true, false, Option, List, length, All, filter, take, drop, slice_get, slice_index, Some}
+-- What other crates cite of problems: patterns that match, tuples and their numbers, bad tuples, and what is in a
+-- list. Of the files here they import this one alone.
+use Rattle.std.proofs.Common.{◌≡◌, ◌≢◌, ℕ, ◌+◌, ◌-◌, ◌*◌, ◌<◌, ◌≤◌, Bool, true, false, Option, List, length, All}
+use Rattle.std.proofs.Common.{filter, take, drop, slice_get, slice_index, Some}
 use Rattle.win_index.specs.Arcs.{part_at}
 use Rattle.win_index.specs.Runs.{IsRunStart}
 use Rattle.win_index.specs.Windows.{unused, IsWindow}
@@ -36,28 +37,33 @@ pub short_extra : (problem : List Pattern) → is_long problem ≡ false → ext
 short_extra = TupleParts.short_extra
 
 -- a pattern that asks something of the third place makes tuples longer
-pub extra_of_third : (problem : List Pattern) (n : ℕ) (p : Pattern) → slice_get problem n ≡ Some p → has_third p ≡ true → extra problem ≡ 2
+pub extra_of_third : (problem : List Pattern) (n : ℕ) (p : Pattern) → slice_get problem n ≡ Some p → has_third p ≡ true
+    → extra problem ≡ 2
 extra_of_third = Matching.extra_of_third
 
 -- equal channels are equally forbidden; the third one matters only if tuples are longer
 pub forbidden_along :
-    (problem : List Pattern) (a b c d e f : Option ℕ) → a ≡ d → b ≡ e → (2 ≤ extra problem → c ≡ f) → IsForbidden problem a b c → IsForbidden problem d e f
+    (problem : List Pattern) (a b c d e f : Option ℕ) → a ≡ d → b ≡ e → (2 ≤ extra problem → c ≡ f)
+    → IsForbidden problem a b c → IsForbidden problem d e f
 forbidden_along = Matching.forbidden_along
 
 -- ---- tuples
 
 -- the parts of a tuple are windows
-pub tuple_window : (m t step : ℕ) (problem : List Pattern) (tuple : List ℕ) → IsTuple m t problem tuple → step ≤ extra problem
+pub tuple_window : (m t step : ℕ) (problem : List Pattern) (tuple : List ℕ) → IsTuple m t problem tuple
+    → step ≤ extra problem
     → IsWindow (2 * t + 1) m (part_at t step tuple)
 tuple_window = Arounds.tuple_window
 
 -- each item of the list of tuples is a tuple, with these parts
-pub tuple_parts : (m t n : ℕ) (problem : List Pattern) (tuple : List ℕ) → slice_get (tuples_below m t problem) n ≡ Some tuple
+pub tuple_parts : (m t n : ℕ) (problem : List Pattern) (tuple : List ℕ)
+    → slice_get (tuples_below m t problem) n ≡ Some tuple
     → TupleParts m t problem n tuple
 tuple_parts = TupleParts.tuple_parts
 
 -- each item of the tuples of a table is a tuple
-pub tuple_at : (t : ChannelTable) (problem : List Pattern) (n : ℕ) (tuple : List ℕ) → slice_get (tuples t problem) n ≡ Some tuple
+pub tuple_at : (t : ChannelTable) (problem : List Pattern) (n : ℕ) (tuple : List ℕ)
+    → slice_get (tuples t problem) n ≡ Some tuple
     → IsTuple t.ids t.rounds problem tuple
 tuple_at = Suffices.tuple_at
 
@@ -66,9 +72,10 @@ pub tuple_place : (m t : ℕ) (problem : List Pattern) (tuple : List ℕ) → Is
     → (n : ℕ) × (slice_get (tuples_below m t problem) n ≡ Some tuple)
 tuple_place = TupleParts.tuple_place
 
--- the third window of a tuple is in the run of the second and third window's common identifiers, at a place that is not the second
--- identifier's
-pub third_in_run : (t : ChannelTable) (problem : List Pattern) (pair tuple : List ℕ) (first gap : ℕ) → is_long problem ≡ true
+-- the third window of a tuple is in the run of the second and third window's common identifiers, at a place that is
+-- not the second identifier's
+pub third_in_run : (t : ChannelTable) (problem : List Pattern) (pair tuple : List ℕ) (first gap : ℕ)
+    → is_long problem ≡ true
     → IsRunStart (2 * t.rounds) t.ids (drop 2 pair) first → length (unused (slice_index pair 1) (drop 2 pair)) ≡ gap
     → IsTuple t.ids t.rounds problem tuple → take (2 * t.rounds + 1 + 1) tuple ≡ pair
     → (place : ℕ) × (place < t.ids - 2 * t.rounds) × (place ≢ gap)
@@ -106,11 +113,13 @@ pub all_of_in : {X : Type 0} (P : X → Type 0) (xs : List X) → ((x : X) → I
 all_of_in P xs each = Members.all_of_in P xs each
 
 -- what is in a list and passes a test is in the filtered list
-pub in_filter : {X : Type 0} (test : X → Bool) (xs : List X) (x : X) → test x ≡ true → IsIn x xs → IsIn x (filter test xs)
+pub in_filter : {X : Type 0} (test : X → Bool) (xs : List X) (x : X) → test x ≡ true → IsIn x xs
+    → IsIn x (filter test xs)
 in_filter test xs x passes is = Members.in_filter test xs x passes is
 
 -- what is in the filtered list is in the list and passes the test
-pub filter_in : {X : Type 0} (test : X → Bool) (xs : List X) (x : X) → IsIn x (filter test xs) → IsIn x xs × (test x ≡ true)
+pub filter_in : {X : Type 0} (test : X → Bool) (xs : List X) (x : X) → IsIn x (filter test xs)
+    → IsIn x xs × (test x ≡ true)
 filter_in test xs x is = Members.filter_in test xs x is
 
 -- what follows in either case of a test

@@ -1,5 +1,6 @@
 -- A separation is a problem.
-use Rattle.std.proofs.Common.{◌≡◌, ℕ, ◌+◌, ◌*◌, ◌<◌, ◌≤◌, List, length, Option, Some, None, IfSome, map, option_map, nat_lt, slice_index, refl, sym, ap, subst, inl, inr, ⊎_elim, arith, add-zero}
+use Rattle.std.proofs.Common.{◌≡◌, ℕ, ◌+◌, ◌*◌, ◌<◌, ◌≤◌, List, length, Option, Some, None, IfSome, map, option_map}
+use Rattle.std.proofs.Common.{nat_lt, slice_index, refl, sym, ap, subst, inl, inr, ⊎_elim, arith, add-zero}
 use Rattle.std.specs.Int.{abs_diff}
 use Rattle.std.specs.List.{range_with_len}
 use Rattle.std.proofs.lemmas.Bool.{ltb-true, lt-ltb}
@@ -19,14 +20,17 @@ use Rattle.ring_problems.specs.Patterns.{Matches, IsForbidden}
 use Rattle.ring_problems.specs.Problems.{Breaks}
 use Rattle.ring_problems.specs.Separations.{next_to, two_from, close_to, close_pairs, separation_problem}
 use Rattle.ring_problems.specs.Laws.{SeparationsAreProblems, NearIsProblem}
-use Rattle.ring_problems.proofs.Members.{IsIn, in_of_get, get_of_in, in_append_left, in_append_right, append_in, in_map, map_in, in_flat, flat_in, in_filter, filter_in, in_range}
+use Rattle.ring_problems.proofs.Members.{IsIn, in_of_get, get_of_in, in_append_left, in_append_right, append_in, in_map}
+use Rattle.ring_problems.proofs.Members.{map_in, in_flat, flat_in, in_filter, filter_in, in_range}
 
 -- the pattern of two close channels
 in_close :
-    (pattern : ℕ → ℕ → Pattern) (channels distance first second : ℕ) → first < channels → second < channels → abs_diff first second < distance
+    (pattern : ℕ → ℕ → Pattern) (channels distance first second : ℕ) → first < channels → second < channels
+    → abs_diff first second < distance
     → IsIn (pattern first second) (close_pairs pattern channels distance)
 in_close pattern channels distance first second first_lt second_lt close =
-    in_flat (λ first. map (pattern first) (close_to channels distance first)) (range_with_len 0 channels) first (pattern first second)
+    in_flat (λ first. map (pattern first) (close_to channels distance first)) (range_with_len 0 channels) first
+    (pattern first second)
     (in_range channels first first_lt)
     (in_map (pattern first) (close_to channels distance first) second
     (in_filter (λ second. nat_lt (abs_diff first second) distance) (range_with_len 0 channels) second
@@ -37,16 +41,20 @@ close_in :
     (pattern : ℕ → ℕ → Pattern) (channels distance : ℕ) (p : Pattern) → IsIn p (close_pairs pattern channels distance)
     → (first : ℕ) × (second : ℕ) × (pattern first second ≡ p) × (abs_diff first second < distance)
 close_in pattern channels distance p h =
-    let outer = flat_in (λ first. map (pattern first) (close_to channels distance first)) (range_with_len 0 channels) p h in
+    let outer = flat_in (λ first. map (pattern first) (close_to channels distance first))
+    (range_with_len 0 channels) p h in
     let inner = map_in (pattern outer.0) (close_to channels distance outer.0) p outer.2 in
-    let kept = filter_in (λ second. nat_lt (abs_diff outer.0 second) distance) (range_with_len 0 channels) inner.0 inner.1 in
+    let kept = filter_in (λ second. nat_lt (abs_diff outer.0 second) distance)
+    (range_with_len 0 channels) inner.0 inner.1 in
     (outer.0, inner.0, inner.2, ltb-true (abs_diff outer.0 inner.0) distance kept.1)
 
-close_of : (distance first second : ℕ) (a b : Option ℕ) → a ≡ Some first → b ≡ Some second → abs_diff first second < distance → AreClose distance a b
+close_of : (distance first second : ℕ) (a b : Option ℕ) → a ≡ Some first → b ≡ Some second
+    → abs_diff first second < distance → AreClose distance a b
 close_of distance first second a b at_a at_b close = rw (at_a, at_b) close
 
 -- channels that the problem forbids are too close
-too_close_of_forbidden : (channels : ℕ) (s : Separation) (a b c : Option ℕ) → IsForbidden (separation_problem channels s) a b c → AreTooClose s a b c
+too_close_of_forbidden : (channels : ℕ) (s : Separation) (a b c : Option ℕ)
+    → IsForbidden (separation_problem channels s) a b c → AreTooClose s a b c
 too_close_of_forbidden channels s a b c bad =
     ⊎_elim
     (λ (near : IsIn bad.1 (close_pairs next_to channels s.near)).
@@ -62,7 +70,8 @@ too_close_of_forbidden channels s a b c bad =
 
 -- channels below the number that are too close are forbidden
 near_forbidden :
-    (channels : ℕ) (s : Separation) (a b c : Option ℕ) → IfSome a (λ x. x < channels) → IfSome b (λ x. x < channels) → AreClose s.near a b
+    (channels : ℕ) (s : Separation) (a b c : Option ℕ) → IfSome a (λ x. x < channels) → IfSome b (λ x. x < channels)
+    → AreClose s.near a b
     → IsForbidden (separation_problem channels s) a b c
 near_forbidden channels s (Some a) (Some b) c below_a below_b close =
     let place = get_of_in (separation_problem channels s) (next_to a b)
@@ -73,7 +82,8 @@ near_forbidden channels s (Some a) None c below_a below_b close = absurd close
 near_forbidden channels s None b c below_a below_b close = absurd close
 
 far_forbidden :
-    (channels : ℕ) (s : Separation) (a b c : Option ℕ) → IfSome a (λ x. x < channels) → IfSome c (λ x. x < channels) → AreClose s.far a c
+    (channels : ℕ) (s : Separation) (a b c : Option ℕ) → IfSome a (λ x. x < channels) → IfSome c (λ x. x < channels)
+    → AreClose s.far a c
     → IsForbidden (separation_problem channels s) a b c
 far_forbidden channels s (Some a) b (Some c) below_a below_c close =
     let place = get_of_in (separation_problem channels s) (two_from a c)
@@ -95,8 +105,11 @@ below_more : (less more : ℕ) (o : Option ℕ) → less ≤ more → IfSome o (
 below_more less more None le below = tt
 below_more less more (Some c) le below = omega (arith, le, below)
 
-pub channel_below : (t : ChannelTable) (channels : ℕ) (list : List ℕ) → IsTable t → t.channels ≤ channels → IfSome (channel_of t list) (λ c. c < channels)
-channel_below t channels list is le = below_more t.channels channels (channel_of t list) le (below_at t is list (number_of (2 * t.rounds + 1) t.ids list) refl)
+pub channel_below : (t : ChannelTable) (channels : ℕ) (list : List ℕ) → IsTable t → t.channels ≤ channels
+    → IfSome (channel_of t list) (λ c. c < channels)
+channel_below t channels list is le =
+    below_more t.channels channels (channel_of t list) le
+    (below_at t is list (number_of (2 * t.rounds + 1) t.ids list) refl)
 
 -- the channel at no steps from a place
 here : (t : ChannelTable) (ring : List ℕ) (place : ℕ)
@@ -106,7 +119,8 @@ here t ring place = ap (λ k. channel_of t (window_around ring t.rounds k)) (add
 -- no ring of so many nodes or more breaks the problem of a separation
 abbrev IsSolvedFrom : ℕ → ChannelTable → List Pattern → Type 0
 IsSolvedFrom least t problem =
-    (ring : List ℕ) (place : ℕ) → IsRing t.ids t.rounds ring → least ≤ length ring → place < length ring → ¬ Breaks t problem ring place
+    (ring : List ℕ) (place : ℕ) → IsRing t.ids t.rounds ring → least ≤ length ring → place < length ring
+    → ¬ Breaks t problem ring place
 
 solved_of_apart : (t : ChannelTable) (s : Separation) (channels : ℕ) → IsTable t → t.channels ≤ channels
     → IsApartEverywhere t s → IsSolvedFrom (2 * t.rounds + 1 + apart.extra s) t (separation_problem channels s)
@@ -122,7 +136,8 @@ apart_of_solved t s channels is le good ring place on long within =
     let channel_at : ℕ → Option ℕ = λ k. channel_of t (window_around ring t.rounds k) in
     let below = λ (k : ℕ). channel_below t channels (window_around ring t.rounds k) is le in
     let along = subst (λ a. IsForbidden (separation_problem channels s) a (channel_at (place + 1)) (channel_at (place + 2))) (sym (here t ring place)) in
-    apart_of_not_too_close s _ _ _ (channel_around t ring place on) (channel_around t ring (place + 1) on) (channel_around t ring (place + 2) on)
+    apart_of_not_too_close s _ _ _ (channel_around t ring place on) (channel_around t ring (place + 1) on)
+    (channel_around t ring (place + 2) on)
     (λ close. good ring place on long within (along
     (⊎_elim (near_forbidden channels s _ _ _ (below place) (below (place + 1))) (far_forbidden channels s _ _ _ (below place) (below (place + 2))) close)))
 
@@ -132,6 +147,7 @@ separation_is_problem t s channels is le = (solved_of_apart t s channels is le, 
 -- with far 0 its tuples have 2t+2 identifiers, as many as a ring has at least
 pub near_is_problem : NearIsProblem
 near_is_problem t s channels is le zero_far = (
-  λ good ring place on within. let long = on.long in solved_of_apart t s channels is le good ring place on (omega (arith, zero_far)) within,
+  λ good ring place on within. let long =
+      on.long in solved_of_apart t s channels is le good ring place on (omega (arith, zero_far)) within,
   λ good. apart_of_solved t s channels is le (λ ring place on long within. good ring place on within),
 )

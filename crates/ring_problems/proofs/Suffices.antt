@@ -1,5 +1,7 @@
--- Tuples suffice: the windows of three places in a row of a ring are windows of a tuple, and those of a tuple are on its ring.
-use Rattle.std.proofs.Common.{◌≡◌, ℕ, ◌+◌, ◌-◌, ◌*◌, ◌<◌, ◌≤◌, ◌↔◌, Bool, IsTrue, List, Option, MatchOption, None, is_some, length, get_or, slice_get, Some, subst, sym, ap, ◌∙◌, arith}
+-- Tuples suffice: the windows of three places in a row of a ring are windows of a tuple, and those of a tuple are
+-- on its ring.
+use Rattle.std.proofs.Common.{◌≡◌, ℕ, ◌+◌, ◌-◌, ◌*◌, ◌<◌, ◌≤◌, ◌↔◌, Bool, IsTrue, List, Option, MatchOption, None}
+use Rattle.std.proofs.Common.{is_some, length, get_or, slice_get, Some, subst, sym, ap, ◌∙◌, arith}
 use Rattle.std.proofs.lemmas.Bool.{false≢true}
 use Rattle.std.proofs.lemmas.Option.{slice_get-get_or, slice_get_within, get_or_from_slice_get, same_Some}
 use Rattle.win_index.specs.Arcs.{arc, window_around, part_at}
@@ -10,7 +12,8 @@ use Rattle.channel_tables.specs.Tables.{ChannelTable, channel_of}
 use Rattle.ring_problems.specs.declared.pattern.Pattern.{Pattern}
 use Rattle.ring_problems.specs.Patterns.{extra, IsForbidden, IsFirstMatch}
 use Rattle.ring_problems.specs.Problems.{tuples, IsBad, IsSolved, IsSolvedEverywhere, NoneIsBad, IsLeastBad}
-use Rattle.ring_problems.specs.Laws.{TuplesSuffice, BadTuplesAreRings, OneWitness, SolvedTablesHaveNoWitness, WitnessesAreOnRings}
+use Rattle.ring_problems.specs.Laws.{TuplesSuffice, BadTuplesAreRings, OneWitness}
+use Rattle.ring_problems.specs.Laws.{SolvedTablesHaveNoWitness, WitnessesAreOnRings}
 use Rattle.ring_problems.specs.Witnesses.{IsWitness}
 use Rattle.ring_problems.specs.TupleLists.{IsTuple, ring_of}
 use Rattle.ring_problems.proofs.TupleParts.{tuple_parts, tuple_place}
@@ -21,7 +24,8 @@ use Rattle.ring_problems.proofs.Matching.{extra_range, forbidden_along, first_is
 pub none_bad : (t : ChannelTable) (problem : List Pattern) (n : ℕ) (tuple : List ℕ) → IsSolved t problem
     → slice_get (tuples t problem) n ≡ Some tuple → ¬ IsBad t problem tuple
 none_bad t problem n tuple solved item bad =
-    solved n tuple (slice_get_within (tuples t problem) n tuple item) (rw (get_or_from_slice_get (tuples t problem) n tuple tuple item) bad)
+    solved n tuple (slice_get_within (tuples t problem) n tuple item)
+    (rw (get_or_from_slice_get (tuples t problem) n tuple tuple item) bad)
 
 pub bad_ring : BadTuplesAreRings
 unfolding IsBad
@@ -43,7 +47,8 @@ bad_by_channels t problem tuple first second third at_first at_second at_third =
 )
 
 -- a test for a first pattern
-pub found_is_bad : (problem : List Pattern) (first second third : Option ℕ) (Bad : Type 0) (found : Option Pattern) (is : Bool)
+pub found_is_bad : (problem : List Pattern) (first second third : Option ℕ) (Bad : Type 0)
+    (found : Option Pattern) (is : Bool)
     → MatchOption found (¬ IsForbidden problem first second third) (IsFirstMatch problem first second third)
     → is ≡ is_some found → IsForbidden problem first second third ↔ Bad → IsTrue is ↔ Bad
 found_is_bad problem first second third Bad None is none is_is same =
@@ -63,14 +68,16 @@ everywhere_of_solved t problem solved ring place is within broken =
     (forbidden_along problem _ _ _ _ _ _ (along 0 (omega arith)) (along 1 range.0) (along 2) broken)
 
 -- a tuple by its number
-pub tuple_at : (t : ChannelTable) (problem : List Pattern) (n : ℕ) (tuple : List ℕ) → slice_get (tuples t problem) n ≡ Some tuple
+pub tuple_at : (t : ChannelTable) (problem : List Pattern) (n : ℕ) (tuple : List ℕ)
+    → slice_get (tuples t problem) n ≡ Some tuple
     → IsTuple t.ids t.rounds problem tuple
 tuple_at t problem n tuple item = (tuple_parts t.ids t.rounds n problem tuple item).is
 
 solved_of_everywhere : (t : ChannelTable) (problem : List Pattern) → IsSolvedEverywhere t problem → IsSolved t problem
 solved_of_everywhere t problem good k d within bad =
     let tuple = get_or (tuples t problem) k d in
-    let ring = bad_ring t problem tuple (tuple_at t problem k tuple (slice_get-get_or (tuples t problem) k d within)) bad in
+    let ring = bad_ring t problem tuple
+    (tuple_at t problem k tuple (slice_get-get_or (tuples t problem) k d within)) bad in
     let long = ring.0.long in
     good (ring_of tuple) t.rounds ring.0 (omega arith) ring.1
 
@@ -81,17 +88,22 @@ suffice t problem = (everywhere_of_solved t problem, solved_of_everywhere t prob
 pub none_is_solved : (t : ChannelTable) (problem : List Pattern) (count : ℕ) → count ≡ length (tuples t problem)
     → NoneIsBad t problem 0 count → IsSolvedEverywhere t problem
 none_is_solved t problem count all none =
-    everywhere_of_solved t problem (λ k d within. none k (get_or (tuples t problem) k d) (omega arith) (omega arith) (slice_get-get_or (tuples t problem) k d within))
+    everywhere_of_solved t problem
+    (λ k d within. none k (get_or (tuples t problem) k d) (omega arith) (omega arith)
+    (slice_get-get_or (tuples t problem) k d within))
 
 -- a table with a bad tuple
-pub bad_is_not_solved : (t : ChannelTable) (problem : List Pattern) (n : ℕ) (tuple : List ℕ) → IsLeastBad t problem 0 n tuple → ¬ IsSolvedEverywhere t problem
-bad_is_not_solved t problem n tuple bad good = none_bad t problem n tuple (solved_of_everywhere t problem good) bad.item bad.bad
+pub bad_is_not_solved : (t : ChannelTable) (problem : List Pattern) (n : ℕ) (tuple : List ℕ)
+    → IsLeastBad t problem 0 n tuple → ¬ IsSolvedEverywhere t problem
+bad_is_not_solved t problem n tuple bad good =
+    none_bad t problem n tuple (solved_of_everywhere t problem good) bad.item bad.bad
 
 pub no_witness : SolvedTablesHaveNoWitness
 no_witness t problem ring place channels pattern good w = bad_is_not_solved t problem w.number w.tuple w.least good
 
 -- no bad tuple has a lower number than the least one
-least : (t : ChannelTable) (problem : List Pattern) (n k : ℕ) (x y : List ℕ) → IsLeastBad t problem 0 n x → IsLeastBad t problem 0 k y → n ≤ k
+least : (t : ChannelTable) (problem : List Pattern) (n k : ℕ) (x y : List ℕ) → IsLeastBad t problem 0 n x
+    → IsLeastBad t problem 0 k y → n ≤ k
 least t problem n k x y a b = let none : ¬ (k < n) = λ lt. a.least k y (omega arith) lt b.item b.bad in omega arith
 
 pub one_witness : OneWitness
@@ -99,12 +111,17 @@ one_witness t problem ring other i j c d p q a b =
     let after = least t problem a.number b.number a.tuple b.tuple a.least b.least in
     let before = least t problem b.number a.number b.tuple a.tuple b.least a.least in
     let number : a.number ≡ b.number = omega arith in
-    let tuple : a.tuple ≡ b.tuple = same_Some a.tuple b.tuple (sym a.least.item ∙ ap (slice_get (tuples t problem)) number ∙ b.least.item) in
+    let tuple : a.tuple ≡ b.tuple =
+    same_Some a.tuple b.tuple (sym a.least.item ∙ ap (slice_get (tuples t problem)) number ∙ b.least.item) in
     let same : ring ≡ other = a.ring_is ∙ ap ring_of tuple ∙ sym b.ring_is in
     let place : i ≡ j = a.place_is ∙ sym b.place_is in
-    let first : c.0 ≡ d.0 = same_Some c.0 d.0 (sym a.first_channel ∙ (λ k. channel_of t (window_around (same k) t.rounds (place k + 0))) ∙ b.first_channel) in
-    let second : c.1 ≡ d.1 = same_Some c.1 d.1 (sym a.second_channel ∙ (λ k. channel_of t (window_around (same k) t.rounds (place k + 1))) ∙ b.second_channel) in
-    let third : c.2 ≡ d.2 = same_Some c.2 d.2 (sym a.third_channel ∙ (λ k. channel_of t (window_around (same k) t.rounds (place k + 2))) ∙ b.third_channel) in
+    let first : c.0 ≡ d.0 = same_Some c.0 d.0 (sym a.first_channel
+    ∙ (λ k. channel_of t (window_around (same k) t.rounds (place k + 0))) ∙ b.first_channel) in
+    let second : c.1 ≡ d.1 =
+    same_Some c.1 d.1 (sym a.second_channel
+    ∙ (λ k. channel_of t (window_around (same k) t.rounds (place k + 1))) ∙ b.second_channel) in
+    let third : c.2 ≡ d.2 = same_Some c.2 d.2 (sym a.third_channel
+    ∙ (λ k. channel_of t (window_around (same k) t.rounds (place k + 2))) ∙ b.third_channel) in
     let channels : c ≡ d = λ k. (first k, second k, third k) in
     let there = subst (λ e. IsFirstMatch problem (Some e.0) (Some e.1) (Some e.2) q) (sym channels) b.pattern_is in
     (same, place, channels, one_first problem _ _ _ p q a.pattern_is there)
@@ -124,7 +141,8 @@ pub least_is_matched :
     → IsLeastBad t problem 0 n tuple → slice_get (tuples t problem) n ≡ Some own
     → ((step : ℕ) → step ≤ 2 → part_at t.rounds step around ≡ window_around (ring_of own) t.rounds (t.rounds + step))
     → channel_of t (part_at t.rounds 0 around) ≡ Some first → channel_of t (part_at t.rounds 1 around) ≡ Some second
-    → channel_of t (part_at t.rounds 2 around) ≡ Some third → IsForbidden problem (Some first) (Some second) (Some third)
+    → channel_of t (part_at t.rounds 2 around) ≡ Some third
+    → IsForbidden problem (Some first) (Some second) (Some third)
 least_is_matched t problem n first second third own tuple around bad item windows at_first at_second at_third =
     let same : tuple ≡ own = same_Some tuple own (sym bad.item ∙ item) in
     let broken = bad_ring t problem own (tuple_at t problem n own item) (subst (IsBad t problem) same bad.bad) in
@@ -136,20 +154,24 @@ least_is_matched t problem n first second third own tuple around bad item window
 pub window_there : (t : ChannelTable) (step : ℕ) (ring part : List ℕ) → IsRing t.ids t.rounds ring
     → part ≡ window_around ring t.rounds (t.rounds + step) → IsWindow (2 * t.rounds + 1) t.ids part
 window_there t step ring part is same =
-    subst (IsWindow (2 * t.rounds + 1) t.ids) (sym same) (around_window t.ids t.rounds t.rounds (t.rounds + step) ring is (omega arith))
+    subst (IsWindow (2 * t.rounds + 1) t.ids) (sym same)
+    (around_window t.ids t.rounds t.rounds (t.rounds + step) ring is (omega arith))
 
 -- the ring of the least bad tuple
 pub is_witness :
-    (t : ChannelTable) (problem : List Pattern) (n place : ℕ) (ring own tuple around : List ℕ) (channels : ℕ × ℕ × ℕ) (pattern : Pattern)
+    (t : ChannelTable) (problem : List Pattern) (n place : ℕ) (ring own tuple around : List ℕ) (channels : ℕ × ℕ × ℕ)
+    (pattern : Pattern)
     → IsLeastBad t problem 0 n tuple → slice_get (tuples t problem) n ≡ Some own → ring ≡ ring_of own → place ≡ t.rounds
     → ((step : ℕ) → step ≤ 2 → part_at t.rounds step around ≡ window_around (ring_of own) t.rounds (t.rounds + step))
-    → channel_of t (part_at t.rounds 0 around) ≡ Some channels.0 → channel_of t (part_at t.rounds 1 around) ≡ Some channels.1
+    → channel_of t (part_at t.rounds 0 around) ≡ Some channels.0
+    → channel_of t (part_at t.rounds 1 around) ≡ Some channels.1
     → channel_of t (part_at t.rounds 2 around) ≡ Some channels.2
     → IsFirstMatch problem (Some channels.0) (Some channels.1) (Some channels.2) pattern
     → IsWitness t problem ring place channels pattern
 is_witness t problem n place ring own tuple around channels pattern bad item ring_is at' windows first second third matches =
     let along = λ (step : ℕ) (le : step ≤ 2).
-    (λ i. channel_of t (window_around (ring_is i) t.rounds (at' i + step))) ∙ sym (ap (channel_of t) (windows step le)) in
+    (λ i. channel_of t (window_around (ring_is i) t.rounds (at' i + step)))
+    ∙ sym (ap (channel_of t) (windows step le)) in
     record {
       number = n;
       tuple = own;

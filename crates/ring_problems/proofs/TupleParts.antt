@@ -1,7 +1,10 @@
 -- Tuples by their numbers and by their content.
-use Rattle.std.proofs.Common.{◌≡◌, ℕ, ◌+◌, ◌-◌, ◌*◌, ◌/◌, ◌%◌, ◌<◌, ◌≤◌, Bool, true, false, cond, List, [], ◌∷◌, ◌++◌, Option, None, length, get_or, take, drop, flat_map, option_map, slice_get, Some, refl, sym, ap, ◌∙◌, subst, arith, add-one, length-drop, length-append, append-nil, get_or-drop}
+use Rattle.std.proofs.Common.{◌≡◌, ℕ, ◌+◌, ◌-◌, ◌*◌, ◌/◌, ◌%◌, ◌<◌, ◌≤◌, Bool, true, false, cond, List, [], ◌∷◌, ◌++◌}
+use Rattle.std.proofs.Common.{Option, None, length, get_or, take, drop, flat_map, option_map, slice_get, Some, refl}
+use Rattle.std.proofs.Common.{sym, ap, ◌∙◌, subst, arith, add-one, length-drop, length-append, append-nil, get_or-drop}
 use borrow.Rule.Slice.PartMut.{put_mid}
-use Rattle.std.proofs.lemmas.List.{take_all, take_at, take_more, drop-take, length_push, length-map, drop-append-le, drop_all, take-append-drop, take-append-le, append_assoc}
+use Rattle.std.proofs.lemmas.List.{take_all, take_at, take_more, drop-take, length_push, length-map, drop-append-le}
+use Rattle.std.proofs.lemmas.List.{drop_all, take-append-drop, take-append-le, append_assoc}
 use Rattle.std.proofs.lemmas.Nat.{mul-le, mod_below, div-add-mod'}
 use Rattle.std.proofs.lemmas.Option.{none-some, same_Some, slice_get-map, slice_get_within, slice_get-get_or}
 use Rattle.win_index.specs.Windows.{is_used, unused, windows, IsWindow}
@@ -19,11 +22,14 @@ by_test P false f g = g refl
 pub long_tuples : (m t : ℕ) (problem : List Pattern) → is_long problem ≡ true
     → tuples_below m t problem ≡ flat_map (followed m) (windows (2 * t + 1 + 1) m)
 unfolding tuples_below
-long_tuples m t problem long = ap (λ b. cond b (flat_map (followed m) (windows (2 * t + 1 + 1) m)) (windows (2 * t + 1 + 1) m)) long
+long_tuples m t problem long =
+    ap (λ b. cond b (flat_map (followed m) (windows (2 * t + 1 + 1) m)) (windows (2 * t + 1 + 1) m)) long
 
-pub short_tuples : (m t : ℕ) (problem : List Pattern) → is_long problem ≡ false → tuples_below m t problem ≡ windows (2 * t + 1 + 1) m
+pub short_tuples : (m t : ℕ) (problem : List Pattern) → is_long problem ≡ false
+    → tuples_below m t problem ≡ windows (2 * t + 1 + 1) m
 unfolding tuples_below
-short_tuples m t problem short = ap (λ b. cond b (flat_map (followed m) (windows (2 * t + 1 + 1) m)) (windows (2 * t + 1 + 1) m)) short
+short_tuples m t problem short =
+    ap (λ b. cond b (flat_map (followed m) (windows (2 * t + 1 + 1) m)) (windows (2 * t + 1 + 1) m)) short
 
 pub long_extra : (problem : List Pattern) → is_long problem ≡ true → extra problem ≡ 2
 long_extra problem long = ap (λ b. cond b 2 1) long
@@ -45,7 +51,8 @@ pieces k m = λ place list at'.
     followed_len : (m : ℕ) (list : List ℕ) → length (followed m list) ≡ length (unused m (drop 1 list))
     followed_len m list = length-map (unused m (drop 1 list)) (λ x. list ++ x ∷ [])
 
-map_some : {A B : Type 0} (f : A → B) (o : Option A) (b : B) → option_map f o ≡ Some b → (a : A) × (o ≡ Some a) × (f a ≡ b)
+map_some : {A B : Type 0} (f : A → B) (o : Option A) (b : B) → option_map f o ≡ Some b
+    → (a : A) × (o ≡ Some a) × (f a ≡ b)
 map_some f None b e = absurd (none-some b e)
 map_some f (Some a) b e = (a, refl, same_Some (f a) b e)
 
@@ -54,10 +61,12 @@ followed_at : (m rest : ℕ) (list tuple : List ℕ) → slice_get (followed m l
     → (x : ℕ) × (slice_get (unused m (drop 1 list)) rest ≡ Some x) × (list ++ x ∷ [] ≡ tuple)
 followed_at m rest list tuple at' =
     let longer : ℕ → List ℕ = λ x. list ++ x ∷ [] in
-    map_some longer (slice_get (unused m (drop 1 list)) rest) tuple (sym (slice_get-map longer (unused m (drop 1 list)) rest) ∙ at')
+    map_some longer (slice_get (unused m (drop 1 list)) rest) tuple
+    (sym (slice_get-map longer (unused m (drop 1 list)) rest) ∙ at')
 
 -- 2t+2 identifiers and one more that is none of the second to the last
-long_tuple : (m t x : ℕ) (problem : List Pattern) (pair : List ℕ) → is_long problem ≡ true → IsWindow (2 * t + 1 + 1) m pair → x < m
+long_tuple : (m t x : ℕ) (problem : List Pattern) (pair : List ℕ) → is_long problem ≡ true
+    → IsWindow (2 * t + 1 + 1) m pair → x < m
     → is_used (drop 1 pair) x ≡ false → IsTuple m t problem (pair ++ x ∷ [])
 long_tuple m t x problem pair long window lt free =
     let size = window.size in
@@ -69,11 +78,13 @@ long_tuple m t x problem pair long window lt free =
     record {
       size = omega (arith, length_push pair x, size, two);
       front = subst (IsWindow (2 * t + 1 + 1) m) (sym (take_at pair (x ∷ []) (2 * t + 1 + 1) size)) window;
-      back = subst (IsWindow (2 * t + 1 + 1) m) shifted (subst (λ n. IsWindow n m (drop 1 pair ++ x ∷ [])) (sym (add-one (2 * t + 1))) back);
+      back = subst (IsWindow (2 * t + 1 + 1) m) shifted
+          (subst (λ n. IsWindow n m (drop 1 pair ++ x ∷ [])) (sym (add-one (2 * t + 1))) back);
     }
 
 -- 2t+2 identifiers are a tuple if no pattern has three entries
-pub short_tuple : (m t : ℕ) (problem : List Pattern) (pair : List ℕ) → is_long problem ≡ false → IsWindow (2 * t + 1 + 1) m pair
+pub short_tuple : (m t : ℕ) (problem : List Pattern) (pair : List ℕ) → is_long problem ≡ false
+    → IsWindow (2 * t + 1 + 1) m pair
     → IsTuple m t problem pair
 short_tuple m t problem pair short window =
     let size = window.size in
@@ -81,7 +92,8 @@ short_tuple m t problem pair short window =
     record {
       size = omega (arith, size, one);
       front = subst (IsWindow (2 * t + 1 + 1) m) (sym (take_all (2 * t + 1 + 1) pair (omega arith))) window;
-      back = subst (λ n. IsWindow (2 * t + 1 + 1) m (drop n pair)) (let none : 0 ≡ extra problem - 1 = omega (arith, one) in none) window;
+      back = subst (λ n. IsWindow (2 * t + 1 + 1) m (drop n pair))
+          (let none : 0 ≡ extra problem - 1 = omega (arith, one) in none) window;
     }
 
 -- a tuple by its number
@@ -115,11 +127,13 @@ parts_long m t n problem tuple at' long =
       is = subst (IsTuple m t problem) last.2 (long_tuple m t last.0 problem pair long window own.below own.free);
     }
 
-parts_short : (m t n : ℕ) (problem : List Pattern) (tuple : List ℕ) → slice_get (tuples_below m t problem) n ≡ Some tuple
+parts_short : (m t n : ℕ) (problem : List Pattern) (tuple : List ℕ)
+    → slice_get (tuples_below m t problem) n ≡ Some tuple
     → is_long problem ≡ false → TupleParts m t problem n tuple
 parts_short m t n problem tuple at' short =
     let k : ℕ = 2 * t + 1 in
-    let placed : slice_get (windows (k + 1) m) n ≡ Some tuple = ap (λ list. slice_get list n) (sym (short_tuples m t problem short)) ∙ at' in
+    let placed : slice_get (windows (k + 1) m) n ≡ Some tuple =
+    ap (λ list. slice_get list n) (sym (short_tuples m t problem short)) ∙ at' in
     let window = windows_all (k + 1) m n tuple placed in
     let each = short_each m t problem short in
     let size = window.size in
@@ -132,10 +146,12 @@ parts_short m t n problem tuple at' short =
       is = short_tuple m t problem tuple short window;
     }
 
-pub tuple_parts : (m t n : ℕ) (problem : List Pattern) (tuple : List ℕ) → slice_get (tuples_below m t problem) n ≡ Some tuple
+pub tuple_parts : (m t n : ℕ) (problem : List Pattern) (tuple : List ℕ)
+    → slice_get (tuples_below m t problem) n ≡ Some tuple
     → TupleParts m t problem n tuple
 tuple_parts m t n problem tuple at' =
-    by_test (TupleParts m t problem n tuple) (is_long problem) (parts_long m t n problem tuple at') (parts_short m t n problem tuple at')
+    by_test (TupleParts m t problem n tuple) (is_long problem) (parts_long m t n problem tuple at')
+    (parts_short m t n problem tuple at')
 
 -- the number of tuples
 count_long : (m t : ℕ) (problem : List Pattern) → is_long problem ≡ true
@@ -155,7 +171,8 @@ count_short m t problem short =
 pub tuple_count : (m t : ℕ) (problem : List Pattern)
     → length (tuples_below m t problem) ≡ length (windows (2 * t + 1 + 1) m) * per_pair m t problem
 tuple_count m t problem =
-    by_test (length (tuples_below m t problem) ≡ length (windows (2 * t + 1 + 1) m) * per_pair m t problem) (is_long problem)
+    by_test (length (tuples_below m t problem) ≡ length (windows (2 * t + 1 + 1) m) * per_pair m t problem)
+    (is_long problem)
     (count_long m t problem) (count_short m t problem)
 
 -- the tuple with a number, by its first identifiers and its last one
@@ -165,7 +182,8 @@ pub tuple_from : (m t place rest x : ℕ) (problem : List Pattern) (pair : List 
 tuple_from m t place rest x problem pair long front last =
     let longer : ℕ → List ℕ = λ x. pair ++ x ∷ [] in
     ap (λ list. slice_get list (place * (m - (2 * t + 1)) + rest)) (long_tuples m t problem long)
-    ∙ piece_at (followed m) (windows (2 * t + 1 + 1) m) (m - (2 * t + 1)) place rest pair (pair ++ x ∷ []) (pieces (2 * t + 1) m) front
+    ∙ piece_at (followed m) (windows (2 * t + 1 + 1) m) (m - (2 * t + 1)) place rest pair (pair ++ x ∷ [])
+    (pieces (2 * t + 1) m) front
     (slice_get-map longer (unused m (drop 1 pair)) rest ∙ ap (option_map longer) last)
 
 -- each tuple has a number
@@ -179,16 +197,21 @@ place_long m t problem tuple is long =
     let x : ℕ = get_or tuple (k + 1) 0 in
     let place = window_place (k + 1) m pair is.front in
     let back : IsWindow (k + 1) m (drop 1 tuple) =
-    subst (λ n. IsWindow (k + 1) m (drop n tuple)) (let one : extra problem - 1 ≡ 1 = omega (arith, two) in one) is.back in
+    subst (λ n. IsWindow (k + 1) m (drop n tuple))
+    (let one : extra problem - 1 ≡ 1 = omega (arith, two) in one) is.back in
     let back_size = back.size in
     let split : 1 + k ≡ k + 1 = omega arith in
-    let front : take k (drop 1 tuple) ≡ drop 1 pair = sym (drop-take 1 k tuple) ∙ ap (λ n. drop 1 (take n tuple)) split in
+    let front : take k (drop 1 tuple) ≡ drop 1 pair =
+    sym (drop-take 1 k tuple) ∙ ap (λ n. drop 1 (take n tuple)) split in
     let at_x : get_or (drop 1 tuple) k 0 ≡ x = get_or-drop 1 tuple k 0 ∙ ap (λ n. get_or tuple n 0) split in
-    let free : is_used (drop 1 pair) x ≡ false = (λ i. is_used (sym front i) (sym at_x i)) ∙ free_at (drop 1 tuple) k back.distinct (omega arith) in
+    let free : is_used (drop 1 pair) x ≡ false =
+    (λ i. is_used (sym front i) (sym at_x i)) ∙ free_at (drop 1 tuple) k back.distinct (omega arith) in
     let below : x < m = subst (λ y. y < m) at_x (back.below k 0 (omega arith)) in
-    let whole : pair ++ x ∷ [] ≡ tuple = sym (take_more tuple (k + 1) 0 (omega arith)) ∙ take_all (k + 1 + 1) tuple (omega arith) in (
+    let whole : pair ++ x ∷ [] ≡ tuple =
+    sym (take_more tuple (k + 1) 0 (omega arith)) ∙ take_all (k + 1 + 1) tuple (omega arith) in (
       place.0 * (m - k) + length (unused x (drop 1 pair)),
-      tuple_from m t place.0 (length (unused x (drop 1 pair))) x problem pair long place.1 (unused_at (drop 1 pair) m x below free) ∙ ap Some whole,
+      tuple_from m t place.0 (length (unused x (drop 1 pair))) x problem pair long place.1
+          (unused_at (drop 1 pair) m x below free) ∙ ap Some whole,
     )
 
 place_short : (m t : ℕ) (problem : List Pattern) (tuple : List ℕ) → IsTuple m t problem tuple → is_long problem ≡ false
@@ -198,13 +221,15 @@ place_short m t problem tuple is short =
     let one = short_extra problem short in
     let place = window_place (2 * t + 1 + 1) m (take (2 * t + 1 + 1) tuple) is.front in (
       place.0,
-      ap (λ list. slice_get list place.0) (short_tuples m t problem short) ∙ place.1 ∙ ap Some (take_all (2 * t + 1 + 1) tuple (omega arith)),
+      ap (λ list. slice_get list place.0) (short_tuples m t problem short) ∙ place.1
+          ∙ ap Some (take_all (2 * t + 1 + 1) tuple (omega arith)),
     )
 
 pub tuple_place : (m t : ℕ) (problem : List Pattern) (tuple : List ℕ) → IsTuple m t problem tuple
     → (n : ℕ) × (slice_get (tuples_below m t problem) n ≡ Some tuple)
 tuple_place m t problem tuple is =
-    by_test ((n : ℕ) × (slice_get (tuples_below m t problem) n ≡ Some tuple)) (is_long problem) (place_long m t problem tuple is)
+    by_test ((n : ℕ) × (slice_get (tuples_below m t problem) n ≡ Some tuple)) (is_long problem)
+    (place_long m t problem tuple is)
     (place_short m t problem tuple is)
 
 -- the number of a tuple, cut into that of its first 2t+2 identifiers and the position of its last one
@@ -248,8 +273,10 @@ back_below m t number each w own lt =
     rows_below a c b lt = grind arith
 
 -- the first identifier, and the last 2t+2 over the others
-pub written : (m t number each w : ℕ) (problem : List Pattern) (pair back : List ℕ) → is_long problem ≡ true → Cut m t number each
-    → slice_get (windows (2 * t + 1 + 1) m) (number / each) ≡ Some pair → slice_get (windows (2 * t + 1) m) w ≡ Some (drop 1 pair)
+pub written : (m t number each w : ℕ) (problem : List Pattern) (pair back : List ℕ) → is_long problem ≡ true
+    → Cut m t number each
+    → slice_get (windows (2 * t + 1 + 1) m) (number / each) ≡ Some pair
+    → slice_get (windows (2 * t + 1) m) w ≡ Some (drop 1 pair)
     → slice_get (windows (2 * t + 1 + 1) m) (w * each + number % each) ≡ Some back
     → slice_get (tuples_below m t problem) number ≡ Some (take 1 pair ++ back)
 written m t number each w problem pair back long own front middle end =
@@ -258,7 +285,8 @@ written m t number each w problem pair back long own front middle end =
     let window = windows_all (k + 1) m (number / each) pair front in
     let free : ℕ = get_or (unused m (drop 1 pair)) r 0 in
     let last : slice_get (unused m (drop 1 pair)) r ≡ Some free =
-    slice_get-get_or (unused m (drop 1 pair)) r 0 (omega (arith, own.rest, unused_left (back_window k m pair window))) in
+    slice_get-get_or (unused m (drop 1 pair)) r 0
+    (omega (arith, own.rest, unused_left (back_window k m pair window))) in
     let longer = window_from_parts k m w r free (drop 1 pair) middle last in
     let there : slice_get (windows (k + 1) m) (w * each + r) ≡ Some (drop 1 pair ++ free ∷ []) =
     (λ i. slice_get (windows (add-one k i) m) (w * own.each_is i + r)) ∙ longer in
@@ -270,23 +298,29 @@ written m t number each w problem pair back long own front middle end =
     ∙ ap (λ list. take 1 pair ++ list) same)
 
 -- the identifiers from the second to the last of the first 2t+2
-pub middle_is : (len : ℕ) (pair rest : List ℕ) → length pair ≡ len → 1 ≤ len → take (len - 1) (drop 1 (pair ++ rest)) ≡ drop 1 pair
+pub middle_is : (len : ℕ) (pair rest : List ℕ) → length pair ≡ len → 1 ≤ len
+    → take (len - 1) (drop 1 (pair ++ rest)) ≡ drop 1 pair
 middle_is len pair rest size some =
-    ap (take (len - 1)) (drop-append-le 1 pair rest (omega arith)) ∙ take_at (drop 1 pair) rest (len - 1) (omega (arith, length-drop 1 pair))
+    ap (take (len - 1)) (drop-append-le 1 pair rest (omega arith))
+    ∙ take_at (drop 1 pair) rest (len - 1) (omega (arith, length-drop 1 pair))
 
 -- and their number
-pub middle_at : (m t rounds len number same : ℕ) (pair rest : List ℕ) → IsWindow (2 * t + 1 + 1) m pair → rounds ≡ t → len ≡ 2 * t + 2 → same ≡ number
+pub middle_at : (m t rounds len number same : ℕ) (pair rest : List ℕ) → IsWindow (2 * t + 1 + 1) m pair → rounds ≡ t
+    → len ≡ 2 * t + 2 → same ≡ number
     → slice_get (windows (2 * rounds + 1) m) number ≡ Some (take (len - 1) (drop 1 (pair ++ rest)))
     → slice_get (windows (2 * t + 1) m) same ≡ Some (drop 1 pair)
 middle_at m t rounds len number same pair rest window level long is at' =
     let size = window.size in
-    (λ i. slice_get (windows (2 * sym level i + 1) m) (is i)) ∙ at' ∙ ap Some (middle_is len pair rest (omega arith) (omega arith))
+    (λ i. slice_get (windows (2 * sym level i + 1) m) (is i)) ∙ at'
+    ∙ ap Some (middle_is len pair rest (omega arith) (omega arith))
 
 -- cells after the first, written over all there are
-pub over_rest : (pair rest new : List ℕ) → 1 ≤ length pair → put_mid 1 (length (pair ++ rest) - 1) (pair ++ rest) new ≡ take 1 pair ++ new
+pub over_rest : (pair rest new : List ℕ) → 1 ≤ length pair
+    → put_mid 1 (length (pair ++ rest) - 1) (pair ++ rest) new ≡ take 1 pair ++ new
 over_rest pair rest new some =
     let all : List ℕ = pair ++ rest in
     let size = length-append pair rest in
     ap (λ list. list ++ (new ++ drop (length all - 1) (drop 1 all))) (take-append-le 1 pair rest some)
-    ∙ ap (λ list. take 1 pair ++ (new ++ list)) (drop_all (length all - 1) (drop 1 all) (omega (arith, length-drop 1 all)))
+    ∙ ap (λ list. take 1 pair ++ (new ++ list))
+    (drop_all (length all - 1) (drop 1 all) (omega (arith, length-drop 1 all)))
     ∙ ap (λ list. take 1 pair ++ list) (append-nil new)

@@ -10,4 +10,5 @@ idle patterns channels = filter (λ p. not (is_below channels p)) patterns
 
 -- the first of them, if there are any
 abbrev pub idle_in : List Pattern → ℕ → Option IdlePattern
-idle_in patterns channels = option_map (λ p. record { pattern = p; channels = channels }) (slice_get (idle patterns channels) 0)
+idle_in patterns channels = option_map (λ p. record { pattern = p; channels = channels })
+    (slice_get (idle patterns channels) 0)

@@ -14,8 +14,8 @@ in_row first second third = record { first = Channel first; second = Channel sec
 abbrev pub independent_set : List Pattern
 independent_set = in_row 0 0 0 ∷ next_to 1 1 ∷ []
 
--- a maximal matching: 1 matched to the right neighbour, 2 to the left one, 0 to none. No two neighbours have 0, after 1 comes 2,
--- and before 2 comes 1
+-- a maximal matching: 1 matched to the right neighbour, 2 to the left one, 0 to none. No two neighbours have 0,
+-- after 1 comes 2, and before 2 comes 1
 abbrev pub matching : List Pattern
 matching = next_to 0 0 ∷ next_to 1 0 ∷ next_to 1 1 ∷ next_to 0 2 ∷ next_to 2 2 ∷ []
 

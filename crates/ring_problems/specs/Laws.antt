@@ -18,7 +18,8 @@ TuplesSuffice = (t : ChannelTable) (problem : List Pattern) → IsSolved t probl
 -- the ring of a bad tuple of a table of t rounds breaks the problem at place t
 abbrev pub BadTuplesAreRings : Type 0
 BadTuplesAreRings =
-    (t : ChannelTable) (problem : List Pattern) (tuple : List ℕ) → IsTuple t.ids t.rounds problem tuple → IsBad t problem tuple
+    (t : ChannelTable) (problem : List Pattern) (tuple : List ℕ) → IsTuple t.ids t.rounds problem tuple
+    → IsBad t problem tuple
     → IsRing t.ids t.rounds (ring_of tuple) × Breaks t problem (ring_of tuple) t.rounds
 
 -- a table has at most one witness
@@ -40,13 +41,14 @@ WitnessesAreOnRings =
     → IsWitness t problem ring place channels pattern
     → IsRing t.ids t.rounds ring × (place < length ring) × Breaks t problem ring place
 
--- a table keeps a separation exactly if no ring with as many nodes as the separation's tuples, or more, breaks the problem of
--- that separation, for as many channels as the table has or more
+-- a table keeps a separation exactly if no ring with as many nodes as the separation's tuples, or more, breaks the
+-- problem of that separation, for as many channels as the table has or more
 abbrev pub SeparationsAreProblems : Type 0
 SeparationsAreProblems =
     (t : ChannelTable) (s : Separation) (channels : ℕ) → IsTable t → t.channels ≤ channels
     → IsApartEverywhere t s
-    ↔ ((ring : List ℕ) (place : ℕ) → IsRing t.ids t.rounds ring → 2 * t.rounds + 1 + apart.extra s ≤ length ring → place < length ring
+    ↔ ((ring : List ℕ) (place : ℕ) → IsRing t.ids t.rounds ring → 2 * t.rounds + 1 + apart.extra s ≤ length ring
+    → place < length ring
     → ¬ Breaks t (separation_problem channels s) ring place)
 
 -- so with far 0 it keeps it exactly if it solves that problem

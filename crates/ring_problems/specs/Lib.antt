@@ -1,4 +1,5 @@
--- Problems as forbidden patterns of channels, tables that solve them, the witness of a table that does not, and the laws.
+-- Problems as forbidden patterns of channels, tables that solve them, the witness of a table that does not, and the
+-- laws.
 pub mod Patterns
 pub mod TupleLists
 pub mod Problems

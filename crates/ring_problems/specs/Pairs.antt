@@ -1,5 +1,6 @@
 -- Tuples by the 2t+2 identifiers that they begin with.
-use Rattle.std.specs.Prelude.{◌≡◌, ◌≢◌, ℕ, ◌+◌, ◌-◌, ◌*◌, ◌<◌, Option, Some, List, take, drop, length, slice_get, slice_index}
+use Rattle.std.specs.Prelude.{◌≡◌, ◌≢◌, ℕ, ◌+◌, ◌-◌, ◌*◌, ◌<◌, Option, Some, List, take, drop, length}
+use Rattle.std.specs.Prelude.{slice_get, slice_index}
 use Rattle.win_index.specs.Runs.{IsRunStart}
 use Rattle.win_index.specs.Windows.{unused}
 use Rattle.channel_tables.specs.Tables.{ChannelTable}
@@ -12,10 +13,11 @@ use Rattle.ring_problems.specs.Problems.{IsBad}
 -- no tuple that begins with these 2t+2 identifiers is bad
 abbrev pub NoneBeginsWith : ChannelTable → List Pattern → List ℕ → Type 0
 NoneBeginsWith t problem pair =
-    (tuple : List ℕ) → IsTuple t.ids t.rounds problem tuple → take (2 * t.rounds + 1 + 1) tuple ≡ pair → ¬ IsBad t problem tuple
+    (tuple : List ℕ) → IsTuple t.ids t.rounds problem tuple → take (2 * t.rounds + 1 + 1) tuple ≡ pair
+    → ¬ IsBad t problem tuple
 
--- the third windows of the tuples that begin with these 2t+2 identifiers are these: consecutive ones, but for one, which
--- would end in the second identifier
+-- the third windows of the tuples that begin with these 2t+2 identifiers are these: consecutive ones, but for one,
+-- which would end in the second identifier
 pub record IsThirds (t : ChannelTable) (pair : List ℕ) (thirds : Thirds) : Type 0 where
   pub run : IsRunStart (2 * t.rounds) t.ids (drop 2 pair) thirds.first
   pub count_is : thirds.count ≡ t.ids - 2 * t.rounds

@@ -1,6 +1,8 @@
--- Forbidden patterns: a problem is a list of them, none of which the channels of a place and of the two places after it may
--- match. These are the locally checkable labellings of Naor and Stockmeyer (1995), of radius 1 on oriented rings.
-use Rattle.std.specs.Prelude.{◌≡◌, ℕ, ◌<◌, Bool, true, false, ◌&&◌, nat_lt, if◌then◌else◌, Option, Some, List, slice_get}
+-- Forbidden patterns: a problem is a list of them, none of which the channels of a place and of the two places
+-- after it may match. These are the locally checkable labellings of Naor and Stockmeyer (1995), of radius 1 on
+-- oriented rings.
+use Rattle.std.specs.Prelude.{◌≡◌, ℕ, ◌<◌, Bool, true, false, ◌&&◌, nat_lt, if◌then◌else◌, Option, Some}
+use Rattle.std.specs.Prelude.{List, slice_get}
 use Rattle.std.specs.List.{list_any}
 use Rattle.ring_problems.specs.declared.pattern.Entry.{Entry}
 use Rattle.ring_problems.specs.declared.pattern.Entry.TheVariants.{Wildcard, Channel}
@@ -42,7 +44,8 @@ is_entry_below channels (Channel c) = nat_lt c channels
 
 -- whether all entries of a pattern do, so that channels below the number can match it
 abbrev pub is_below : ℕ → Pattern → Bool
-is_below channels p = is_entry_below channels p.first && (is_entry_below channels p.second && is_entry_below channels p.third)
+is_below channels p = is_entry_below channels p.first
+    && (is_entry_below channels p.second && is_entry_below channels p.third)
 
 -- whether some pattern asks something of the third place
 abbrev pub is_long : List Pattern → Bool

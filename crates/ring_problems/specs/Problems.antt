@@ -35,7 +35,8 @@ IsSolvedEverywhere t problem =
 -- no tuple with a number from low on and below high is bad
 abbrev pub NoneIsBad : ChannelTable → List Pattern → ℕ → ℕ → Type 0
 NoneIsBad t problem low high =
-    (n : ℕ) (tuple : List ℕ) → low ≤ n → n < high → slice_get (tuples t problem) n ≡ Some tuple → ¬ IsBad t problem tuple
+    (n : ℕ) (tuple : List ℕ) → low ≤ n → n < high → slice_get (tuples t problem) n ≡ Some tuple
+    → ¬ IsBad t problem tuple
 
 -- the tuple with the number n is bad, and none before it from low on is
 pub record IsLeastBad (t : ChannelTable) (problem : List Pattern) (low n : ℕ) (tuple : List ℕ) : Type 0 where
@@ -47,4 +48,5 @@ pub record IsLeastBad (t : ChannelTable) (problem : List Pattern) (low n : ℕ) 
 -- the result is the least number of a bad tuple from low on and below high, or None if none of these is bad
 abbrev pub IsLeastIn : ChannelTable → List Pattern → ℕ → ℕ → Option ℕ → Type 0
 IsLeastIn t problem low high found =
-    MatchOption found (NoneIsBad t problem low high) (λ n. (n < high) × ((tuple : List ℕ) × IsLeastBad t problem low n tuple))
+    MatchOption found (NoneIsBad t problem low high) (λ n. (n < high)
+    × ((tuple : List ℕ) × IsLeastBad t problem low n tuple))

@@ -1,5 +1,6 @@
 -- Tuples: the identifiers of the windows of two or three places in a row of a ring.
-use Rattle.std.specs.Prelude.{◌≡◌, ◌==◌, ℕ, ◌+◌, ◌-◌, ◌*◌, if◌then◌else◌, List, [], ◌∷◌, ◌++◌, map, flat_map, length, take, drop, slice_index}
+use Rattle.std.specs.Prelude.{◌≡◌, ◌==◌, ℕ, ◌+◌, ◌-◌, ◌*◌, if◌then◌else◌, List, [], ◌∷◌, ◌++◌, map, flat_map, length}
+use Rattle.std.specs.Prelude.{take, drop, slice_index}
 use Rattle.win_index.specs.Windows.{unused, windows, IsWindow}
 use Rattle.ring_problems.specs.declared.pattern.Pattern.{Pattern}
 use Rattle.ring_problems.specs.Patterns.{is_long, extra}
@@ -8,8 +9,8 @@ use Rattle.ring_problems.specs.Patterns.{is_long, extra}
 abbrev pub followed : ℕ → List ℕ → List (List ℕ)
 followed m list = map (λ x. list ++ x ∷ []) (unused m (drop 1 list))
 
--- the tuples of m identifiers and t rounds in order: all lists of 2t+2 distinct identifiers; if a pattern asks something of
--- the third place, each of them with one more identifier that is none of its second to its last
+-- the tuples of m identifiers and t rounds in order: all lists of 2t+2 distinct identifiers; if a pattern asks
+-- something of the third place, each of them with one more identifier that is none of its second to its last
 unfoldable pub tuples_below : ℕ → ℕ → List Pattern → List (List ℕ)
 tuples_below m t problem =
     let pairs : List (List ℕ) = windows (2 * t + 1 + 1) m in

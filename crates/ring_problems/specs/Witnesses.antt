@@ -7,9 +7,10 @@ use Rattle.ring_problems.specs.Patterns.{IsFirstMatch}
 use Rattle.ring_problems.specs.TupleLists.{ring_of}
 use Rattle.ring_problems.specs.Problems.{IsLeastBad}
 
--- the ring is that of the least bad tuple, the place is t for t rounds, the channels are those of this place and of the two places
--- after it, around the ring, and the pattern is the first one that they match
-pub record IsWitness (t : ChannelTable) (problem : List Pattern) (ring : List ℕ) (place : ℕ) (channels : ℕ × ℕ × ℕ) (pattern : Pattern) : Type 0 where
+-- the ring is that of the least bad tuple, the place is t for t rounds, the channels are those of this place and of
+-- the two places after it, around the ring, and the pattern is the first one that they match
+pub record IsWitness (t : ChannelTable) (problem : List Pattern) (ring : List ℕ) (place : ℕ) (channels : ℕ × ℕ × ℕ)
+    (pattern : Pattern) : Type 0 where
   pub number : ℕ
   pub tuple : List ℕ
   pub least : IsLeastBad t problem 0 number tuple

@@ -28,7 +28,8 @@ impl<'a> ProblemTuples<'a, Table> {
     pub fn least_from(self, low: u64) -> Option<u64>
         requires { let t = self.windows.now in
             NoneIsBad t self.problem.now 0 (low * per_pair t.ids t.rounds self.problem.now) }
-        ensures { IsLeastIn self.entry.windows.now self.entry.problem.now 0 (length (tuples self.entry.windows.now self.entry.problem.now)) result }
+        ensures { IsLeastIn self.entry.windows.now self.entry.problem.now 0
+            (length (tuples self.entry.windows.now self.entry.problem.now)) result }
     {
         let shape = self.windows.shape();
         let pairs = shape.tuples(1);
@@ -51,7 +52,8 @@ impl<'a> ProblemTuples<'a, Table> {
     // among all lists of as many.
     fn least_with(self, pair: &[u32], number: u64) -> Option<u64>
         requires pair { IsWindow (2 * self.windows.now.rounds + 1 + 1) self.windows.now.ids pair.now }
-        requires item { slice_get (windows (2 * self.windows.now.rounds + 1 + 1) self.windows.now.ids) number ≡ Some pair.now }
+        requires item { slice_get (windows (2 * self.windows.now.rounds + 1 + 1) self.windows.now.ids) number
+            ≡ Some pair.now }
         ensures { let t = self.entry.windows.now in
             let each = per_pair t.ids t.rounds self.entry.problem.now in
             IsLeastIn t self.entry.problem.now (number * each) (number * each + each) result }
@@ -114,7 +116,8 @@ impl<'a> ProblemTuples<'a, Table> {
     fn may_end_at(self, thirds: Thirds, place: u32, first: Option<u32>, second: Option<u32>) -> bool
         requires { thirds.first + place < length self.windows.now.entries }
         ensures { OnFalse result (place ≢ thirds.gap
-            → ¬ IsForbidden self.entry.problem.now first second (Some (slice_index self.entry.windows.now.entries (thirds.first + place)))) }
+            → ¬ IsForbidden self.entry.problem.now first second
+            (Some (slice_index self.entry.windows.now.entries (thirds.first + place)))) }
     {
         if place == thirds.gap {
             return false;

@@ -34,7 +34,8 @@ pub fn first_match(
     second: Option<u32>,
     third: Option<u32>,
 ) -> Option<Pattern>
-    ensures { MatchOption result (¬ IsForbidden problem.now first second third) (IsFirstMatch problem.now first second third) }
+    ensures { MatchOption result (¬ IsForbidden problem.now first second third)
+        (IsFirstMatch problem.now first second third) }
 {
     for pattern in problem {
         if pattern.matches(first, second, third) {

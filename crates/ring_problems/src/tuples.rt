@@ -1,5 +1,6 @@
 //! The tuples that the judge tests, one by one.
-ghost use Rattle.std.specs.Prelude.{◌≡◌, ◌↔◌, ℕ, List, ◌+◌, ◌*◌, ◌<◌, ◌≤◌, IfNone, IfOk, IfSome, IsTrue, Some, length, take, slice_get};
+ghost use Rattle.std.specs.Prelude.{◌≡◌, ◌↔◌, ℕ, List, ◌+◌, ◌*◌, ◌<◌, ◌≤◌, IfNone, IfOk, IfSome, IsTrue, Some, length};
+ghost use Rattle.std.specs.Prelude.{take, slice_get};
 ghost use Rattle.win_index.specs.declared.limits.TheConstants.{MAX_TUPLE_LEN};
 ghost use Rattle.win_index.specs.Arcs.{part_at, window_around};
 ghost use Rattle.win_index.specs.Ring.{IsRing};
@@ -66,8 +67,10 @@ impl<'a, W: Windows> ProblemTuples<'a, W> {
     fn write(self, number: u64, out: &mut [u32])
         requires below { number < length (tuples (W.table self.windows.now) self.problem.now) }
         requires room { length out.old ≡ 2 * (W.table self.windows.now).rounds + 1 + extra self.problem.now }
-        ensures item { slice_get (tuples (W.table self.entry.windows.now) self.entry.problem.now) number ≡ Some out.new }
-        ensures tuple { IsTuple (W.table self.entry.windows.now).ids (W.table self.entry.windows.now).rounds self.entry.problem.now out.new }
+        ensures item { slice_get (tuples (W.table self.entry.windows.now) self.entry.problem.now) number
+            ≡ Some out.new }
+        ensures tuple { IsTuple (W.table self.entry.windows.now).ids (W.table self.entry.windows.now).rounds
+            self.entry.problem.now out.new }
     {
         write_tuple(self.windows.shape(), self.problem, number, out);
     }
@@ -87,7 +90,8 @@ impl<'a, W: Windows> ProblemTuples<'a, W> {
     fn third_channel(self, tuple: &[u32]) -> Option<u32>
         requires { IsTuple (W.table self.windows.now).ids (W.table self.windows.now).rounds self.problem.now tuple.now }
         ensures { 2 ≤ extra self.entry.problem.now
-            → result ≡ channel_of (W.table self.entry.windows.now) (part_at (W.table self.entry.windows.now).rounds 2 tuple.now) }
+            → result ≡ channel_of (W.table self.entry.windows.now)
+            (part_at (W.table self.entry.windows.now).rounds 2 tuple.now) }
     {
         if !is_long(self.problem) {
             return None;
@@ -100,7 +104,8 @@ impl<'a, W: Windows> ProblemTuples<'a, W> {
         requires within { offset + (2 * (W.table self.windows.now).rounds + 1) ≤ length list.now }
         requires window { IsWindow (2 * (W.table self.windows.now).rounds + 1) (W.table self.windows.now).ids
             (part_at (W.table self.windows.now).rounds offset list.now) }
-        ensures { channel_of (W.table self.entry.windows.now) (part_at (W.table self.entry.windows.now).rounds offset list.now) ≡ Some result }
+        ensures { channel_of (W.table self.entry.windows.now)
+            (part_at (W.table self.entry.windows.now).rounds offset list.now) ≡ Some result }
     {
         let len = 2 * self.windows.shape().rounds() as usize + 1;
         self.windows.channel_of_window(&list[offset..offset + len])
@@ -147,7 +152,8 @@ impl<'a, W: Windows> ProblemTuples<'a, W> {
             IsRing t.ids t.rounds (ring_of (take (2 * t.rounds + 1 + extra self.entry.problem.now) out.new)) }
         ensures windows { let t = W.table self.entry.windows.now in
             (step : ℕ) → step ≤ 2 → part_at t.rounds step out.new
-            ≡ window_around (ring_of (take (2 * t.rounds + 1 + extra self.entry.problem.now) out.new)) t.rounds (t.rounds + step) }
+            ≡ window_around (ring_of (take (2 * t.rounds + 1 + extra self.entry.problem.now) out.new)) t.rounds
+            (t.rounds + step) }
     {
         let len = self.len();
         self.write(number, &mut out[..len]);

@@ -12,17 +12,22 @@ use Rattle.round_eval.specs.Configuration.{RingConfiguration, KeepsConfiguration
 
 -- the starts of all places are their registers before the first round
 pub started : (p : ProgramTree) (x : List ℕ) → map (start p) x ≡ stretch p x 0 0 (length x)
-started p x = fill_by_all (state p x 0) (map (start p) x) (length x) [] (length-map x (start p)) (λ i lt. get_or-map (start p) x i 0 [] lt)
+started p x = fill_by_all (state p x 0) (map (start p) x) (length x) [] (length-map x (start p))
+    (λ i lt. get_or-map (start p) x i 0 [] lt)
 
 -- the row of a place is its registers
-pub row_of_place : (c : RingConfiguration) (cells : List ℕ) (spare i : ℕ) (own : List ℕ) → KeepsConfiguration c cells spare → i < length c.places
-    → get_or (rows (length c.program.start) (length c.places) cells) i [] ≡ own → own ≡ state c.program c.places c.round i
+pub row_of_place : (c : RingConfiguration) (cells : List ℕ) (spare i : ℕ) (own : List ℕ)
+    → KeepsConfiguration c cells spare → i < length c.places
+    → get_or (rows (length c.program.start) (length c.places) cells) i [] ≡ own
+    → own ≡ state c.program c.places c.round i
 row_of_place c cells spare i own kept lt row =
-    sym row ∙ ap (λ u. get_or u i []) kept.rows_are ∙ get_or-map-range_with_len (state c.program c.places c.round) 0 (length c.places) i i [] lt (omega arith)
+    sym row ∙ ap (λ u. get_or u i []) kept.rows_are
+    ∙ get_or-map-range_with_len (state c.program c.places c.round) 0 (length c.places) i i [] lt (omega arith)
 
 -- a round keeps the invariant, by the message of the last place to the right and of the first place to the left
 pub advance_keeps :
-    StretchesAreRows → (c : RingConfiguration) (cells after : List ℕ) (spare used left right : ℕ) → KeepsConfiguration c cells spare
+    StretchesAreRows → (c : RingConfiguration) (cells after : List ℕ) (spare used left right : ℕ)
+    → KeepsConfiguration c cells spare
     → c.round < length c.program.steps → 0 < length c.places → used ≡ length cells → length after ≡ length cells
     → left ≡ to_right c.program c.round (state c.program c.places c.round (length c.places - 1))
     → right ≡ to_left c.program c.round (state c.program c.places c.round 0)
@@ -43,5 +48,6 @@ advance_keeps law c cells after spare used left right kept more some used_is siz
       round = omega arith;
       size = size ∙ kept.size;
       spare_size = used_is ∙ sym size;
-      rows_are = made ∙ (λ i. row_after p c.round (from_left i) (kept.rows_are i) (from_right i)) ∙ sym (law p x c.round 0 n (omega arith));
+      rows_are = made ∙ (λ i. row_after p c.round (from_left i) (kept.rows_are i) (from_right i))
+          ∙ sym (law p x c.round 0 n (omega arith));
     }

@@ -1,5 +1,6 @@
 -- Global rounds as rows.
-use Rattle.std.proofs.Common.{◌≡◌, ℕ, zero, suc, ◌+◌, ◌-◌, ◌%◌, ◌<◌, ◌≤◌, List, [], ◌∷◌, length, arith, refl, sym, add-one, ◌∙◌, ap}
+use Rattle.std.proofs.Common.{◌≡◌, ℕ, zero, suc, ◌+◌, ◌-◌, ◌%◌, ◌<◌, ◌≤◌, List, [], ◌∷◌, length, arith, refl, sym}
+use Rattle.std.proofs.Common.{add-one, ◌∙◌, ap}
 use Rattle.std.proofs.Math.Nat.{add-mod_left, mod-eq_of_lt}
 use Rattle.node_program.specs.Term.{ProgramTree}
 use Rattle.node_program.specs.Node.{to_left, to_right, next}

@@ -1,5 +1,6 @@
 -- The items of a shrinking line, and the lines of a window's parts.
-use Rattle.std.proofs.Common.{◌≡◌, ℕ, zero, suc, ◌+◌, ◌-◌, ◌*◌, ◌<◌, ◌≤◌, List, [], ◌∷◌, ◌++◌, length, length-append, get_or, take, drop, refl, sym, ap, ◌∙◌, arith, add-one, length-drop}
+use Rattle.std.proofs.Common.{◌≡◌, ℕ, zero, suc, ◌+◌, ◌-◌, ◌*◌, ◌<◌, ◌≤◌, List, [], ◌∷◌, ◌++◌, length, length-append}
+use Rattle.std.proofs.Common.{get_or, take, drop, refl, sym, ap, ◌∙◌, arith, add-one, length-drop}
 use Rattle.std.proofs.lemmas.List.{get_or-map, length-map, get_or-take, get_or-drop, length-take-le}
 use Rattle.std.proofs.lemmas.List.FromFn.{fill_by_all, length-map-range_with_len, get_or-map-range_with_len}
 use Rattle.node_program.specs.Term.{ProgramTree}
@@ -26,11 +27,13 @@ line_start p w j lt = get_or-map (start p) w j 0 [] lt
 
 pub line_next :
     (p : ProgramTree) (w : List ℕ) (k j : ℕ) → j + 2 * k + 2 < length w
-    → item (line p w (suc k)) j ≡ between p k (item (line p w k) j) (item (line p w k) (j + 1)) (item (line p w k) (j + 2))
+    → item (line p w (suc k)) j
+    ≡ between p k (item (line p w k) j) (item (line p w k) (j + 1)) (item (line p w k) (j + 2))
 line_next p w k j lt =
     let u : List (List ℕ) = line p w k in
     let inside : j < length u - 2 = omega (arith, length-line p w k) in
-    get_or-map-range_with_len (λ i. between p k (item u i) (item u (i + 1)) (item u (i + 2))) 0 (length u - 2) j j [] inside (omega arith)
+    get_or-map-range_with_len (λ i. between p k (item u i) (item u (i + 1)) (item u (i + 2))) 0
+    (length u - 2) j j [] inside (omega arith)
 
 -- states that begin with the start states of w, and go on as a line does, are the items of the line
 pub line_is :
@@ -53,7 +56,8 @@ line_of_part p w len d k j fits lt =
     let size : length part ≡ len = length-take-le len (drop d w) (omega (arith, length-drop d w)) in
     line_is p part (λ i j. item (line p w i) (d + j))
     (λ j small.
-    let same : get_or part j 0 ≡ get_or w (d + j) 0 = get_or-take len (drop d w) j 0 (omega arith) ∙ get_or-drop d w j 0 in
+    let same : get_or part j 0 ≡ get_or w (d + j) 0 =
+    get_or-take len (drop d w) j 0 (omega arith) ∙ get_or-drop d w j 0 in
     ap (start p) same ∙ sym (line_start p w (d + j) (omega arith)))
     (λ i j small.
     let own : d + (j + 1) ≡ d + j + 1 = omega arith in

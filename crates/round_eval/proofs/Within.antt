@@ -14,11 +14,13 @@ module _ (start_is_within : StartIsWithin) (next_is_within : NextIsWithin) where
       → IsWithin (item (line p w k) j) (register_bounds p m k)
   item_within p m w zero j below lt =
       let inside : j < length w = omega arith in
-      subst (λ s. IsWithin s (register_bounds p m 0)) (sym (line_start p w j inside)) (start_is_within p m (get_or w j 0) (below j 0 inside))
+      subst (λ s. IsWithin s (register_bounds p m 0)) (sym (line_start p w j inside))
+      (start_is_within p m (get_or w j 0) (below j 0 inside))
   item_within p m w (suc k) j below lt =
       subst (λ s. IsWithin s (register_bounds p m (suc k))) (sym (line_next p w k j (omega arith)))
       (next_is_within p m k (item (line p w k) j) (item (line p w k) (j + 1)) (item (line p w k) (j + 2))
-      (item_within p m w k j below (omega arith)) (item_within p m w k (j + 1) below (omega arith)) (item_within p m w k (j + 2) below (omega arith)))
+      (item_within p m w k j below (omega arith)) (item_within p m w k (j + 1) below (omega arith))
+      (item_within p m w k (j + 2) below (omega arith)))
 
   -- and so is the one that remains
   pub middle_within : WindowsAreWithin

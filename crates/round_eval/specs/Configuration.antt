@@ -34,4 +34,5 @@ pub record KeepsConfiguration (c : RingConfiguration) (cells : List ℕ) (spare 
   pub round : c.round ≤ length c.program.steps
   pub size : length cells ≡ length c.places * length c.program.start
   pub spare_size : spare ≡ length cells
-  pub rows_are : rows (length c.program.start) (length c.places) cells ≡ stretch c.program c.places c.round 0 (length c.places)
+  pub rows_are : rows (length c.program.start) (length c.places) cells
+      ≡ stretch c.program c.places c.round 0 (length c.places)

@@ -19,7 +19,8 @@ pub record IsEntry (plan : ProgramForIds) (entries : Entries) (level number : �
 
 -- a source after it was asked, by its plan, by what no call changes, and by its entries: it knows at least what it
 -- knew, of the same plan
-pub record Asked {S F : Type 0} (plan : S → ProgramForIds) (fixed : S → F) (entries : S → Entries) (old new : S) : Type 0 where
+pub record Asked {S F : Type 0} (plan : S → ProgramForIds) (fixed : S → F) (entries : S
+    → Entries) (old new : S) : Type 0 where
   pub same_plan : plan new ≡ plan old
   pub same_fixed : fixed new ≡ fixed old
   pub grows : Grows (entries old) (entries new)

@@ -18,4 +18,5 @@ StretchesAreRows =
 -- the rows of cells are their parts of a row's width, by index
 abbrev pub RowsAreTaken : Type 0
 RowsAreTaken =
-    (width n : ℕ) (cells : List ℕ) → rows width n cells ≡ map (λ i. take width (drop (i * width) cells)) (range_with_len 0 n)
+    (width n : ℕ) (cells : List ℕ)
+    → rows width n cells ≡ map (λ i. take width (drop (i * width) cells)) (range_with_len 0 n)

@@ -13,7 +13,8 @@ sent_left p r (own ∷ row) right = to_left p r own
 -- the registers of a row after round r, with the message `left` to its first node and `right` to its last one
 abbrev pub row_after : ProgramTree → ℕ → ℕ → List (List ℕ) → ℕ → List (List ℕ)
 row_after p r left [] right = []
-row_after p r left (own ∷ row) right = next p r own left (sent_left p r row right) ∷ row_after p r (to_right p r own) row right
+row_after p r left (own ∷ row) right = next p r own left (sent_left p r row right)
+    ∷ row_after p r (to_right p r own) row right
 
 -- the first n rows of a list of cells, for rows of this width
 abbrev pub rows : ℕ → ℕ → List ℕ → List (List ℕ)

@@ -36,7 +36,8 @@ OneStateRemains =
 
 -- without rounds the state that remains is the start state of the first identifier
 abbrev pub StartStateRemains : Type 0
-StartStateRemains = (p : ProgramTree) (window : List ℕ) → 0 < length window → middle_state p 0 window ≡ start p (slice_index window 0)
+StartStateRemains = (p : ProgramTree) (window : List ℕ) → 0 < length window
+    → middle_state p 0 window ≡ start p (slice_index window 0)
 
 -- the state that remains of 2r+3 identifiers after r+1 rounds is made by round r from those that remain of the first,
 -- the middle and the last 2r+1 of them after r rounds
@@ -44,4 +45,5 @@ abbrev pub PartsAreJoined : Type 0
 PartsAreJoined =
     (p : ProgramTree) (r : ℕ) (window : List ℕ) → length window ≡ 2 * r + 3
     → middle_state p (r + 1) window
-    ≡ between p r (middle_state p r (part_at r 0 window)) (middle_state p r (part_at r 1 window)) (middle_state p r (part_at r 2 window))
+    ≡ between p r (middle_state p r (part_at r 0 window)) (middle_state p r (part_at r 1 window))
+    (middle_state p r (part_at r 2 window))

@@ -35,7 +35,8 @@ impl<'a> Model for Block<'a> {
 
     ghost view = { λ b. record { plan = b.plan.now; level = b.level; number = b.number; maker = b.maker } };
 
-    ghost invariant = { λ b. HoldsStates b.plan.now b.level b.number b.len b.states.items b.to_left.items b.to_right.items };
+    ghost invariant = { λ b. HoldsStates b.plan.now b.level b.number b.len b.states.items b.to_left.items
+        b.to_right.items };
 }
 
 /// What a block holds: the states of its windows, row by row, with a cell for each register, and
@@ -144,8 +145,10 @@ impl<'a> Block<'a> {
     pub fn to_left(&self) -> &[u32]
         requires level { self.now.level < length self.now.plan.program.steps }
         ensures size { block_len self.now.plan.ids self.now.level self.now.number ≤ length result.now }
-        ensures sent { (i : ℕ) → i < block_len self.now.plan.ids self.now.level self.now.number → slice_index result.now i
-            ≡ to_left self.now.plan.program self.now.level (block_state self.now.plan self.now.level self.now.number i) }
+        ensures sent { (i : ℕ) → i < block_len self.now.plan.ids self.now.level self.now.number
+            → slice_index result.now i
+            ≡ to_left self.now.plan.program self.now.level
+            (block_state self.now.plan self.now.level self.now.number i) }
     {
         &self.to_left
     }
@@ -154,7 +157,8 @@ impl<'a> Block<'a> {
     pub fn to_right(&self, i: u32) -> u32
         requires level { self.now.level < length self.now.plan.program.steps }
         requires place { i < block_len self.now.plan.ids self.now.level self.now.number }
-        ensures { result ≡ to_right self.now.plan.program self.now.level (block_state self.now.plan self.now.level self.now.number i) }
+        ensures { result ≡ to_right self.now.plan.program self.now.level
+            (block_state self.now.plan self.now.level self.now.number i) }
     {
         self.to_right[i as usize]
     }

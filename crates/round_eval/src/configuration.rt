@@ -47,7 +47,8 @@ impl<'a> Model for Configuration<'a> {
 
     ghost view = { λ c. record { program = c.plan.now.program; places = c.ring.now.places; round = c.round } };
 
-    ghost invariant = { λ c. KeepsConfiguration (record { program = c.plan.now.program; places = c.ring.now.places; round = c.round })
+    ghost invariant = { λ c. KeepsConfiguration
+        (record { program = c.plan.now.program; places = c.ring.now.places; round = c.round })
         c.states.items (vec_len c.spare) };
 }
 

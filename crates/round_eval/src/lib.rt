@@ -1,6 +1,7 @@
-//! What a program means: the value of an expression, one round at a node, global rounds on a ring, whose state can be read
-//! before and after each, and the states of windows: the registers of a node after some rounds, from the identifiers around
-//! it. These are made one window at a time, or in blocks of `BLOCK_WINDOWS` consecutive windows, which a source hands out.
+//! What a program means: the value of an expression, one round at a node, global rounds on a ring, whose state can
+//! be read before and after each, and the states of windows: the registers of a node after some rounds, from the
+//! identifiers around it. These are made one window at a time, or in blocks of `BLOCK_WINDOWS` consecutive windows,
+//! which a source hands out.
 #![tactic(auto)]
 
 mod block;

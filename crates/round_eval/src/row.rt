@@ -41,7 +41,8 @@ pub fn start_of_row(plan: &Plan, ids: &[u32], states: &mut [u32])
     requires below { All (λ id. id < plan.now.ids) ids.now }
     requires few { length ids.now ≤ MAX_IDS }
     requires room { length ids.now * length plan.now.program.start ≤ length states.old }
-    ensures { rows (length plan.now.program.start) (length ids.now) states.new ≡ map (rounds.start plan.now.program) ids.now }
+    ensures { rows (length plan.now.program.start) (length ids.now) states.new
+        ≡ map (rounds.start plan.now.program) ids.now }
 {
     let width = width_of(plan);
     for (place, id) in ids.iter().enumerate() {
@@ -66,7 +67,8 @@ pub fn round_of_row(
     requires size { nodes * length plan.now.program.start ≤ length states.now }
     requires out_size { nodes * length plan.now.program.start ≤ length out.old }
     ensures { rows (length plan.now.program.start) nodes out.new
-        ≡ row_after plan.now.program round from_left (rows (length plan.now.program.start) nodes states.now) from_right }
+        ≡ row_after plan.now.program round from_left
+        (rows (length plan.now.program.start) nodes states.now) from_right }
 {
     let width = width_of(plan);
     let last = nodes - 1;

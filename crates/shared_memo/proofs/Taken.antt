@@ -1,5 +1,6 @@
 -- Outcomes that are taken from a list one by one.
-use Rattle.std.proofs.Common.{◌≡◌, ℕ, ◌+◌, ◌<◌, List, [], ◌∷◌, ◌++◌, All, Some, Ok, Err, refl, sym, ◌∙◌, ap, length, length-append, append-nil, get_or, subst, arith}
+use Rattle.std.proofs.Common.{◌≡◌, ℕ, ◌+◌, ◌<◌, List, [], ◌∷◌, ◌++◌, All, Some, Ok, Err, refl, sym, ◌∙◌, ap, length}
+use Rattle.std.proofs.Common.{length-append, append-nil, get_or, subst, arith}
 use Rattle.std.specs.Prelude.{Option, IsOk, Contains, MatchOption}
 use Rattle.std.proofs.lemmas.List.{get_or_append_left, append_assoc, get_or-append-add}
 use Rattle.std.proofs.lemmas.List.Elements.{All-push, Contains-push, Contains-append_right}
@@ -18,7 +19,8 @@ pub record Taken {K : Type 0} (all done rest : List (WorkerOutcome K)) (last : O
 -- one more is taken
 pub taken_more :
     {K : Type 0} (all done rest : List (WorkerOutcome K)) (outcome : WorkerOutcome K) (last : Option K) (known : K)
-    → Taken all done (outcome ∷ rest) last → outcome.answer ≡ Ok known → Taken all (done ++ outcome ∷ []) rest (Some known)
+    → Taken all done (outcome ∷ rest) last → outcome.answer ≡ Ok known
+    → Taken all (done ++ outcome ∷ []) rest (Some known)
 taken_more all done rest outcome last known taken is =
     let ok : IsOk outcome.answer = rw is refl in
     record {
@@ -29,24 +31,31 @@ taken_more all done rest outcome last known taken is =
 
 -- the next one is a fault
 pub taken_fault :
-    {K : Type 0} (all done rest : List (WorkerOutcome K)) (outcome : WorkerOutcome K) (last : Option K) (fault : JobFault K)
-    → AreNumbered all outcome_worker → Taken all done (outcome ∷ rest) last → outcome.answer ≡ Err fault → IsLowestFault all fault
+    {K : Type 0} (all done rest : List (WorkerOutcome K)) (outcome : WorkerOutcome K) (last : Option K)
+    (fault : JobFault K)
+    → AreNumbered all outcome_worker → Taken all done (outcome ∷ rest) last → outcome.answer ≡ Err fault
+    → IsLowestFault all fault
 taken_fault all done rest outcome last fault numbered taken is =
     let at : ℕ = length done in
     let split = taken.split in
     let long : at < length all = omega (arith, ap length split, length-append done (outcome ∷ rest)) in
-    let here : Contains all outcome = rw split (Contains-append_right done (outcome ∷ rest) outcome (0, omega arith, refl)) in
+    let here : Contains all outcome =
+    rw split (Contains-append_right done (outcome ∷ rest) outcome (0, omega arith, refl)) in
     let plus : at + 0 ≡ at = omega arith in
-    let item : get_or all at outcome ≡ outcome = rw split (rw plus at (get_or-append-add done (outcome ∷ rest) 0 outcome)) in
-    let number : outcome_worker outcome ≡ at = numbered at outcome (slice_get-get_or all at outcome long ∙ ap Some item) in (
+    let item : get_or all at outcome ≡ outcome =
+    rw split (rw plus at (get_or-append-add done (outcome ∷ rest) 0 outcome)) in
+    let number : outcome_worker outcome ≡ at =
+    numbered at outcome (slice_get-get_or all at outcome long ∙ ap Some item) in (
       outcome,
       record {
         one_of = here;
         fault_is = is;
         none_lower = λ k d within less.
-            let own : outcome_worker (get_or all k d) ≡ k = numbered k (get_or all k d) (slice_get-get_or all k d within) in
+            let own : outcome_worker (get_or all k d) ≡ k =
+            numbered k (get_or all k d) (slice_get-get_or all k d within) in
             let below : k < at = omega (arith, own, number, less) in
-            let same : get_or all k d ≡ get_or done k d = rw split (get_or_append_left done (outcome ∷ rest) d k below) in
+            let same : get_or all k d ≡ get_or done k d =
+            rw split (get_or_append_left done (outcome ∷ rest) d k below) in
             subst (λ o. IsOk o.answer) (sym same) (taken.ok k d below);
       },
     )

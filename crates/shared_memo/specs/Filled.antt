@@ -1,4 +1,5 @@
--- What a pass has learned, what it knows once a worker has filled its jobs, and once all cells are full, and what it lacks.
+-- What a pass has learned, what it knows once a worker has filled its jobs, and once all cells are full, and what
+-- it lacks.
 use Rattle.std.specs.Prelude.{◌≡◌, ℕ, ◌<◌, List, Some, IfSome, IsSomeAnd, All, true, is_some}
 use Rattle.win_index.specs.Blocks.{block_count}
 use Rattle.lang_check.specs.Plans.{ProgramForIds}
@@ -19,7 +20,8 @@ AreKnown plan entries jobs =
 
 -- a block at each number of a level
 abbrev pub KnowsLevel : ProgramForIds → Entries → ℕ → Type 0
-KnowsLevel plan entries level = (number : ℕ) → number < block_count plan.ids level → is_some (entries level number) ≡ true
+KnowsLevel plan entries level = (number : ℕ) → number < block_count plan.ids level
+    → is_some (entries level number) ≡ true
 
 -- a block at each level and number of the plan
 abbrev pub KnowsAll : ProgramForIds → Entries → Type 0
@@ -27,11 +29,13 @@ KnowsAll plan entries = (level number : ℕ) → IsKey plan level number → is_
 
 -- the pass has looked at the cell of this level and number, and found it empty or found a stranger
 abbrev pub LacksBlock : ProgramForIds → Pass → ℕ → ℕ → Type 0
-LacksBlock plan pass level number = IsSomeAnd (last_look pass level number) (λ found. IfSome found (IsStranger plan level number))
+LacksBlock plan pass level number = IsSomeAnd (last_look pass level number)
+    (λ found. IfSome found (IsStranger plan level number))
 
 -- the pass has looked at the cell of this level and number, and found a stranger
 abbrev pub FoundStranger : ProgramForIds → Pass → ℕ → ℕ → Type 0
-FoundStranger plan pass level number = IsSomeAnd (last_look pass level number) (λ found. IsSomeAnd found (IsStranger plan level number))
+FoundStranger plan pass level number = IsSomeAnd (last_look pass level number)
+    (λ found. IsSomeAnd found (IsStranger plan level number))
 
 -- the pass lacks a block of the plan
 pub record HasGap (plan : ProgramForIds) (pass : Pass) : Type 0 where

@@ -25,7 +25,8 @@ after_refusal Empty = Never
 after_refusal Strange = Strange
 after_refusal Right = Right
 
--- whether a last look fits what was seen in the cell: a block was seen if it found one, and none if it found the cell empty
+-- whether a last look fits what was seen in the cell: a block was seen if it found one, and none if it found the
+-- cell empty
 abbrev pub fits : LastLook → Option MadeBlock → Bool
 fits Never seen = true
 fits Empty seen = is_none seen

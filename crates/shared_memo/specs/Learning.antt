@@ -22,16 +22,19 @@ IsStrangerPass memo pass = IsPassOf memo pass × MetStranger (memo_plan memo) pa
 -- the pass has learned what one of the workers knows, if there is one
 abbrev pub HasLearnedOne : List (WorkerOutcome Pass) → Pass → Pass → Type 0
 HasLearnedOne outcomes old new =
-    ((outcomes ≡ []) × (new ≡ old)) ⊎ ((other : Pass) × OneKnows outcomes other × IsJoined (known old) (known other) (known new))
+    ((outcomes ≡ []) × (new ≡ old))
+    ⊎ ((other : Pass) × OneKnows outcomes other × IsJoined (known old) (known other) (known new))
 
 -- what the pass has learned by a fault: a stranger that the worker has found; nothing, if memory was refused
 abbrev pub HasLearnedFault : Memo → Pass → Pass → WorkFault → Type 0
 HasLearnedFault memo old new work.OutOfMemory = new ≡ old
 HasLearnedFault memo old new work.Stranger = MetStranger (memo_plan memo) new
 
--- no worker has a fault, and the pass has learned what one of them knows; or this is the fault of the lowest worker that
--- has one, and the pass has learned of it
+-- no worker has a fault, and the pass has learned what one of them knows; or this is the fault of the lowest worker
+-- that has one, and the pass has learned of it
 abbrev pub HasLearnedAnswer : Memo → List (WorkerOutcome Pass) → Pass → Pass → Result (Unit {0}) WorkFault → Type 0
-HasLearnedAnswer memo outcomes old new (Ok done) = All (λ outcome. IsOk outcome.answer) outcomes × HasLearnedOne outcomes old new
+HasLearnedAnswer memo outcomes old new (Ok done) = All (λ outcome. IsOk outcome.answer) outcomes
+    × HasLearnedOne outcomes old new
 HasLearnedAnswer memo outcomes old new (Err fault) =
-    ((met : JobFault Pass) × (work_fault_of met ≡ fault) × IsLowestFault outcomes met) × HasLearnedFault memo old new fault
+    ((met : JobFault Pass) × (work_fault_of met ≡ fault) × IsLowestFault outcomes met)
+    × HasLearnedFault memo old new fault

@@ -50,7 +50,8 @@ pub fn fill_by_workers<R: Threads + Wait + Sync, J: Jobs + Sync, G: Gate + Sync>
     gate: &G,
 ) -> Result<Vec<WorkerOutcome<J::Known>>, StartFault>
     requires { IsWorkerCount workers }
-    ensures outcomes { IfOk result (λ outcomes. AreOutcomes (J.HasFilled jobs.now) (J.HasMetStranger jobs.now) workers outcomes.items) }
+    ensures outcomes { IfOk result
+        (λ outcomes. AreOutcomes (J.HasFilled jobs.now) (J.HasMetStranger jobs.now) workers outcomes.items) }
     ensures alone { IsErrOf result StartFault.NoThread → 1 < workers }
 {
     let room = Room::new(alloc, jobs.count(), workers)?;
@@ -131,7 +132,8 @@ fn run_all<R: Threads + Wait + Sync, J: Jobs + Sync, G: Gate + Sync>(
     gate: &G,
 ) -> Option<Vec<WorkerOutcome<J::Known>>>
     requires { IsRoomFor (J.jobs jobs.now) (vec_len room.tickets) room }
-    ensures { IfSome result (λ outcomes. AreOutcomes (J.HasFilled jobs.now) (J.HasMetStranger jobs.now) (vec_len room.tickets) outcomes.items) }
+    ensures { IfSome result (λ outcomes. AreOutcomes (J.HasFilled jobs.now) (J.HasMetStranger jobs.now)
+        (vec_len room.tickets) outcomes.items) }
 {
     let Room {
         desk,
@@ -148,7 +150,8 @@ fn run_all<R: Threads + Wait + Sync, J: Jobs + Sync, G: Gate + Sync>(
             requires jobs { numbers_of desk.now ≡ J.jobs jobs.now }
             requires handles { HasRoom (vec_len tickets) handles }
             requires outcomes { HasRoom (vec_len tickets) outcomes }
-            ensures { IfSome result (λ outcomes. AreOutcomes (J.HasFilled jobs.entry.now) (J.HasMetStranger jobs.entry.now) (vec_len tickets) outcomes.items) }
+            ensures { IfSome result (λ outcomes. AreOutcomes (J.HasFilled jobs.entry.now)
+                (J.HasMetStranger jobs.entry.now) (vec_len tickets) outcomes.items) }
         {
             let draws = Draws { desk, tickets };
             let (handles, all_started) = start_all(scope, alloc, jobs, draws, handles, gate);

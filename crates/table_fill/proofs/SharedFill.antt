@@ -1,5 +1,5 @@
--- A memo and the code of its plan can be used by several threads. The lists are what is used of those that a check tries
--- at such a goal; here no value is in scope, through whose fields its search would go.
+-- A memo and the code of its plan can be used by several threads. The lists are what is used of those that a check
+-- tries at such a goal; here no value is in scope, through whose fields its search would go.
 use Rattle.node_program.proofs.tree.BinOp.TheSendSync as bin_op
 use Rattle.node_program.proofs.tree.UnOp.TheSendSync as un_op
 use Rattle.node_program.proofs.tree.Expr.TheLaws.TheKnot

@@ -17,5 +17,6 @@ pub record GoesOn (old new : CellMaker) : Type 0 where
 
 -- if the fault names a block, it is a block of the plan of a lower level, which is not known
 abbrev pub NamesUnknownBelow : ProgramForIds → Entries → ℕ → MakeFault → Type 0
-NamesUnknownBelow plan entries level (Missing low number) = (low < level) × IsKey plan low number × (entries low number ≡ None)
+NamesUnknownBelow plan entries level (Missing low number) = (low < level) × IsKey plan low number
+    × (entries low number ≡ None)
 NamesUnknownBelow plan entries level OutOfMemory = Unit {0}

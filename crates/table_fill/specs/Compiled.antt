@@ -18,10 +18,11 @@ pub record IsCompiled (plan : ProgramForIds) (pass : Pass) (table : ChannelTable
   pub table_is : table ≡ table_of plan.program plan.ids
   -- on every ring, its channel at the window of a place is the channel of that place after all rounds
   pub channels : (ring : List ℕ) (place : ℕ) → IsRing plan.ids (length plan.program.steps) ring → place < length ring
-      → channel_of table (window_around ring (length plan.program.steps) place) ≡ Some (channel_at plan.program ring place)
+      → channel_of table (window_around ring (length plan.program.steps) place)
+      ≡ Some (channel_at plan.program ring place)
 
--- what a fault says of the caller's pass before and after: a cell of the plan in which it, or a worker that it has learned
--- from, has found no block or a stranger; with each other fault it is unchanged
+-- what a fault says of the caller's pass before and after: a cell of the plan in which it, or a worker that it has
+-- learned from, has found no block or a stranger; with each other fault it is unchanged
 abbrev pub IsCompileFault : ProgramForIds → Pass → Pass → FillFault → Type 0
 IsCompileFault plan old new Stranger = HasGap plan new
 IsCompileFault plan old new WorkersOutOfRange = new ≡ old

@@ -11,5 +11,6 @@ pub record ReaderOf : Type 0 where
 -- an injective code of readers, which their model asks for
 abbrev pub reader_code : Coded ReaderOf
 reader_code =
-    code_by (ProgramForIds × ℕ) (coded× plan_code coded_ℕ) (λ r. (r.plan, r.shares)) (λ t. record { plan = t.0; shares = t.1 })
+    code_by (ProgramForIds × ℕ) (coded× plan_code coded_ℕ) (λ r. (r.plan, r.shares))
+    (λ t. record { plan = t.0; shares = t.1 })
     (λ _. refl)

@@ -50,7 +50,8 @@ impl<'s, 'a> CellMaker<'s, 'a> {
         ensures goes_on { GoesOn self.old self.new }
         ensures found { IfOk result (λ found. (found ≡ is_some (known self.new.reader.pass level number))
             × (is_some (seen self.old.reader.pass level number) ≡ true → found ≡ true)) }
-        ensures stranger { IfErr result (λ fault. (fault ≡ StrangerMet) × FoundStranger self.old.reader.pass.plan.now self.new.reader.pass level number) }
+        ensures stranger { IfErr result (λ fault. (fault ≡ StrangerMet)
+            × FoundStranger self.old.reader.pass.plan.now self.new.reader.pass level number) }
     {
         let OwnReader { memo, pass } = &mut self.reader;
         match memo.look(pass, level, number) {
@@ -65,7 +66,8 @@ impl<'s, 'a> CellMaker<'s, 'a> {
         requires seen { is_some (seen self.old.reader.pass level number) ≡ true }
         ensures goes_on { GoesOn self.old self.new }
         ensures known { OnOk result (is_some (known self.new.reader.pass level number) ≡ true) }
-        ensures stranger { IfErr result (λ fault. (fault ≡ StrangerMet) × FoundStranger self.old.reader.pass.plan.now self.new.reader.pass level number) }
+        ensures stranger { IfErr result (λ fault. (fault ≡ StrangerMet)
+            × FoundStranger self.old.reader.pass.plan.now self.new.reader.pass level number) }
     {
         let _known = self.finds(level, number)?;
         Ok(())
@@ -85,7 +87,8 @@ impl<'s, 'a> CellMaker<'s, 'a> {
         ensures fresh { IfOk result (λ installed. installed ≡ Fresh
             → IsSomeAnd (known self.new.reader.pass level number) (λ block. block.maker ≡ worker_of ticket.now)) }
         ensures seen { OnOk result (is_some (seen self.new.reader.pass level number) ≡ true) }
-        ensures missing { IfErr result (NamesUnknownBelow self.old.reader.pass.plan.now (known self.new.reader.pass) level) }
+        ensures missing { IfErr result
+            (NamesUnknownBelow self.old.reader.pass.plan.now (known self.new.reader.pass) level) }
     {
         window_of_number();
         let CellMaker { reader, blocks } = self;
@@ -111,7 +114,8 @@ impl<'s, 'a> CellMaker<'s, 'a> {
         requires { IsKey self.old.reader.pass.plan.now level number }
         ensures goes_on { GoesOn self.old self.new }
         ensures known { OnOk result (is_some (known self.new.reader.pass level number) ≡ true) }
-        ensures stranger { IfErr result (λ fault. fault ≡ StrangerMet → MetStranger self.old.reader.pass.plan.now self.new.reader.pass) }
+        ensures stranger { IfErr result (λ fault. fault ≡ StrangerMet
+            → MetStranger self.old.reader.pass.plan.now self.new.reader.pass) }
     {
         jobs_have_numbers();
         if self.finds(level, number)? {
@@ -132,7 +136,8 @@ impl<'s, 'a> CellMaker<'s, 'a> {
 
 // Returns the level and number of the block that is missing, or the error that memory was refused.
 fn missing_block(fault: MakeFault) -> Result<(u32, u32), OutOfMemory>
-    ensures { MatchResult result (λ block. fault ≡ MakeFault.Missing block.0 block.1) (λ _. fault ≡ MakeFault.OutOfMemory) }
+    ensures { MatchResult result (λ block. fault ≡ MakeFault.Missing block.0 block.1)
+        (λ _. fault ≡ MakeFault.OutOfMemory) }
 {
     match fault {
         MakeFault::Missing(level, number) => Ok((level, number)),

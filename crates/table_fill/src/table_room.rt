@@ -51,7 +51,8 @@ impl<'s, 'a> TableRoom<'s, 'a> {
         requires pass { IsPassOf memo.now pass.old }
         requires room { IsRoomFor (memo_plan memo.now) self }
         ensures learned { HasLearned memo.now pass.old pass.new }
-        ensures table { MatchOption result (HasGap (memo_plan memo.now) pass.new) (λ table. KnowsAll (memo_plan memo.now) (known pass.new)
+        ensures table { MatchOption result (HasGap (memo_plan memo.now) pass.new)
+            (λ table. KnowsAll (memo_plan memo.now) (known pass.new)
             × (table ≡ table_of (memo_plan memo.now).program (memo_plan memo.now).ids)) }
     {
         let TableRoom { reader, blocks } = self;

@@ -1,12 +1,16 @@
 -- Facts about lists of clauses.
-use Rattle.std.proofs.Common.{◌≡◌, ℕ, zero, suc, ◌+◌, ◌*◌, ◌<◌, Bool, true, false, ◌||◌, List, [], ◌∷◌, ◌++◌, map, All, length, refl, sym, ap, ◌∙◌, arith, add-one, zero-add, ltb, cond, length-append, Option, None, Some, IsSome, unwrap_or}
+use Rattle.std.proofs.Common.{◌≡◌, ℕ, zero, suc, ◌+◌, ◌*◌, ◌<◌, Bool, true, false, ◌||◌, List, [], ◌∷◌, ◌++◌, map, All}
+use Rattle.std.proofs.Common.{length, refl, sym, ap, ◌∙◌, arith, add-one, zero-add, ltb, cond, length-append, Option}
+use Rattle.std.proofs.Common.{None, Some, IsSome, unwrap_or}
 use Rattle.std.specs.List.{list_any, range_with_len, flat_map, filter}
 use Rattle.std.specs.Int.{abs_diff}
 use Rattle.table_formula.specs.declared.literal.Literal.{Literal}
 use Rattle.table_formula.specs.Problems.{Problem}
-use Rattle.table_formula.specs.Formula.{windows_of, tuples_of, is_close, close_to, conflicts_of, some_channel, not_both, not_too_close, pattern_clauses, apart_formula, formula}
+use Rattle.table_formula.specs.Formula.{windows_of, tuples_of, is_close, close_to, conflicts_of, some_channel, not_both}
+use Rattle.table_formula.specs.Formula.{not_too_close, pattern_clauses, apart_formula, formula}
 use Rattle.std.proofs.lemmas.List.{flat_map_more, length-map}
-use Rattle.std.proofs.lemmas.List.FromFn.{length-map-range_with_len, filter_of_map_range_with_len_more, length-range_with_len, get_or-range_with_len}
+use Rattle.std.proofs.lemmas.List.FromFn.{length-map-range_with_len, filter_of_map_range_with_len_more}
+use Rattle.std.proofs.lemmas.List.FromFn.{length-range_with_len, get_or-range_with_len}
 use Rattle.std.proofs.lemmas.List.Elements.{All-nil, All-cons, All-head, All-tail, All-append}
 
 -- a fact of each element of each list is one of each element of their concatenation

@@ -1,5 +1,6 @@
 -- The channels that are closer to a channel than a distance are consecutive.
-use Rattle.std.proofs.Common.{◌≡◌, ℕ, zero, suc, ◌+◌, ◌-◌, ◌<◌, ◌≤◌, ◌⊎◌, true, false, [], ◌∷◌, ◌++◌, length, min, refl, sym, ap, ◌∙◌, arith, add-one, ltb, cond, length-append, append-nil, ⊎_elim, inl, inr}
+use Rattle.std.proofs.Common.{◌≡◌, ℕ, zero, suc, ◌+◌, ◌-◌, ◌<◌, ◌≤◌, ◌⊎◌, true, false, [], ◌∷◌, ◌++◌, length, min, refl}
+use Rattle.std.proofs.Common.{sym, ap, ◌∙◌, arith, add-one, ltb, cond, length-append, append-nil, ⊎_elim, inl, inr}
 use Rattle.std.specs.Int.{abs_diff}
 use Rattle.std.proofs.lemmas.Bool.{lt-ltb, ltb-true, ltb-false}
 use Rattle.table_formula.proofs.Truth.{truth}

@@ -1,5 +1,7 @@
 -- Tables with two identifiers or two channels exchanged.
-use Rattle.std.proofs.Common.{◌≡◌, ◌==◌, ℕ, ◌+◌, ◌*◌, ◌/◌, ◌%◌, ◌<◌, ◌≤◌, Bool, true, false, ◌&&◌, cond, List, [], ◌∷◌, map, length, take, drop, get_or, slice_get, Option, Some, IsSome, option_map, unwrap_or, refl, sym, ap, ◌∙◌, subst, ⊎_elim, inl, inr, arith, zero-add}
+use Rattle.std.proofs.Common.{◌≡◌, ◌==◌, ℕ, ◌+◌, ◌*◌, ◌/◌, ◌%◌, ◌<◌, ◌≤◌, Bool, true, false, ◌&&◌, cond, List, [], ◌∷◌}
+use Rattle.std.proofs.Common.{map, length, take, drop, get_or, slice_get, Option, Some, IsSome, option_map, unwrap_or}
+use Rattle.std.proofs.Common.{refl, sym, ap, ◌∙◌, subst, ⊎_elim, inl, inr, arith, zero-add}
 use Rattle.std.specs.List.{range_with_len}
 use Rattle.std.proofs.lemmas.Bool.{eq-eqb}
 use Rattle.std.proofs.lemmas.Bool.Decides.{eqb_tells, nat_tests}
@@ -51,7 +53,8 @@ module _ (a b : ℕ) where
   at_other x e f = not_first x e ∙ ap (λ q. cond q a x) f
 
   -- a number is one of the two, or stays
-  module _ (P : ℕ → Type 0) (x : ℕ) (first : x ≡ a → P b) (second : x ≡ b → P a) (other : exchanged a b x ≡ x → P x) where
+  module _ (P : ℕ → Type 0) (x : ℕ) (first : x ≡ a → P b) (second : x ≡ b
+      → P a) (other : exchanged a b x ≡ x → P x) where
     each : P (exchanged a b x)
     each =
         ⊎_elim
@@ -78,7 +81,8 @@ module _ (a b : ℕ) where
   pub same_after : (x y : ℕ) → (exchanged a b x == exchanged a b y) ≡ (x == y)
   same_after x y =
       ⊎_elim
-      (λ (h : ((x == y) ≡ true) × (x ≡ y)). eq-eqb (exchanged a b x) (exchanged a b y) (ap (exchanged a b) h.1) ∙ sym h.0)
+      (λ (h : ((x == y) ≡ true) × (x ≡ y)). eq-eqb (exchanged a b x) (exchanged a b y) (ap (exchanged a b) h.1)
+      ∙ sym h.0)
       (λ (h : ((x == y) ≡ false) × (x ≡ y → ⊥)).
       ⊎_elim
       (λ (k : ((exchanged a b x == exchanged a b y) ≡ true) × (exchanged a b x ≡ exchanged a b y)). absurd (h.1 (injective x y k.1)))
@@ -105,14 +109,16 @@ module _ (a b : ℕ) where
   }
 
   -- a part of a longer list
-  pub part_stays : (r step : ℕ) (xs : List ℕ) → map (exchanged a b) (part_at r step xs) ≡ part_at r step (map (exchanged a b) xs)
+  pub part_stays : (r step : ℕ) (xs : List ℕ)
+      → map (exchanged a b) (part_at r step xs) ≡ part_at r step (map (exchanged a b) xs)
   part_stays r step xs =
       sym (take-map (exchanged a b) (2 * r + 1) (drop step xs))
       ∙ ap (take (2 * r + 1)) (sym (drop-map (exchanged a b) step xs))
 
 -- channels below a number that a function brings closer than a distance are so close before
 abbrev pub IsNoCloser : (ℕ → ℕ) → ℕ → ℕ → Type 0
-IsNoCloser f channels distance = (c d : ℕ) → c < channels → d < channels → abs_diff (f c) (f d) < distance → abs_diff c d < distance
+IsNoCloser f channels distance =
+    (c d : ℕ) → c < channels → d < channels → abs_diff (f c) (f d) < distance → abs_diff c d < distance
 
 -- an exchange keeps which channels differ
 pub exchange_no_closer : (a b channels distance : ℕ) → distance ≤ 1 → IsNoCloser (exchanged a b) channels distance
@@ -125,14 +131,16 @@ exchange_no_closer a b channels distance one c d c_below d_below close =
 pub mirror_no_closer : (channels distance : ℕ) → IsNoCloser (mirrored channels) channels distance
 mirror_no_closer channels distance c d c_below d_below close = omega arith
 
-pub mirror_same : (channels c d : ℕ) → c < channels → d < channels → (mirrored channels c == mirrored channels d) ≡ (c == d)
+pub mirror_same : (channels c d : ℕ) → c < channels → d < channels
+    → (mirrored channels c == mirrored channels d) ≡ (c == d)
 mirror_same channels c d c_below d_below = grind (arith, nat_tests)
 
 module _ (suffice : TuplesSuffice) (is_ring : TuplesAreRings) (has_window : RingsHaveWindows)
     (has_number : WindowsHaveNumbers)
     (number_at : NumberOfWindow) (item_of : WindowOfNumber) where
   -- the number of a window
-  numbered : (k m : ℕ) (list : List ℕ) → IsWindow k m list → number_of k m list ≡ Some (unwrap_or (number_of k m list) 0)
+  numbered : (k m : ℕ) (list : List ℕ) → IsWindow k m list
+      → number_of k m list ≡ Some (unwrap_or (number_of k m list) 0)
   numbered k m list window = some_value (number_of k m list) ((has_number k m list).1 window)
 
   item : (k m : ℕ) (list : List ℕ) → IsWindow k m list →
@@ -146,14 +154,16 @@ module _ (suffice : TuplesSuffice) (is_ring : TuplesAreRings) (has_window : Ring
 
   -- a window of a tuple
   part_window : (t : ChannelTable) (s : Separation) (step : ℕ) (tuple : List ℕ) → step ≤ extra s
-      → IsWindow (2 * t.rounds + 1 + extra s) t.ids tuple → IsWindow (2 * t.rounds + 1) t.ids (part_at t.rounds step tuple)
+      → IsWindow (2 * t.rounds + 1 + extra s) t.ids tuple
+      → IsWindow (2 * t.rounds + 1) t.ids (part_at t.rounds step tuple)
   part_window t s step tuple le window =
       let ring = is_ring t.ids t.rounds (extra s) tuple (omega arith) window in
       subst (IsWindow (2 * t.rounds + 1) t.ids) (ring.2 step le)
       (has_window t.ids t.rounds t.rounds (t.rounds + step) tuple ring.0 (omega arith))
 
   -- the table with two identifiers exchanged
-  module _ (t : ChannelTable) (channels : ℕ) (s : Separation) (a b : ℕ) (a_below : a < t.ids) (b_below : b < t.ids) where
+  module _ (t : ChannelTable) (channels : ℕ) (s : Separation) (a b : ℕ) (a_below : a < t.ids)
+      (b_below : b < t.ids) where
     abbrev pub p : Problem
     p = problem_of t channels s
 
@@ -233,7 +243,8 @@ module _ (suffice : TuplesSuffice) (is_ring : TuplesAreRings) (has_window : Ring
     part_is : (step : ℕ) (tuple : List ℕ) → step ≤ extra s → IsWindow (2 * t.rounds + 1 + extra s) t.ids tuple
         → channel_of u (part_at t.rounds step tuple) ≡ channel_of t (part_at t.rounds step (map (exchanged a b) tuple))
     part_is step tuple le window =
-        channel_is (part_at t.rounds step tuple) (part_window t s step tuple le window) ∙ ap (channel_of t) (part_stays a b t.rounds step tuple)
+        channel_is (part_at t.rounds step tuple) (part_window t s step tuple le window)
+        ∙ ap (channel_of t) (part_stays a b t.rounds step tuple)
 
     close_is : (step distance : ℕ) (tuple : List ℕ) → step ≤ extra s → IsWindow (2 * t.rounds + 1 + extra s) t.ids tuple
         → AreClose distance (channel_of u (part_at t.rounds 0 tuple)) (channel_of u (part_at t.rounds step tuple))
@@ -276,10 +287,12 @@ module _ (suffice : TuplesSuffice) (is_ring : TuplesAreRings) (has_window : Ring
         ap (λ q. is_same_value q l.is_positive)
         (value_at p u (exchanged_window p a b w) c c_below
         ∙ ap (λ x. x == c)
-        (entry_is (exchanged_window p a b w) (turned_below w w_below) ∙ ap (λ n. get_or t.entries n 0) (turned_twice w w_below)))
+        (entry_is (exchanged_window p a b w) (turned_below w w_below)
+        ∙ ap (λ n. get_or t.entries n 0) (turned_twice w w_below)))
 
   -- the table with its channels exchanged by a function that keeps the channels below a number and the separation
-  module _ (t : ChannelTable) (channels : ℕ) (s : Separation) (f : ℕ → ℕ) (stays : (c : ℕ) → c < channels → f c < channels)
+  module _ (t : ChannelTable) (channels : ℕ) (s : Separation) (f : ℕ → ℕ) (stays : (c : ℕ) → c < channels
+      → f c < channels)
       (same : (c d : ℕ) → c < channels → d < channels → (f c == f d) ≡ (c == d)) (near : IsNoCloser f channels s.near)
       (far : IsNoCloser f channels s.far) where
     abbrev q : Problem
@@ -317,17 +330,22 @@ module _ (suffice : TuplesSuffice) (is_ring : TuplesAreRings) (has_window : Ring
       number list = unwrap_or (number_of (2 * t.rounds + 1) t.ids list) 0
 
       number_below : (list : List ℕ) → IsWindow (2 * t.rounds + 1) t.ids list → number list < length (windows_of q)
-      number_below list window = slice_get_within (windows_of q) (number list) list (item (2 * t.rounds + 1) t.ids list window)
+      number_below list window =
+          slice_get_within (windows_of q) (number list) list (item (2 * t.rounds + 1) t.ids list window)
 
-      t_channel : (list : List ℕ) → IsWindow (2 * t.rounds + 1) t.ids list → channel_of t list ≡ Some (get_or t.entries (number list) 0)
-      t_channel list window = ap (option_map (λ i. get_or t.entries i 0)) (numbered (2 * t.rounds + 1) t.ids list window)
+      t_channel : (list : List ℕ) → IsWindow (2 * t.rounds + 1) t.ids list
+          → channel_of t list ≡ Some (get_or t.entries (number list) 0)
+      t_channel list window = ap (option_map (λ i. get_or t.entries i 0))
+          (numbered (2 * t.rounds + 1) t.ids list window)
 
-      v_channel : (list : List ℕ) → IsWindow (2 * t.rounds + 1) t.ids list → channel_of v list ≡ Some (f (get_or t.entries (number list) 0))
+      v_channel : (list : List ℕ) → IsWindow (2 * t.rounds + 1) t.ids list
+          → channel_of v list ≡ Some (f (get_or t.entries (number list) 0))
       v_channel list window =
           ap (option_map (λ i. get_or v.entries i 0)) (numbered (2 * t.rounds + 1) t.ids list window)
           ∙ ap Some (v_entry (number list) (number_below list window))
 
-      v_close : (distance : ℕ) (one two : List ℕ) → IsNoCloser f channels distance → IsWindow (2 * t.rounds + 1) t.ids one
+      v_close : (distance : ℕ) (one two : List ℕ) → IsNoCloser f channels distance
+          → IsWindow (2 * t.rounds + 1) t.ids one
           → IsWindow (2 * t.rounds + 1) t.ids two → AreClose distance (channel_of v one) (channel_of v two)
           → AreClose distance (channel_of t one) (channel_of t two)
       v_close distance one two kept window_one window_two close =
@@ -337,7 +355,8 @@ module _ (suffice : TuplesSuffice) (is_ring : TuplesAreRings) (has_window : Ring
           subst (λ (o : Option ℕ). AreClose distance (Some (f c)) o) (v_channel two window_two)
           (subst (λ (o : Option ℕ). AreClose distance o (channel_of v two)) (v_channel one window_one) close) in
           let here : AreClose distance (Some c) (Some d) =
-          kept c d (own_below (number one) (number_below one window_one)) (own_below (number two) (number_below two window_two)) there in
+          kept c d (own_below (number one) (number_below one window_one))
+          (own_below (number two) (number_below two window_two)) there in
           subst (λ (o : Option ℕ). AreClose distance (channel_of t one) o) (sym (t_channel two window_two))
           (subst (λ (o : Option ℕ). AreClose distance o (Some d)) (sym (t_channel one window_one)) here)
 

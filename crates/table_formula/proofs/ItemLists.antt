@@ -1,5 +1,6 @@
 -- Lists of items that are read word by word.
-use Rattle.std.proofs.Common.{◌≡◌, ℕ, Bool, true, false, cond, List, [], ◌∷◌, ◌++◌, Option, None, Some, option_map, refl, sym, ap, ◌∙◌, append_assoc, append-nil}
+use Rattle.std.proofs.Common.{◌≡◌, ℕ, Bool, true, false, cond, List, [], ◌∷◌, ◌++◌, Option, None, Some, option_map}
+use Rattle.std.proofs.Common.{refl, sym, ap, ◌∙◌, append_assoc, append-nil}
 use Rattle.table_formula.specs.Words.{is_end}
 use Rattle.table_formula.specs.Lines.{with_item, list_in}
 
@@ -8,15 +9,18 @@ module _ {X : Type 0} where
   abbrev pub with_items : List X → Option (List X × List (List ℕ)) → Option (List X × List (List ℕ))
   with_items items others = option_map (λ r. (items ++ r.0, r.1)) others
 
-  item_then : (items : List X) (item : X) (others : Option (List X × List (List ℕ))) → with_items items (with_item (Some item) others) ≡ with_items (items ++ item ∷ []) others
+  item_then : (items : List X) (item : X) (others : Option (List X × List (List ℕ)))
+      → with_items items (with_item (Some item) others) ≡ with_items (items ++ item ∷ []) others
   item_then items item None = refl
   item_then items item (Some others) = ap (λ all. Some (all, others.1)) (sym (append_assoc items (item ∷ []) others.0))
 
   module _ (item_in : List ℕ → Option X) (items : List X) (word : List ℕ) (words : List (List ℕ)) where
     -- what a word does
     word_is : (b : Bool) (o : Option X) → is_end word ≡ b → item_in word ≡ o
-        → with_items items (list_in item_in (word ∷ words)) ≡ with_items items (cond b (Some ([], words)) (with_item o (list_in item_in words)))
-    word_is b o end item = λ i. with_items items (cond (end i) (Some ([], words)) (with_item (item i) (list_in item_in words)))
+        → with_items items (list_in item_in (word ∷ words))
+        ≡ with_items items (cond b (Some ([], words)) (with_item o (list_in item_in words)))
+    word_is b o end item = λ i. with_items items
+        (cond (end i) (Some ([], words)) (with_item (item i) (list_in item_in words)))
 
     pub at_end : is_end word ≡ true → with_items items (list_in item_in (word ∷ words)) ≡ Some (items, words)
     at_end end = word_is true (item_in word) end refl ∙ ap (λ all. Some (all, words)) (append-nil items)
@@ -25,5 +29,6 @@ module _ {X : Type 0} where
         → with_items items (list_in item_in (word ∷ words)) ≡ with_items (items ++ item ∷ []) (list_in item_in words)
     at_item item end is = word_is false (Some item) end is ∙ item_then items item (list_in item_in words)
 
-    pub at_no_item : is_end word ≡ false → item_in word ≡ None → with_items items (list_in item_in (word ∷ words)) ≡ None
+    pub at_no_item : is_end word ≡ false → item_in word ≡ None
+        → with_items items (list_in item_in (word ∷ words)) ≡ None
     at_no_item end is = word_is false None end is

@@ -5,7 +5,8 @@ regroup : (head advice last : List ℕ) → ((head ++ advice) ++ 10 ∷ []) ++ l
 regroup head advice last = simp append_assoc
 
 -- a start, advice, a line feed, and what is made of a text that is another one
-pub line_pieces : {head n m l k rest told : List ℕ} (advice : List ℕ) (f : List ℕ → List ℕ) → n ≡ head → m ≡ n ++ advice →
+pub line_pieces : {head n m l k rest told : List ℕ} (advice : List ℕ) (f : List ℕ → List ℕ) → n ≡ head
+    → m ≡ n ++ advice →
     l ≡ m ++ 10 ∷ [] → k ≡ l ++ f rest → rest ≡ told → k ≡ head ++ (advice ++ 10 ∷ f told)
 line_pieces {head = head} {rest = rest} {told = told} advice f p q r s t =
     s ∙ ap (λ x. x ++ f rest) (r ∙ ap (λ x. x ++ 10 ∷ []) (q ∙ ap (λ x. x ++ advice) p))

@@ -1,5 +1,7 @@
 -- The clauses of a formula by their numbers.
-use Rattle.std.proofs.Common.{◌≡◌, ℕ, zero, suc, ◌+◌, ◌*◌, ◌/◌, ◌%◌, ◌<◌, ◌≤◌, List, [], ◌∷◌, ◌++◌, map, All, length, get_or, slice_get, slice_set, take, Some, refl, sym, ap, ◌∙◌, arith, add-one, zero-add, length-append}
+use Rattle.std.proofs.Common.{◌≡◌, ℕ, zero, suc, ◌+◌, ◌*◌, ◌/◌, ◌%◌, ◌<◌, ◌≤◌, List, [], ◌∷◌, ◌++◌, map, All, length}
+use Rattle.std.proofs.Common.{get_or, slice_get, slice_set, take, Some, refl, sym, ap, ◌∙◌, arith, add-one}
+use Rattle.std.proofs.Common.{zero-add, length-append}
 use Rattle.std.specs.List.{range_with_len, flat_map}
 use Rattle.std.proofs.lemmas.List.{length-map, get_or_append_left, get_or-append-add}
 use Rattle.std.proofs.lemmas.List.FromFn.{get_or-map-range_with_len, map-range_with_len_more}
@@ -10,7 +12,9 @@ use Rattle.std.proofs.Math.Seq.{take-suc-set}
 use Rattle.table_formula.specs.declared.literal.Literal.{Literal}
 use Rattle.table_formula.specs.declared.formula.conflict.Conflict.{Conflict}
 use Rattle.table_formula.specs.Problems.{Problem}
-use Rattle.table_formula.specs.Formula.{windows_of, tuples_of, variable_of, has_channel, lacks_channel, some_channel, close_pairs, conflicts_of, window_in, not_both, not_too_close, IsPair, apart_formula}
+use Rattle.table_formula.specs.Formula.{windows_of, tuples_of, variable_of, has_channel, lacks_channel, some_channel}
+use Rattle.table_formula.specs.Formula.{close_pairs, conflicts_of, window_in, not_both, not_too_close}
+use Rattle.table_formula.specs.Formula.{IsPair, apart_formula}
 use Rattle.table_formula.proofs.ClauseLists.{all_below, apart_length, of_windows, of_tuples, as_many_as_windows}
 use Rattle.table_formula.proofs.Satisfied.{IsClose, all_close}
 

@@ -1,5 +1,7 @@
 -- The clauses of the patterns: the windows of their tuples, their numbers, and their variables.
-use Rattle.std.proofs.Common.{◌≡◌, ℕ, ◌+◌, ◌*◌, ◌/◌, ◌%◌, ◌<◌, ◌≤◌, Bool, true, false, ◌&&◌, List, [], ◌++◌, Option, None, Some, map, flat_map, All, length, get_or, slice_get, unwrap_or, refl, sym, ap, ◌∙◌, subst, arith}
+use Rattle.std.proofs.Common.{◌≡◌, ℕ, ◌+◌, ◌*◌, ◌/◌, ◌%◌, ◌<◌, ◌≤◌, Bool, true, false, ◌&&◌, List, [], ◌++◌, Option}
+use Rattle.std.proofs.Common.{None, Some, map, flat_map, All, length, get_or, slice_get, unwrap_or, refl, sym, ap, ◌∙◌}
+use Rattle.std.proofs.Common.{subst, arith}
 use Rattle.std.proofs.lemmas.Bool.{ltb-true}
 use Rattle.std.proofs.lemmas.List.{length-map, get_or-map}
 use Rattle.std.proofs.lemmas.List.Elements.{All-nil, All-cons, All-append, All-map}
@@ -13,10 +15,12 @@ use Rattle.ring_problems.specs.declared.pattern.Entry.TheVariants.{Wildcard, Cha
 use Rattle.ring_problems.specs.declared.pattern.Pattern.{Pattern}
 use Rattle.ring_problems.specs.Patterns.{extra, is_below, is_channel, is_entry_below}
 use Rattle.ring_problems.specs.TupleLists.{IsTuple}
-use Rattle.ring_problems.proofs.Problems.{tuple_window, extra_of_third, all_of_in, filter_in, get_of_in, in_of_get, tuple_parts}
+use Rattle.ring_problems.proofs.Problems.{tuple_window, extra_of_third, all_of_in, filter_in, get_of_in}
+use Rattle.ring_problems.proofs.Problems.{in_of_get, tuple_parts}
 use Rattle.table_formula.specs.declared.literal.Literal.{Literal}
 use Rattle.table_formula.specs.Problems.{Problem}
-use Rattle.table_formula.specs.Formula.{windows_of, window_in, lacks, lacks_channel, no_match, patterns_of, ring_tuples, pattern_clauses, apart_formula, formula}
+use Rattle.table_formula.specs.Formula.{windows_of, window_in, lacks, lacks_channel, no_match, patterns_of, ring_tuples}
+use Rattle.table_formula.specs.Formula.{pattern_clauses, apart_formula, formula}
 use Rattle.table_formula.proofs.ClauseLists.{all_flat, length_flat, formula_length}
 use Rattle.table_formula.proofs.Numbered.{variable_below, flat_at, none_left}
 
@@ -25,18 +29,22 @@ pub record HasPart (p : Problem) (tuple : List ℕ) (step : ℕ) : Type 0 where
   pub item : slice_get (windows_of p) (window_in p tuple step) ≡ Some (part_at p.rounds step tuple)
   pub below : window_in p tuple step < length (windows_of p)
 
-pub part_of : (p : Problem) (tuple : List ℕ) (step : ℕ) → step ≤ extra p.forbidden → IsTuple p.ids p.rounds p.forbidden tuple
+pub part_of : (p : Problem) (tuple : List ℕ) (step : ℕ) → step ≤ extra p.forbidden
+    → IsTuple p.ids p.rounds p.forbidden tuple
     → HasPart p tuple step
 part_of p tuple step le tuple_is =
     let part : List ℕ = part_at p.rounds step tuple in
     let is = tuple_window p.ids p.rounds step p.forbidden tuple tuple_is le in
     let place = window_place (2 * p.rounds + 1) p.ids part is in
-    let number : window_in p tuple step ≡ place.0 = ap (λ o. unwrap_or o 0) (number_of_is (2 * p.rounds + 1) p.ids place.0 part place.1) in
-    let item : slice_get (windows_of p) (window_in p tuple step) ≡ Some part = ap (slice_get (windows_of p)) number ∙ place.1 in
+    let number : window_in p tuple step ≡ place.0 =
+    ap (λ o. unwrap_or o 0) (number_of_is (2 * p.rounds + 1) p.ids place.0 part place.1) in
+    let item : slice_get (windows_of p) (window_in p tuple step) ≡ Some part =
+    ap (slice_get (windows_of p)) number ∙ place.1 in
     record { item = item; below = slice_get_within (windows_of p) (window_in p tuple step) part item }
 
 -- a tuple by its number
-pub ring_tuple : (p : Problem) (k : ℕ) (d : List ℕ) → k < length (ring_tuples p) → IsTuple p.ids p.rounds p.forbidden (get_or (ring_tuples p) k d)
+pub ring_tuple : (p : Problem) (k : ℕ) (d : List ℕ) → k < length (ring_tuples p)
+    → IsTuple p.ids p.rounds p.forbidden (get_or (ring_tuples p) k d)
 ring_tuple p k d within =
     (tuple_parts p.ids p.rounds k p.forbidden (get_or (ring_tuples p) k d) (slice_get-get_or (ring_tuples p) k d within)).is
 
@@ -45,31 +53,38 @@ and_true true b h = (refl, h)
 and_true false b h = cc
 
 -- the variables of the clauses
-some_number : (p : Problem) (part : List ℕ) (o : Option ℕ) → number_of (2 * p.rounds + 1) p.ids part ≡ o → 0 < length (windows_of p)
+some_number : (p : Problem) (part : List ℕ) (o : Option ℕ) → number_of (2 * p.rounds + 1) p.ids part ≡ o
+    → 0 < length (windows_of p)
     → unwrap_or o 0 < length (windows_of p)
 some_number p part None is some = some
-some_number p part (Some n) is some = slice_get_within (windows_of p) n part (number_of_some (2 * p.rounds + 1) p.ids n part is)
+some_number p part (Some n) is some =
+    slice_get_within (windows_of p) n part (number_of_some (2 * p.rounds + 1) p.ids n part is)
 
-lacks_within : (p : Problem) (tuple : List ℕ) (step : ℕ) (e : Entry) → 0 < length (windows_of p) → is_entry_below p.channels e ≡ true
+lacks_within : (p : Problem) (tuple : List ℕ) (step : ℕ) (e : Entry) → 0 < length (windows_of p)
+    → is_entry_below p.channels e ≡ true
     → All (λ (l : Literal). l.variable < length (windows_of p) * p.channels) (lacks p tuple step e)
-lacks_within p tuple step Wildcard some below = All-nil (λ (l : Literal). l.variable < length (windows_of p) * p.channels)
+lacks_within p tuple step Wildcard some below =
+    All-nil (λ (l : Literal). l.variable < length (windows_of p) * p.channels)
 lacks_within p tuple step (Channel c) some below =
     let P : Literal → Type 0 = λ (l : Literal). l.variable < length (windows_of p) * p.channels in
     All-cons P (lacks_channel p (window_in p tuple step) c) []
     (variable_below p (window_in p tuple step) c (some_number p (part_at p.rounds step tuple) _ refl some) (ltb-true c p.channels below)) (All-nil P)
 
-pub no_match_within : (p : Problem) (tuple : List ℕ) (pattern : Pattern) → 0 < length (windows_of p) → is_below p.channels pattern ≡ true
+pub no_match_within : (p : Problem) (tuple : List ℕ) (pattern : Pattern) → 0 < length (windows_of p)
+    → is_below p.channels pattern ≡ true
     → All (λ (l : Literal). l.variable < length (windows_of p) * p.channels) (no_match p tuple pattern)
 no_match_within p tuple pattern some below =
     let P : Literal → Type 0 = λ (l : Literal). l.variable < length (windows_of p) * p.channels in
     let first = and_true (is_entry_below p.channels pattern.first) _ below in
-    let second = and_true (is_entry_below p.channels pattern.second) (is_entry_below p.channels pattern.third) first.1 in
+    let second = and_true (is_entry_below p.channels pattern.second)
+    (is_entry_below p.channels pattern.third) first.1 in
     All-append P (lacks p tuple 0 pattern.first) (lacks p tuple 1 pattern.second ++ lacks p tuple 2 pattern.third)
     (lacks_within p tuple 0 pattern.first some first.0)
     (All-append P (lacks p tuple 1 pattern.second) (lacks p tuple 2 pattern.third) (lacks_within p tuple 1 pattern.second some second.0)
     (lacks_within p tuple 2 pattern.third some second.1))
 
-pub patterns_within : (p : Problem) → All (All (λ (l : Literal). l.variable < length (windows_of p) * p.channels)) (pattern_clauses p)
+pub patterns_within : (p : Problem)
+    → All (All (λ (l : Literal). l.variable < length (windows_of p) * p.channels)) (pattern_clauses p)
 patterns_within p =
     let P : List Literal → Type 0 = All (λ (l : Literal). l.variable < length (windows_of p) * p.channels) in
     all_flat P (λ tuple. map (no_match p tuple) (patterns_of p)) (ring_tuples p) (λ k d within.
@@ -85,7 +100,8 @@ clauses p tuple = map (no_match p tuple) (patterns_of p)
 
 -- their number
 pub pattern_length : (p : Problem) → length (pattern_clauses p) ≡ length (ring_tuples p) * length (patterns_of p)
-pattern_length p = length_flat (clauses p) (length (patterns_of p)) (λ tuple. length-map (patterns_of p) (no_match p tuple)) (ring_tuples p)
+pattern_length p = length_flat (clauses p) (length (patterns_of p))
+    (λ tuple. length-map (patterns_of p) (no_match p tuple)) (ring_tuples p)
 
 -- the number of all clauses
 pub total : (p : Problem) (apart tuples count : ℕ) → apart ≡ length (apart_formula p)
@@ -140,7 +156,8 @@ pattern_splits p index count below is =
 
 -- a pattern that the tables can match, by its index
 pub possible_pattern : (p : Problem) (possible : List Pattern) (n : ℕ) (pattern : Pattern) → possible ≡ patterns_of p
-    → slice_get possible n ≡ Some pattern → (is_below p.channels pattern ≡ true) × (is_channel pattern.third ≡ true → 2 ≤ extra p.forbidden)
+    → slice_get possible n ≡ Some pattern
+    → (is_below p.channels pattern ≡ true) × (is_channel pattern.third ≡ true → 2 ≤ extra p.forbidden)
 possible_pattern p possible n pattern same item =
     let member =
     filter_in (is_below p.channels) p.forbidden pattern

@@ -1,5 +1,6 @@
 -- Tables and values that make the clauses of the patterns hold.
-use Rattle.std.proofs.Common.{◌≡◌, ℕ, ◌<◌, Bool, true, false, ◌||◌, ◌&&◌, List, ◌++◌, map, All, get_or, Some, refl, sym, ap, ◌∙◌, subst, arith}
+use Rattle.std.proofs.Common.{◌≡◌, ℕ, ◌<◌, Bool, true, false, ◌||◌, ◌&&◌, List, ◌++◌, map, All, get_or, Some, refl, sym}
+use Rattle.std.proofs.Common.{ap, ◌∙◌, subst, arith}
 use Rattle.std.specs.List.{list_any}
 use Rattle.std.proofs.lemmas.Bool.{eqb-true, ltb-true, lt-ltb, false≢true}
 use Rattle.std.proofs.lemmas.List.Elements.{All-append, All-map}
@@ -16,10 +17,12 @@ use Rattle.ring_problems.specs.declared.pattern.Pattern.{Pattern}
 use Rattle.ring_problems.specs.Patterns.{Fits, is_below, is_channel, is_entry_below}
 use Rattle.ring_problems.specs.TupleLists.{IsTuple}
 use Rattle.ring_problems.specs.Problems.{IsBad, IsSolved, IsSolvedEverywhere}
-use Rattle.ring_problems.proofs.Problems.{extra_range, extra_of_third, IsIn, in_of_get, get_of_in, all_of_in, in_filter, filter_in, suffice}
+use Rattle.ring_problems.proofs.Problems.{extra_range, extra_of_third, IsIn, in_of_get, get_of_in, all_of_in, in_filter}
+use Rattle.ring_problems.proofs.Problems.{filter_in, suffice}
 use Rattle.table_formula.specs.Clauses.{is_same_value, is_true_literal, Holds}
 use Rattle.table_formula.specs.Problems.{Problem, IsSolution}
-use Rattle.table_formula.specs.Formula.{values_of, variable_of, window_in, lacks, no_match, patterns_of, ring_tuples, pattern_clauses, apart_formula}
+use Rattle.table_formula.specs.Formula.{values_of, variable_of, window_in, lacks, no_match, patterns_of, ring_tuples}
+use Rattle.table_formula.specs.Formula.{pattern_clauses, apart_formula}
 use Rattle.table_formula.specs.Laws.{SolutionsSatisfy, ModelsGiveSolutions}
 use Rattle.table_formula.proofs.ClauseLists.{all_flat, formula_parts}
 use Rattle.table_formula.proofs.Models as models
@@ -33,7 +36,8 @@ any_of_parts : (values : ℕ → Bool) (p : Problem) (tuple : List ℕ) (pattern
     ≡ (list_any (is_true_literal values) (lacks p tuple 0 pattern.first)
     || (list_any (is_true_literal values) (lacks p tuple 1 pattern.second) || list_any (is_true_literal values) (lacks p tuple 2 pattern.third)))
 any_of_parts values p tuple pattern =
-    list_any-append (is_true_literal values) (lacks p tuple 0 pattern.first) (lacks p tuple 1 pattern.second ++ lacks p tuple 2 pattern.third)
+    list_any-append (is_true_literal values) (lacks p tuple 0 pattern.first)
+    (lacks p tuple 1 pattern.second ++ lacks p tuple 2 pattern.third)
     ∙ ap (λ b. list_any (is_true_literal values) (lacks p tuple 0 pattern.first) || b)
     (list_any-append (is_true_literal values) (lacks p tuple 1 pattern.second) (lacks p tuple 2 pattern.third))
 
@@ -64,7 +68,8 @@ same_shape p t solution = λ i. record {
 
 -- an entry whose literal is false fits
 fits_of_false :
-    (t : ChannelTable) (channels : ℕ) (q : Problem) (tuple : List ℕ) (step : ℕ) (e : Entry) → is_entry_below channels e ≡ true
+    (t : ChannelTable) (channels : ℕ) (q : Problem) (tuple : List ℕ) (step : ℕ) (e : Entry)
+    → is_entry_below channels e ≡ true
     → (is_channel e ≡ true → HasPart (shaped t channels q) tuple step)
     → list_any (is_true_literal (values_of (shaped t channels q) t)) (lacks (shaped t channels q) tuple step e) ≡ false
     → Fits e (channel_of t (part_at t.rounds step tuple))
@@ -73,12 +78,14 @@ fits_of_false t channels q tuple step (Channel c) below part none =
     let p : Problem = shaped t channels q in
     let w : ℕ = window_in p tuple step in
     let lt = ltb-true c channels below in
-    let is : get_or t.entries w 0 ≡ c = eqb-true (get_or t.entries w 0) c (sym (value_at p t w c lt) ∙ not_true _ none) in
+    let is : get_or t.entries w 0 ≡ c =
+    eqb-true (get_or t.entries w 0) c (sym (value_at p t w c lt) ∙ not_true _ none) in
     channel_at t w (part_at t.rounds step tuple) (part refl).item ∙ ap Some is
 
 -- the clause of a tuple that is not bad and a pattern
 pattern_holds :
-    (t : ChannelTable) (channels : ℕ) (q : Problem) (tuple : List ℕ) (pattern : Pattern) → IsTuple t.ids t.rounds q.forbidden tuple
+    (t : ChannelTable) (channels : ℕ) (q : Problem) (tuple : List ℕ) (pattern : Pattern)
+    → IsTuple t.ids t.rounds q.forbidden tuple
     → ¬ IsBad t q.forbidden tuple → IsIn pattern (patterns_of (shaped t channels q))
     → Holds (values_of (shaped t channels q) t) (no_match (shaped t channels q) tuple pattern)
 unfolding IsBad
@@ -117,7 +124,8 @@ patterns_hold t channels q solved =
     (all_of_in (λ pattern. Holds (values_of p t) (no_match p tuple pattern)) (patterns_of p)
     (λ pattern member. pattern_holds t channels q tuple pattern (ring_tuple p k d within) (good k d within) member)))
 
-pub patterns_satisfied : (p : Problem) (t : ChannelTable) → IsSolution p t → All (Holds (values_of p t)) (pattern_clauses p)
+pub patterns_satisfied : (p : Problem) (t : ChannelTable) → IsSolution p t
+    → All (Holds (values_of p t)) (pattern_clauses p)
 patterns_satisfied p t solution =
     subst (λ (q : Problem). All (Holds (values_of q t)) (pattern_clauses q)) (same_shape p t solution)
     (patterns_hold t p.channels p solution.solved)
@@ -136,7 +144,8 @@ in_all P xs x all h =
     let place = get_of_in xs x h in
     subst P (get_or_from_slice_get xs place.0 x x place.1) (all place.0 x (slice_get_within xs place.0 x place.1))
 
-module _ (suffices : TuplesSuffice) (is_ring : TuplesAreRings) (has_window : RingsHaveWindows) (has_number : WindowsHaveNumbers)
+module _ (suffices : TuplesSuffice) (is_ring : TuplesAreRings) (has_window : RingsHaveWindows)
+    (has_number : WindowsHaveNumbers)
     (number_at : NumberOfWindow) where
   -- a table that is asked for makes all clauses hold
   pub satisfied : SolutionsSatisfy
@@ -145,9 +154,11 @@ module _ (suffices : TuplesSuffice) (is_ring : TuplesAreRings) (has_window : Rin
       (All-append (Holds (values_of p t)) (apart_formula p) (pattern_clauses p)
       (apart_satisfied suffices is_ring has_window has_number number_at p t solution) (patterns_satisfied p t solution))
 
-module _ (suffices : TuplesSuffice) (is_ring : TuplesAreRings) (has_window : RingsHaveWindows) (has_number : WindowsHaveNumbers)
+module _ (suffices : TuplesSuffice) (is_ring : TuplesAreRings) (has_window : RingsHaveWindows)
+    (has_number : WindowsHaveNumbers)
     (number_at : NumberOfWindow) (item_of : WindowOfNumber) where
-  module _ (p : Problem) (values : ℕ → Bool) (apart : All (Holds values) (apart_formula p)) (all : All (Holds values) (pattern_clauses p)) where
+  module _ (p : Problem) (values : ℕ
+      → Bool) (apart : All (Holds values) (apart_formula p)) (all : All (Holds values) (pattern_clauses p)) where
     -- the literal of an entry that fits is false
     entry_false : (tuple : List ℕ) (step : ℕ) (e : Entry) → (is_channel e ≡ true → HasPart p tuple step)
         → Fits e (channel_of (table_of p values) (part_at p.rounds step tuple))
@@ -179,8 +190,10 @@ module _ (suffices : TuplesSuffice) (is_ring : TuplesAreRings) (has_window : Rin
         let below : is_below p.channels pattern ≡ true =
         both_true (is_entry_below p.channels pattern.first) _ first.0
         (both_true (is_entry_below p.channels pattern.second) (is_entry_below p.channels pattern.third) second.0 third.0) in
-        let member = in_filter (is_below p.channels) p.forbidden pattern below (in_of_get p.forbidden bad.0 pattern bad.2) in
-        let of_tuple = all_of_flat (Holds values) (λ list. map (no_match p list) (patterns_of p)) (ring_tuples p) all k d within in
+        let member = in_filter (is_below p.channels) p.forbidden pattern below
+        (in_of_get p.forbidden bad.0 pattern bad.2) in
+        let of_tuple = all_of_flat (Holds values) (λ list. map (no_match p list) (patterns_of p))
+        (ring_tuples p) all k d within in
         let holds : list_any (is_true_literal values) (no_match p tuple pattern) ≡ true =
         in_all (λ q. Holds values (no_match p tuple q)) (patterns_of p) pattern
         (all_of_map (Holds values) (no_match p tuple) (patterns_of p) of_tuple) member in
@@ -199,7 +212,8 @@ module _ (suffices : TuplesSuffice) (is_ring : TuplesAreRings) (has_window : Rin
           ids = refl;
           rounds = refl;
           channels = omega arith;
-          apart = (suffices t p.separation).0 (models.apart suffices is_ring has_window has_number number_at item_of p values apart);
+          apart = (suffices t p.separation).0
+              (models.apart suffices is_ring has_window has_number number_at item_of p values apart);
           solved = (suffice t p.forbidden).0 (solved p values apart patterns);
         },
       )

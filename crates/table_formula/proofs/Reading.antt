@@ -1,5 +1,8 @@
 -- The text of a formula reads as the formula.
-use Rattle.std.proofs.Common.{◌≡◌, ◌==◌, ℕ, zero, suc, ◌+◌, ◌-◌, ◌*◌, ◌/◌, ◌%◌, ◌^◌, ◌<◌, Bool, true, false, not, ◌&&◌, ◌||◌, cond, List, [], ◌∷◌, ◌++◌, map, All, length, get_or, drop, take, codes, Option, None, Some, option_map, unwrap_or, ltb, refl, sym, ap, ◌∙◌, subst, arith, rules, append_assoc}
+use Rattle.std.proofs.Common.{◌≡◌, ◌==◌, ℕ, zero, suc, ◌+◌, ◌-◌, ◌*◌, ◌/◌, ◌%◌, ◌^◌, ◌<◌, Bool, true, false, not, ◌&&◌}
+use Rattle.std.proofs.Common.{◌||◌, cond, List, [], ◌∷◌, ◌++◌, map, All, length, get_or, drop, take, codes, Option}
+use Rattle.std.proofs.Common.{None, Some, option_map, unwrap_or, ltb, refl, sym, ap, ◌∙◌, subst, arith}
+use Rattle.std.proofs.Common.{rules, append_assoc}
 use Rattle.std.specs.Fmt.{decimal, digit_glyph, digits, digits_onto}
 use Rattle.std.specs.List.{range_with_len, flat_map, filter, position_or_len, after_first, join_with_byte}
 use Rattle.std.specs.Str.{all_ascii_digits}
@@ -20,9 +23,11 @@ use Rattle.ring_problems.specs.declared.pattern.Pattern.{Pattern}
 use Rattle.ring_problems.specs.PatternTexts.{entries, entry_text, pattern_text, patterns_text}
 use Rattle.table_formula.specs.declared.literal.Literal.{Literal}
 use Rattle.table_formula.specs.Problems.{Problem}
-use Rattle.table_formula.specs.Formula.{windows_of, tuples_of, variable_count, some_channel, conflicts_of, not_both, not_too_close, IsPair, pattern_clauses, apart_formula, formula}
+use Rattle.table_formula.specs.Formula.{windows_of, tuples_of, variable_count, some_channel, conflicts_of, not_both}
+use Rattle.table_formula.specs.Formula.{not_too_close, IsPair, pattern_clauses, apart_formula, formula}
 use Rattle.table_formula.specs.Texts.{literal_text, clause_text, clauses_text, patterns_line}
-use Rattle.table_formula.specs.Dimacs.{is_feed, is_space, words_of, number_in, literal_of, literal_in, is_zero, with_literal, clauses_in, after_comment, States}
+use Rattle.table_formula.specs.Dimacs.{is_feed, is_space, words_of, number_in, literal_of, literal_in, is_zero}
+use Rattle.table_formula.specs.Dimacs.{with_literal, clauses_in, after_comment, States}
 use Rattle.table_formula.specs.Limits.{IsWithinLimits}
 use Rattle.table_formula.specs.Laws.{FormulaTextIsRead, OneReading}
 use Rattle.table_formula.proofs.ClauseLists.{all_below, all_flat, of_windows, of_tuples, formula_parts}
@@ -145,7 +150,8 @@ clause_read V (l ∷ clause) rest small below =
     ∙ ap (with_literal (Some l)) (clause_read V clause rest small (All-tail P l clause below))
     ∙ clause_with l clause (clauses_in V (words_of rest))
 
-clauses_read : (V : ℕ) (clauses : List (List Literal)) → V < 2 ^ 64 → All (All (λ (l : Literal). l.variable < V)) clauses →
+clauses_read : (V : ℕ) (clauses : List (List Literal)) → V < 2 ^ 64
+    → All (All (λ (l : Literal). l.variable < V)) clauses →
     clauses_in V (words_of (flat_map clause_text clauses)) ≡ Some clauses
 clauses_read V [] small below = refl
 clauses_read V (clause ∷ clauses) small below =
@@ -201,7 +207,8 @@ text_read text body m clauses m_small n_small is body_read =
     record {
       format = ap (take 6) is;
       sizes = ap (λ (l : List ℕ). map number_in (words_of (drop 6 l)))
-          ((λ i. take (end i) (is i)) ∙ take-append_seam line (10 ∷ body)) ∙ sizes_read m (length clauses) m_small n_small;
+          ((λ i. take (end i) (is i)) ∙ take-append_seam line (10 ∷ body))
+          ∙ sizes_read m (length clauses) m_small n_small;
       body = ap (λ (l : List ℕ). clauses_in m (words_of l))
           ((λ i. drop (end i + 1) (is i)) ∙ drop-append-add line (10 ∷ body) 1) ∙ body_read;
     }
@@ -255,7 +262,8 @@ patterns_plain patterns =
 
 -- the text after the comment
 after_line : (line rest : List ℕ) → IsPlain line → after_first is_feed (line ++ 10 ∷ rest) ≡ rest
-after_line line rest plain = ap (λ n. drop (n + 1) (line ++ 10 ∷ rest)) (line_len line rest plain) ∙ drop-append-add line (10 ∷ rest) 1
+after_line line rest plain =
+    ap (λ n. drop (n + 1) (line ++ 10 ∷ rest)) (line_len line rest plain) ∙ drop-append-add line (10 ∷ rest) 1
 
 without_comment : (patterns : List Pattern) (rest : List ℕ) →
     after_comment (patterns_line patterns ++ (codes "p " ++ rest)) ≡ codes "p " ++ rest
@@ -263,9 +271,11 @@ without_comment [] rest = refl
 without_comment (x ∷ xs) rest =
     let P : ℕ → Type 0 = λ b. is_feed b ≡ false in
     let line : List ℕ = codes "c forbid" ++ patterns_text (x ∷ xs) in
-    let text : patterns_line (x ∷ xs) ++ (codes "p " ++ rest) ≡ line ++ 10 ∷ (codes "p " ++ rest) = simp append_assoc refl in
+    let text : patterns_line (x ∷ xs) ++ (codes "p " ++ rest) ≡ line ++ 10 ∷ (codes "p " ++ rest) =
+    simp append_assoc refl in
     ap (after_first is_feed) text
-    ∙ after_line line (codes "p " ++ rest) (All-append P (codes "c forbid") (patterns_text (x ∷ xs)) (search rules) (patterns_plain (x ∷ xs)))
+    ∙ after_line line (codes "p " ++ rest)
+    (All-append P (codes "c forbid") (patterns_text (x ∷ xs)) (search rules) (patterns_plain (x ∷ xs)))
 
 -- the variables of the clauses of a formula
 module _ (has_prefix : PrefixesHaveNumbers) (window_at : WindowOfNumber) where
@@ -285,7 +295,8 @@ module _ (has_prefix : PrefixesHaveNumbers) (window_at : WindowOfNumber) where
       (range_with_len 0 windows_count) (all_below windows_count)))
       (all_flat P (not_too_close p) (tuples_of p) (λ k d within.
       let tuple = get_or (tuples_of p) k d in
-      let prefix = has_prefix (2 * p.rounds + 1) (extra p.separation) p.ids k tuple (slice_get-get_or (tuples_of p) k d within) in
+      let prefix = has_prefix (2 * p.rounds + 1) (extra p.separation) p.ids k tuple
+      (slice_get-get_or (tuples_of p) k d within) in
       let some : 0 < windows_count = omega (arith, slice_get_within (windows_of p) _ _ prefix) in
       All-map P (not_both p tuple) (conflicts_of p)
       (All-weaker (IsPair p) (λ c. P (not_both p tuple c))
@@ -295,7 +306,8 @@ module _ (has_prefix : PrefixesHaveNumbers) (window_at : WindowOfNumber) where
   all_within : (p : Problem) → All (All (λ (l : Literal). l.variable < variable_count p)) (formula p)
   all_within p =
       let P : List Literal → Type 0 = All (λ (l : Literal). l.variable < variable_count p) in
-      subst (All P) (sym (formula_parts p)) (All-append P (apart_formula p) (pattern_clauses p) (apart_within p) (patterns_within p))
+      subst (All P) (sym (formula_parts p))
+      (All-append P (apart_formula p) (pattern_clauses p) (apart_within p) (patterns_within p))
 
   states : (p : Problem) → IsWithinLimits p → States (clauses_text p) (variable_count p) (formula p)
   unfolding first_line
@@ -313,5 +325,8 @@ module _ (has_prefix : PrefixesHaveNumbers) (window_at : WindowOfNumber) where
 pub one_reading : OneReading
 one_reading text m n a b first second =
     let body = after_comment text in
-    let variables : m ≡ n = same_Some m n (ap (λ xs. get_or xs 0 None) (sym first.sizes ∙ second.sizes)) in
-    (variables, same_Some a b (sym first.body ∙ ap (λ v. clauses_in v (words_of (after_first is_feed body))) variables ∙ second.body))
+    let variables : m ≡ n = same_Some m n (ap (λ xs. get_or xs 0 None) (sym first.sizes ∙ second.sizes)) in (
+      variables,
+      same_Some a b (sym first.body ∙ ap (λ v. clauses_in v (words_of (after_first is_feed body))) variables
+          ∙ second.body),
+    )

@@ -1,5 +1,7 @@
 -- A table that is asked for makes all clauses hold.
-use Rattle.std.proofs.Common.{◌≡◌, ◌==◌, ℕ, ◌+◌, ◌*◌, ◌<◌, ◌≤◌, Bool, true, false, ◌||◌, List, [], ◌∷◌, map, All, length, get_or, Option, Some, IsSome, option_map, refl, sym, ap, ◌∙◌, subst, inl, inr, arith, zero-add}
+use Rattle.std.proofs.Common.{◌≡◌, ◌==◌, ℕ, ◌+◌, ◌*◌, ◌<◌, ◌≤◌, Bool, true, false, ◌||◌, List, [], ◌∷◌, map, All}
+use Rattle.std.proofs.Common.{length, get_or, Option, Some, IsSome, option_map, refl, sym, ap, ◌∙◌, subst, inl, inr}
+use Rattle.std.proofs.Common.{arith, zero-add}
 use Rattle.std.specs.Int.{abs_diff}
 use Rattle.std.specs.List.{range_with_len, flat_map}
 use Rattle.std.proofs.lemmas.Bool.{eqb-true, eq-eqb, ltb-true}
@@ -16,7 +18,9 @@ use Rattle.channel_tables.specs.Laws.{TuplesSuffice}
 use Rattle.table_formula.specs.Clauses.{is_same_value, is_true_literal, Holds}
 use Rattle.table_formula.specs.declared.formula.conflict.Conflict.{Conflict}
 use Rattle.table_formula.specs.Problems.{Problem, IsSolution}
-use Rattle.table_formula.specs.Formula.{windows_of, tuples_of, variable_of, values_of, has_channel, lacks_channel, some_channel, is_close, close_to, close_pairs, conflicts_of, window_in, not_both, not_too_close, apart_formula}
+use Rattle.table_formula.specs.Formula.{windows_of, tuples_of, variable_of, values_of, has_channel, lacks_channel}
+use Rattle.table_formula.specs.Formula.{some_channel, is_close, close_to, close_pairs, conflicts_of, window_in}
+use Rattle.table_formula.specs.Formula.{not_both, not_too_close, apart_formula}
 use Rattle.table_formula.proofs.ClauseLists.{all_flat, all_kept, all_below, some_value, any_map, any_in_range}
 
 -- the value of a variable
@@ -188,7 +192,8 @@ module _ (suffice : TuplesSuffice) (is_ring : TuplesAreRings) (has_window : Ring
       let window = (has_number (2 * t.rounds + 1 + extra s) t.ids tuple).0 (subst IsSome (sym numbered) refl) in
       tuple_holds t s channels tuple window (good k d within)))
 
-  pub apart_satisfied : (p : Problem) (t : ChannelTable) → IsSolution p t → All (Holds (values_of p t)) (apart_formula p)
+  pub apart_satisfied : (p : Problem) (t : ChannelTable) → IsSolution p t
+      → All (Holds (values_of p t)) (apart_formula p)
   apart_satisfied p t solution =
       subst (All (Holds (values_of p t))) (apart_same p)
       (subst (λ (q : Problem). All (Holds (values_of q t)) (apart_formula q)) (same_problem p t solution)

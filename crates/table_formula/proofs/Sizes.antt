@@ -37,10 +37,12 @@ few_variables p windows tuples pairs channels are same few =
 
 pub many_clauses : (p : Problem) (windows tuples pairs : ℕ) → AreSizes p windows tuples pairs →
     MAX_CLAUSES < windows + tuples * pairs → ¬ HasFewClauses p
-many_clauses p windows tuples pairs are many = λ few. omega (arith, formula_length p, apart_count p windows tuples pairs are, many, few)
+many_clauses p windows tuples pairs are many =
+    λ few. omega (arith, formula_length p, apart_count p windows tuples pairs are, many, few)
 
 -- where there are tuples, there are no more pairs of channels than clauses
-pub few_pairs : (p : Problem) → 0 < length (tuples_of p) → length (apart_formula p) ≤ MAX_CLAUSES → length (conflicts_of p) ≤ MAX_CLAUSES
+pub few_pairs : (p : Problem) → 0 < length (tuples_of p) → length (apart_formula p) ≤ MAX_CLAUSES
+    → length (conflicts_of p) ≤ MAX_CLAUSES
 few_pairs p some few =
     let pairs : ℕ = length (conflicts_of p) in
     omega (arith, apart_length p, mul-le 1 pairs (length (tuples_of p)) pairs some (omega arith), few)

@@ -35,15 +35,18 @@ other_sign false true q h k = cc
 other_sign false false true h k = refl
 other_sign false false false h k = cc
 
-pub same_literals : (values : ℕ → Bool) (a b : Literal) → is_same a b ≡ true → is_true_literal values a ≡ is_true_literal values b
+pub same_literals : (values : ℕ → Bool) (a b : Literal) → is_same a b ≡ true
+    → is_true_literal values a ≡ is_true_literal values b
 same_literals values a b h =
     let both = and_true (a.variable == b.variable) (is_same_value a.is_positive b.is_positive) h in
     let variable : a.variable ≡ b.variable = eqb-true a.variable b.variable both.0 in
     let sign : a.is_positive ≡ b.is_positive = same_values a.is_positive b.is_positive both.1 in
     λ i. is_same_value (values (variable i)) (sign i)
 
-pub negated_is_false : (values : ℕ → Bool) (l k : Literal) → is_true_literal values l ≡ true → is_same k (negated l) ≡ true → is_true_literal values k ≡ false
+pub negated_is_false : (values : ℕ → Bool) (l k : Literal) → is_true_literal values l ≡ true
+    → is_same k (negated l) ≡ true → is_true_literal values k ≡ false
 negated_is_false values l k holds same =
     let both = and_true (k.variable == l.variable) (is_same_value k.is_positive (not l.is_positive)) same in
     let variable : k.variable ≡ l.variable = eqb-true k.variable l.variable both.0 in
-    ap (λ v. is_same_value (values v) k.is_positive) variable ∙ other_sign (values l.variable) l.is_positive k.is_positive both.1 holds
+    ap (λ v. is_same_value (values v) k.is_positive) variable
+    ∙ other_sign (values l.variable) l.is_positive k.is_positive both.1 holds

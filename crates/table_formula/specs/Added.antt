@@ -12,4 +12,5 @@ module _ {Y : Type 0} where
   -- the literals of the added clauses are of variables below this number
   abbrev pub AreWithin : ℕ → BTreeMap ℕ (Vec Literal Y) → Type 0
   AreWithin variables added =
-      (number : ℕ) (clause : List Literal) → added_clause added number ≡ Some clause → All (λ l. l.variable < variables) clause
+      (number : ℕ) (clause : List Literal) → added_clause added number ≡ Some clause
+      → All (λ l. l.variable < variables) clause

@@ -1,5 +1,6 @@
 -- Derivations: the clauses that the hints of a step can name, and what a line does to them.
-use Rattle.std.specs.Prelude.{◌==◌, ℕ, ◌-◌, Bool, true, false, List, [], ◌∷◌, Option, None, Some, map, length, nat_le, nat_lt, slice_get, if◌then◌else◌}
+use Rattle.std.specs.Prelude.{◌==◌, ℕ, ◌-◌, Bool, true, false, List, [], ◌∷◌, Option, None, Some, map, length, nat_le}
+use Rattle.std.specs.Prelude.{nat_lt, slice_get, if◌then◌else◌}
 use Rattle.std.specs.List.{list_all, list_any}
 use Rattle.table_formula.specs.Hints.{step_outcome}
 use Rattle.table_formula.specs.declared.literal.Literal.{Literal}
@@ -62,8 +63,8 @@ abbrev pub after_exchange : Problem → Option Exchange → List Literal → Lis
 after_exchange p None clause = clause
 after_exchange p (Some exchange) clause = map (exchanged_literal p exchange) clause
 
--- what is wrong with the step that adds a clause: its number, else its variables, else the exchange, else the hints, which
--- have to show what the clause is after the exchange
+-- what is wrong with the step that adds a clause: its number, else its variables, else the exchange, else the
+-- hints, which have to show what the clause is after the exchange
 abbrev pub step_fault : Problem → Derivation → Option Exchange → ℕ → List Literal → List ℕ → Option LineFault
 step_fault p d exchange number clause hints =
     if nat_le number d.newest then Some fault.NumberNotAscending

@@ -1,6 +1,7 @@
--- How a text in DIMACS is read: which formula it states. In the text variables are numbered from 1. A text with more comments
--- than one in its first line is not read here.
-use Rattle.std.specs.Prelude.{◌≡◌, ◌==◌, ℕ, ◌-◌, Bool, true, false, ◌&&◌, ◌||◌, List, [], ◌∷◌, Option, None, Some, option_map, codes, drop, filter, length, map, nat_le, nat_lt, take, if◌then◌else◌}
+-- How a text in DIMACS is read: which formula it states. In the text variables are numbered from 1. A text with
+-- more comments than one in its first line is not read here.
+use Rattle.std.specs.Prelude.{◌≡◌, ◌==◌, ℕ, ◌-◌, Bool, true, false, ◌&&◌, ◌||◌, List, [], ◌∷◌, Option, None, Some}
+use Rattle.std.specs.Prelude.{option_map, codes, drop, filter, length, map, nat_le, nat_lt, take, if◌then◌else◌}
 use Rattle.std.specs.List.{after_first, before_first, slice_split}
 use Rattle.std.specs.Str.{all_ascii_digits, bytes_eq}
 use Rattle.std.specs.Str.Parse.{digits_value, starts_with_minus}
@@ -26,7 +27,8 @@ number_in word = if nat_lt 0 (length word) && all_ascii_digits word then Some (d
 abbrev pub literal_of : ℕ → Bool → Option ℕ → Option Literal
 literal_of variables is_positive None = None
 literal_of variables is_positive (Some number) =
-    if nat_le 1 number && nat_le number variables then Some (record { variable = number - 1; is_positive = is_positive })
+    if nat_le 1 number && nat_le number variables
+    then Some (record { variable = number - 1; is_positive = is_positive })
     else None
 
 -- the literal that a word spells: a variable's number, with a minus (byte 45) in front of it for the negation
@@ -56,11 +58,12 @@ clauses_in variables (word ∷ words) =
 abbrev pub after_comment : List ℕ → List ℕ
 after_comment text = if bytes_eq (take 2 text) (codes "c ") then after_first is_feed text else text
 
--- a text without a comment states a formula of this number of variables with these clauses: its first line is `p cnf` with the
--- numbers of variables and of clauses, and the words after that line spell the clauses
+-- a text without a comment states a formula of this number of variables with these clauses: its first line is `p
+-- cnf` with the numbers of variables and of clauses, and the words after that line spell the clauses
 pub record States (text : List ℕ) (variables : ℕ) (clauses : List (List Literal)) : Type 0 where
   pub format : take 6 text ≡ codes "p cnf "
-  pub sizes : map number_in (words_of (drop 6 (before_first is_feed text))) ≡ Some variables ∷ Some (length clauses) ∷ []
+  pub sizes : map number_in (words_of (drop 6 (before_first is_feed text)))
+      ≡ Some variables ∷ Some (length clauses) ∷ []
   pub body : clauses_in variables (words_of (after_first is_feed text)) ≡ Some clauses
 
 -- a text states a formula, perhaps after a comment

@@ -10,12 +10,14 @@ use Rattle.table_formula.specs.Words.{lines_of}
 use Rattle.table_formula.specs.Lines.{line_in}
 use Rattle.table_formula.specs.Derivations.{Derivation, opening, line_fault, after_line, adds_empty}
 
--- the fault of a line with this number; without one, none if the line adds the empty clause, else that of the other lines
+-- the fault of a line with this number; without one, none if the line adds the empty clause, else that of the other
+-- lines
 abbrev pub fault_or : Option LineFault → Bool → ℕ → Option RefuteError → Option RefuteError
 fault_or (Some fault) is_last line others = Some (At line fault)
 fault_or None is_last line others = if is_last then None else others
 
--- the first fault of lines that follow this number of lines, and that begin at a derivation; none if they refute the formula
+-- the first fault of lines that follow this number of lines, and that begin at a derivation; none if they refute
+-- the formula
 abbrev pub first_fault : Problem → Derivation → ℕ → List (List ℕ) → Option RefuteError
 first_fault p d count [] = Some (At count NoEmptyClause)
 first_fault p d count (line ∷ lines) =

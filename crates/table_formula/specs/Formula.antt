@@ -1,6 +1,7 @@
 -- The formula of a problem: variables that say which window has which channel, and clauses that hold for each table
 -- that is asked for.
-use Rattle.std.specs.Prelude.{◌≡◌, ◌==◌, ℕ, ◌+◌, ◌*◌, ◌/◌, ◌%◌, ◌<◌, ◌≤◌, Bool, true, false, List, [], ◌∷◌, ◌++◌, All, Some, map, filter, length, max, nat_lt, take, unwrap_or, slice_get, slice_index}
+use Rattle.std.specs.Prelude.{◌≡◌, ◌==◌, ℕ, ◌+◌, ◌*◌, ◌/◌, ◌%◌, ◌<◌, ◌≤◌, Bool, true, false, List, [], ◌∷◌, ◌++◌, All}
+use Rattle.std.specs.Prelude.{Some, map, filter, length, max, nat_lt, take, unwrap_or, slice_get, slice_index}
 use Rattle.std.specs.Int.{abs_diff}
 use Rattle.std.specs.List.{range_with_len, flat_map}
 use Rattle.win_index.specs.Arcs.{part_at}
@@ -94,7 +95,8 @@ not_too_close p tuple = map (not_both p tuple) (conflicts_of p)
 
 -- a clause for each window, and for each tuple and each forbidden pair
 unfoldable pub apart_formula : Problem → List (List Literal)
-apart_formula p = map (some_channel p) (range_with_len 0 (length (windows_of p))) ++ flat_map (not_too_close p) (tuples_of p)
+apart_formula p = map (some_channel p) (range_with_len 0 (length (windows_of p)))
+    ++ flat_map (not_too_close p) (tuples_of p)
 
 -- the window from an offset on does not have the channel that an entry of a pattern asks for
 abbrev pub lacks : Problem → List ℕ → ℕ → Entry → List Literal
@@ -103,7 +105,8 @@ lacks p tuple offset (Channel c) = lacks_channel p (window_in p tuple offset) c 
 
 -- the windows of a tuple do not match a pattern
 abbrev pub no_match : Problem → List ℕ → Pattern → List Literal
-no_match p tuple pattern = lacks p tuple 0 pattern.first ++ (lacks p tuple 1 pattern.second ++ lacks p tuple 2 pattern.third)
+no_match p tuple pattern = lacks p tuple 0 pattern.first
+    ++ (lacks p tuple 1 pattern.second ++ lacks p tuple 2 pattern.third)
 
 -- the forbidden patterns that the channels of such a table can match
 abbrev pub patterns_of : Problem → List Pattern
@@ -121,7 +124,8 @@ pattern_clauses p = flat_map (λ tuple. map (no_match p tuple) (patterns_of p)) 
 unfoldable pub formula : Problem → List (List Literal)
 formula p = apart_formula p ++ pattern_clauses p
 
--- the first `count` of these literals are the clause of the formula with this index, and their variables are the formula's
+-- the first `count` of these literals are the clause of the formula with this index, and their variables are the
+-- formula's
 pub record BeginsWithClause (p : Problem) (index count : ℕ) (literals : List Literal) : Type 0 where
   pub fits : count ≤ length literals
   pub item : slice_get (formula p) index ≡ Some (take count literals)

@@ -5,7 +5,8 @@ use Rattle.table_formula.specs.declared.literal.Literal.{Literal}
 use Rattle.table_formula.specs.declared.refutation.marks.Remaining.{Remaining}
 use Rattle.table_formula.specs.declared.refutation.marks.Remaining.TheVariants.{Nothing, One, Several}
 use Rattle.table_formula.specs.declared.refutation.outcome.Outcome.{Outcome}
-use Rattle.table_formula.specs.declared.refutation.outcome.Outcome.TheVariants.{Follows, UnknownHint, SeveralLeft, EarlyConflict, OneLeft, NoHints}
+use Rattle.table_formula.specs.declared.refutation.outcome.Outcome.TheVariants.{Follows, UnknownHint, SeveralLeft}
+use Rattle.table_formula.specs.declared.refutation.outcome.Outcome.TheVariants.{EarlyConflict, OneLeft, NoHints}
 
 -- the literals of a clause that are not known to be false
 abbrev pub left_of : (Literal → Bool) → List Literal → List Literal
@@ -22,8 +23,8 @@ abbrev pub is_last : List ℕ → Bool
 is_last [] = true
 is_last (hint ∷ hints) = false
 
--- what a hint shows whose clause has these literals left, if it names one, and whether it is the last one: of a hint that
--- is not, the one literal is true from then on
+-- what a hint shows whose clause has these literals left, if it names one, and whether it is the last one: of a
+-- hint that is not, the one literal is true from then on
 abbrev pub after_hint : ℕ → Option Remaining → Bool → (Literal → Outcome) → Outcome
 after_hint hint None last next = UnknownHint hint
 after_hint hint (Some Nothing) true next = Follows

@@ -36,7 +36,8 @@ ModelsGiveSolutions =
 abbrev pub FormulaIsExact : Type 0
 FormulaIsExact = (p : Problem) → HasTables p → IsImpossible p ↔ ((values : ℕ → Bool) → ¬ All (Holds values) (formula p))
 
--- the text of a formula, read as DIMACS, states exactly the formula: the number of its variables, and its clauses in order
+-- the text of a formula, read as DIMACS, states exactly the formula: the number of its variables, and its clauses
+-- in order
 abbrev pub FormulaTextIsRead : Type 0
 FormulaTextIsRead = (p : Problem) → IsWithinLimits p → ReadsAs (formula_text p) (variable_count p) (formula p)
 
@@ -45,8 +46,8 @@ abbrev pub OneReading : Type 0
 OneReading =
     (text : List ℕ) (m n : ℕ) (a b : List (List Literal)) → ReadsAs text m a → ReadsAs text n b → (m ≡ n) × (a ≡ b)
 
--- an exchange makes of each table that is asked for another one, in which each literal says after the exchange what it said
--- before
+-- an exchange makes of each table that is asked for another one, in which each literal says after the exchange what
+-- it said before
 abbrev pub ExchangesKeepSolutions : Type 0
 ExchangesKeepSolutions =
     (p : Problem) (t : ChannelTable) (x : Exchange) → can_exchange p x ≡ true → IsSolution p t

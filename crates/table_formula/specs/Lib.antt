@@ -1,6 +1,6 @@
 -- The definitions that the contracts cite: literals, clauses and the values of variables; problems, the tables that
--- answer them, the formula of a problem, the limits of formulas and their faults, the text of a formula, how it is read,
--- and the laws.
+-- answer them, the formula of a problem, the limits of formulas and their faults, the text of a formula, how it is
+-- read, and the laws.
 pub mod SignedVariables
 pub mod Clauses
 pub mod Problems
@@ -12,9 +12,9 @@ pub mod FormulaFaults
 pub mod Texts
 pub mod Dimacs
 pub mod Laws
--- Of refutations: the words and the lines of a text, which clauses numbers name and what a line does to them, what the hints of
--- a step show, which texts are refutations, which fault another text has and the note on it, and the laws. The files between
--- RefutationNotes and RefutationLaws serve the program.
+-- Of refutations: the words and the lines of a text, which clauses numbers name and what a line does to them, what
+-- the hints of a step show, which texts are refutations, which fault another text has and the note on it, and the
+-- laws. The files between RefutationNotes and RefutationLaws serve the program.
 pub mod Words
 pub mod Lines
 pub mod Hints

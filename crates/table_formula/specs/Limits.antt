@@ -19,8 +19,9 @@ pub record IsWithinLimits (p : Problem) : Type 0 where
   pub few_variables : HasFewVariables p
   pub few_clauses : HasFewClauses p
 
--- what is kept of a formula within the limits: the forbidden pairs of channels, or none if there are no tuples, the patterns that
--- the tables can match, and the numbers of clauses of the separation and of all clauses; no public contract cites it
+-- what is kept of a formula within the limits: the forbidden pairs of channels, or none if there are no tuples, the
+-- patterns that the tables can match, and the numbers of clauses of the separation and of all clauses; no public
+-- contract cites it
 pub record IsKept (p : Problem) (conflicts : List Conflict) (possible : List Pattern) (apart clauses : ℕ) : Type 0 where
   pub limits : IsWithinLimits p
   pub pairs : 0 < length (tuples_of p) → conflicts ≡ conflicts_of p

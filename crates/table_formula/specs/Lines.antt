@@ -7,7 +7,8 @@ use Rattle.table_formula.specs.declared.refutation.forms.Letter.{Letter}
 use Rattle.table_formula.specs.declared.refutation.forms.Letter.TheVariants as letter
 use Rattle.table_formula.specs.Words.{words_of, number_in, literal_in, is_end}
 
--- what a line says: nothing, which clauses it deletes, or which clause it adds, after which exchange if any, with which hints
+-- what a line says: nothing, which clauses it deletes, or which clause it adds, after which exchange if any, with
+-- which hints
 pub data Line : Type 0 where
   Comment : Line
   Deletion : List ℕ → Line
@@ -22,7 +23,8 @@ with_item (Some item) (Some others) = Some (item ∷ others.0, others.1)
 -- the items that words spell up to the first word that ends a list, and the words after that one
 abbrev pub list_in : {X : Type 0} → (List ℕ → Option X) → List (List ℕ) → Option (List X × List (List ℕ))
 list_in item_in [] = None
-list_in item_in (word ∷ words) = if is_end word then Some ([], words) else with_item (item_in word) (list_in item_in words)
+list_in item_in (word ∷ words) = if is_end word then Some ([], words)
+    else with_item (item_in word) (list_in item_in words)
 
 -- the items, if there is no word after their list
 abbrev pub whole_list : {X : Type 0} → Option (List X × List (List ℕ)) → Option (List X)

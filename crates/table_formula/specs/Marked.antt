@@ -12,7 +12,8 @@ variables_of marks = length marks.positive.items
 -- whether a literal is marked: its stamp is the newest one
 abbrev pub is_marked : Marks → Literal → Bool
 is_marked marks l =
-    (if l.is_positive then slice_index marks.positive.items l.variable else slice_index marks.negative.items l.variable) == marks.newest
+    (if l.is_positive then slice_index marks.positive.items l.variable else slice_index marks.negative.items l.variable)
+    == marks.newest
 
 -- a single literal has a variable below this number
 abbrev pub IsOneBelow : ℕ → Remaining → Type 0

@@ -10,8 +10,8 @@ use Rattle.ring_problems.specs.declared.pattern.Entry.TheVariants.{Wildcard, Cha
 use Rattle.ring_problems.specs.declared.pattern.Pattern.{Pattern}
 use Rattle.ring_problems.specs.Problems.{IsSolvedEverywhere}
 
--- the numbers of identifiers and rounds, the maximum number of channels, the separation that a table shall keep, and the
--- patterns that it shall avoid
+-- the numbers of identifiers and rounds, the maximum number of channels, the separation that a table shall keep,
+-- and the patterns that it shall avoid
 pub record Problem : Type 0 where
   pub ids : ℕ
   pub rounds : ℕ
@@ -22,7 +22,13 @@ pub record Problem : Type 0 where
 -- the problem of the tables of a shape
 abbrev pub problem_of : Shape → ℕ → Separation → List Pattern → Problem
 problem_of shape channels separation forbidden =
-    record { ids = shape.ids; rounds = shape.rounds; channels = channels; separation = separation; forbidden = forbidden }
+    record {
+      ids = shape.ids;
+      rounds = shape.rounds;
+      channels = channels;
+      separation = separation;
+      forbidden = forbidden;
+    }
 
 -- a table that is asked for
 pub record IsSolution (p : Problem) (t : ChannelTable) : Type 0 where
@@ -52,7 +58,8 @@ entry_asked (Channel c) = refl
 
 abbrev pub pattern_code : Coded Pattern
 pattern_code =
-    code_by (Option ℕ × (Option ℕ × Option ℕ)) (coded× (coded_option coded_ℕ) (coded× (coded_option coded_ℕ) (coded_option coded_ℕ)))
+    code_by (Option ℕ × (Option ℕ × Option ℕ))
+    (coded× (coded_option coded_ℕ) (coded× (coded_option coded_ℕ) (coded_option coded_ℕ)))
     (λ p. (asked p.first, (asked p.second, asked p.third)))
     (λ c. record { first = entry_of c.0; second = entry_of c.1.0; third = entry_of c.1.1 })
     (λ p. λ i. record { first = entry_asked p.first i; second = entry_asked p.second i; third = entry_asked p.third i })

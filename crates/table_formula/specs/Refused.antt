@@ -19,6 +19,7 @@ pub record IsUnmade (p : Problem) (d : Derivation) (lines : Reader) (fault : Opt
   pub right : line_fault p d (line_read lines) ≡ None
   pub fault_is : first_fault p (after_line d (line_read lines)) (lines_read lines) (lines_left lines) ≡ fault
 
--- memory was refused to read the next line or to add the clause of the last one, and the first fault is that of a later line
+-- memory was refused to read the next line or to add the clause of the last one, and the first fault is that of a
+-- later line
 abbrev pub IsRefused : Problem → Derivation → Reader → Option RefuteError → Type 0
 IsRefused p d lines fault = IsUnread p d lines fault ⊎ IsUnmade p d lines fault

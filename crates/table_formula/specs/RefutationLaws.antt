@@ -12,17 +12,20 @@ RefutationsAreSound = (p : Problem) (text : List ℕ) → IsRefutation p text �
 
 -- a refutation has no fault besides OutOfMemory
 abbrev pub RefutationsAreRight : Type 0
-RefutationsAreRight = (p : Problem) (text : List ℕ) (f : RefuteError) → IsRefutation p text → IsFault p text f → f ≡ OutOfMemory
+RefutationsAreRight = (p : Problem) (text : List ℕ) (f : RefuteError) → IsRefutation p text → IsFault p text f
+    → f ≡ OutOfMemory
 
 -- a text has at most one fault besides OutOfMemory
 abbrev pub OneRefutationFault : Type 0
 OneRefutationFault =
-    (p : Problem) (text : List ℕ) (f g : RefuteError) → f ≢ OutOfMemory → g ≢ OutOfMemory → IsFault p text f → IsFault p text g → f ≡ g
+    (p : Problem) (text : List ℕ) (f g : RefuteError) → f ≢ OutOfMemory → g ≢ OutOfMemory → IsFault p text f
+    → IsFault p text g → f ≡ g
 
 -- a text that is too long has that fault alone, and even refused memory does not replace it
 abbrev pub LongTextsHaveOneFault : Type 0
 LongTextsHaveOneFault =
-    (p : Problem) (text : List ℕ) (f : RefuteError) → LONGEST_REFUTATION < length text → IsFault p text f ↔ (f ≡ TooLong)
+    (p : Problem) (text : List ℕ) (f : RefuteError) → LONGEST_REFUTATION < length text
+    → IsFault p text f ↔ (f ≡ TooLong)
 
 -- each text is a refutation or has a fault besides OutOfMemory
 abbrev pub EachTextHasAVerdict : Type 0

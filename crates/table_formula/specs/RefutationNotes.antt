@@ -13,7 +13,8 @@ abbrev pub line_cause : LineFault → List ℕ
 line_cause line_fault.Form =
     codes "this line is not a step of LRAT, as `5 -1 2 0 3 4 0`, a deletion, as `5 d 3 4 0`, or a comment"
 line_cause line_fault.NumberNotAscending = codes "the number of this step is not above those of the steps before it, or not above those of the formula's clauses: then the options may be those of another formula"
-line_cause line_fault.UnknownVariable = codes "this clause has a variable that the formula lacks; the numbers may be those of another formula"
+line_cause line_fault.UnknownVariable = codes
+    "this clause has a variable that the formula lacks; the numbers may be those of another formula"
 line_cause line_fault.Exchange =
     codes "tables need not stay right by this exchange: identifiers are below `--ids` and channels below `--channels`, and two channels are exchanged only if near and far are at most 1"
 line_cause (line_fault.UnknownHint hint) = codes "hint " ++ (decimal hint ++ codes " names no clause: there is none of its number yet, or it was deleted; the options may be those of another formula")
@@ -41,6 +42,7 @@ pub record IsLineNote (text : List ℕ) (number : ℕ) (f : LineFault) (note : L
 
 -- the note on a text that is no refutation; OutOfMemory has none
 abbrev pub IsRefutationNote : List ℕ → RefuteError → List ℕ → Type 0
-IsRefutationNote text refute.TooLong note = note ≡ codes "nbhd: the text of a refutation has at most 134217728 bytes; `tools/lrat` leaves out what is not needed\n"
+IsRefutationNote text refute.TooLong note = note
+    ≡ codes "nbhd: the text of a refutation has at most 134217728 bytes; `tools/lrat` leaves out what is not needed\n"
 IsRefutationNote text (refute.At number f) note = IsLineNote text number f note
 IsRefutationNote text refute.OutOfMemory note = note ≡ codes ""

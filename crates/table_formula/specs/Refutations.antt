@@ -14,10 +14,12 @@ use Rattle.table_formula.specs.Derivations.{Derivation, opening, line_fault, aft
 abbrev pub Leads : Problem → Derivation → List (List ℕ) → Derivation → Type 0
 Leads p d [] later = d ≡ later
 Leads p d (line ∷ lines) later =
-    (line_fault p d (line_in line) ≡ None) × (adds_empty (line_in line) ≡ false) × Leads p (after_line d (line_in line)) lines later
+    (line_fault p d (line_in line) ≡ None) × (adds_empty (line_in line) ≡ false)
+    × Leads p (after_line d (line_in line)) lines later
 
 -- the text is not too long, and it has the line `here` after lines that lead from the formula to a derivation
-pub record Reaches (p : Problem) (text : List ℕ) (before : List (List ℕ)) (here : List ℕ) (d : Derivation) : Type 0 where
+pub record Reaches (p : Problem) (text : List ℕ) (before : List (List ℕ)) (here : List ℕ)
+    (d : Derivation) : Type 0 where
   pub short : length text ≤ LONGEST_REFUTATION
   pub after : List (List ℕ)
   pub lines : lines_of text ≡ before ++ here ∷ after
@@ -29,7 +31,8 @@ IsRefutation p text =
     (before : List (List ℕ)) × (here : List ℕ) × (d : Derivation) × Reaches p text before here d
     × (line_fault p d (line_in here) ≡ None) × (adds_empty (line_in here) ≡ true)
 
--- the line with this number, counted from 1, has this fault; all lines before it are right, and none adds the empty clause
+-- the line with this number, counted from 1, has this fault; all lines before it are right, and none adds the empty
+-- clause
 abbrev pub HasFaultAt : Problem → List ℕ → ℕ → LineFault → Type 0
 HasFaultAt p text line fault =
     (before : List (List ℕ)) × (here : List ℕ) × (d : Derivation) × Reaches p text before here d

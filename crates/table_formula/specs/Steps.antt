@@ -9,4 +9,5 @@ use Rattle.table_formula.specs.declared.refutation.outcome.Outcome.TheVariants.{
 abbrev pub StepsAreSound : Type 0
 StepsAreSound =
     (values : ℕ → Bool) (clauses : ℕ → Option (List Literal)) (clause : List Literal) (hints : List ℕ)
-    → step_outcome clauses clause hints ≡ Follows → All (λ hint. IfSome (clauses hint) (Holds values)) hints → Holds values clause
+    → step_outcome clauses clause hints ≡ Follows → All (λ hint. IfSome (clauses hint) (Holds values)) hints
+    → Holds values clause

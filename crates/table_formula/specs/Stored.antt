@@ -10,4 +10,5 @@ use Rattle.table_formula.specs.Derivations.{opening}
 abbrev pub clause_of : Clauses → ℕ → Option (List Literal)
 clause_of clauses number =
     if nat_lt (length (formula clauses.formula.now)) number then added_clause clauses.added number
-    else (if slice_index_or clauses.deleted.items number false then None else (opening clauses.formula.now).clauses number)
+    else (if slice_index_or clauses.deleted.items number false then None
+    else (opening clauses.formula.now).clauses number)

@@ -1,5 +1,6 @@
 -- The lines of a text and the words of a line, and the numbers and literals that words spell.
-use Rattle.std.specs.Prelude.{◌==◌, ℕ, ◌-◌, ◌^◌, Bool, true, false, ◌&&◌, List, Option, None, Some, drop, length, nat_le, nat_lt, if◌then◌else◌}
+use Rattle.std.specs.Prelude.{◌==◌, ℕ, ◌-◌, ◌^◌, Bool, true, false, ◌&&◌, List, Option, None, Some, drop, length}
+use Rattle.std.specs.Prelude.{nat_le, nat_lt, if◌then◌else◌}
 use Rattle.std.specs.Str.{all_ascii_digits}
 use Rattle.std.specs.List.{list_all, slice_split}
 use Rattle.std.specs.Str.Parse.{digits_value, starts_with_minus}
@@ -25,7 +26,8 @@ number_in word = if is_number word then Some (digits_value 10 word) else None
 abbrev pub literal_of : Bool → Option ℕ → Option Literal
 literal_of is_positive None = None
 literal_of is_positive (Some number) =
-    if nat_le 1 number && nat_le number (2 ^ 31) then Some (record { variable = number - 1; is_positive = is_positive }) else None
+    if nat_le 1 number && nat_le number (2 ^ 31)
+    then Some (record { variable = number - 1; is_positive = is_positive }) else None
 
 -- the literal that a word spells: a number, with a minus (byte 45) in front of it for the negation of the variable
 abbrev pub literal_in : List ℕ → Option Literal

@@ -38,8 +38,8 @@ pub enum FormulaFault {
 }
 
 /// The formula of a problem: whether there is a table of a shape with at most some number of
-/// channels that keeps a separation and on no ring has a forbidden pattern. It has at most `MAX_VARIABLES` variables and at most
-/// `MAX_CLAUSES` clauses. A clause is made when it is asked for, by its index.
+/// channels that keeps a separation and on no ring has a forbidden pattern. It has at most `MAX_VARIABLES`
+/// variables and at most `MAX_CLAUSES` clauses. A clause is made when it is asked for, by its index.
 #[derive(Drop)]
 pub struct Formula {
     shape: Shape,
@@ -62,16 +62,21 @@ impl Model for Formula {
 
     ghost view = { λ f. problem_of f.shape f.channels f.separation f.forbidden.items };
 
-    ghost invariant = { λ f. IsKept (problem_of f.shape f.channels f.separation f.forbidden.items) f.conflicts.items f.possible.items f.apart f.clauses };
+    ghost invariant = { λ f. IsKept (problem_of f.shape f.channels f.separation f.forbidden.items) f.conflicts.items
+        f.possible.items f.apart f.clauses };
 }
 
 impl Formula {
-    ghost use Rattle.std.specs.Prelude.{◌≡◌, ◌+◌, ◌*◌, ◌<◌, ◌≤◌, ◌++◌, IfOk, IfErr, OnOk, Some, length, take, true, All, slice_get, slice_index_or};
+    ghost use Rattle.std.specs.Prelude.{◌≡◌, ◌+◌, ◌*◌, ◌<◌, ◌≤◌, ◌++◌, IfOk, IfErr, OnOk, Some, length, take, true};
+    ghost use Rattle.std.specs.Prelude.{All, slice_get, slice_index_or};
     ghost use Rattle.win_index.specs.declared.limits.TheConstants.{MAX_TUPLE_LEN};
     ghost use Rattle.win_index.specs.Windows.{IsWindow};
     ghost use Rattle.channel_tables.specs.Apart.{extra};
     ghost use Rattle.table_formula.specs.declared.limits.TheConstants.{MAX_CLAUSES, MAX_VARIABLES};
-    ghost use Rattle.table_formula.specs.Formula.{windows_of, tuples_of, variable_of, variable_count, conflicts_of, window_in, some_channel, not_both, IsPair, apart_formula, lacks, no_match, patterns_of, pattern_clauses, formula, clause_room, BeginsWithClause};
+    ghost use Rattle.table_formula.specs.Formula.{windows_of, tuples_of, variable_of, variable_count, conflicts_of};
+    ghost use Rattle.table_formula.specs.Formula.{window_in, some_channel, not_both, IsPair, apart_formula, lacks};
+    ghost use Rattle.table_formula.specs.Formula.{no_match, patterns_of, pattern_clauses, formula};
+    ghost use Rattle.table_formula.specs.Formula.{clause_room, BeginsWithClause};
     ghost use Rattle.ring_problems.specs.Patterns.{is_below, is_channel, is_entry_below, extra as long};
     ghost use Rattle.ring_problems.specs.TupleLists.{IsTuple};
     ghost use Rattle.table_formula.specs.Exchanges.{can_exchange, exchanged_window, exchanged_literal};
@@ -331,7 +336,8 @@ impl Formula {
         requires below { length (windows_of self.now) + index < length (apart_formula self.now) }
         requires room { 2 ≤ length out.old }
         ensures count { result ≡ 2 }
-        ensures item { slice_get (apart_formula self.now) (length (windows_of self.now) + index) ≡ Some (take 2 out.new) }
+        ensures item { slice_get (apart_formula self.now) (length (windows_of self.now) + index)
+            ≡ Some (take 2 out.new) }
         ensures within { All (λ l. l.variable < variable_count self.now) (take 2 out.new) }
     {
         let count = self.conflict_count();
@@ -431,7 +437,8 @@ fn clauses_of(
     separation: Separation,
     forbidden: &[Pattern],
 ) -> Result<(u64, u64), FormulaFault>
-    ensures ok { IfOk result (λ counts. (counts.0 ≡ length (apart_formula (problem_of shape channels separation forbidden.now)))
+    ensures ok { IfOk result
+        (λ counts. (counts.0 ≡ length (apart_formula (problem_of shape channels separation forbidden.now)))
         × (counts.1 ≡ length (formula (problem_of shape channels separation forbidden.now)))) }
     ensures limits { OnOk result (IsWithinLimits (problem_of shape channels separation forbidden.now)) }
     ensures err { IfErr result (IsFormulaFault (problem_of shape channels separation forbidden.now)) }
@@ -476,7 +483,8 @@ fn conflicts_for(
     requires { length (apart_formula (problem_of shape channels separation [])) ≤ MAX_CLAUSES }
     ensures some { 0 < length (tuples_of (problem_of shape channels separation [])) →
         IfOk result (λ pairs. pairs.items ≡ close_in channels separation) }
-    ensures none { length (tuples_of (problem_of shape channels separation [])) ≡ 0 → IfOk result (λ pairs. pairs.items ≡ []) }
+    ensures none { length (tuples_of (problem_of shape channels separation [])) ≡ 0
+        → IfOk result (λ pairs. pairs.items ≡ []) }
 {
     let lists = TupleLists { shape, separation };
     if lists.count() == 0 {
@@ -505,7 +513,8 @@ fn patterns_for(
     channels: u32,
     patterns: &[Pattern],
 ) -> Result<(Vec<Pattern>, Vec<Pattern>), AllocError>
-    ensures { IfOk result (λ both. (both.0.items ≡ patterns.now) × (both.1.items ≡ filter (is_below channels) patterns.now)) }
+    ensures { IfOk result (λ both. (both.0.items ≡ patterns.now)
+        × (both.1.items ≡ filter (is_below channels) patterns.now)) }
 {
     let mut possible = Vec::new(alloc);
     for pattern in patterns {

@@ -1,5 +1,5 @@
-//! Clauses, the formula of all tables of a shape with some number of channels, and its refutations: the steps of a proof that
-//! no values of variables make all its clauses true, and the notes on texts that are none.
+//! Clauses, the formula of all tables of a shape with some number of channels, and its refutations: the steps of a
+//! proof that no values of variables make all its clauses true, and the notes on texts that are none.
 #![tactic(auto)]
 
 mod formula;

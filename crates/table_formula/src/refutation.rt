@@ -77,9 +77,11 @@ pub fn refute(alloc: Global, formula: &Formula, text: &[u8]) -> Result<(), Refut
 // memory is refused, it is the fault of a line that was not read.
 fn first_fault(checker: &mut Checker, lines: &mut Reader) -> Result<Option<FirstFault>, AllocError>
     ensures found { IfOk result (λ found. error_of found
-        ≡ fault_from (problem_of checker.old) (derivation_of checker.old) (lines_read lines.old) (lines_left lines.old)) }
+        ≡ fault_from (problem_of checker.old) (derivation_of checker.old) (lines_read lines.old)
+        (lines_left lines.old)) }
     ensures refused { OnErr result (IsRefused (problem_of checker.old) (derivation_of checker.new) lines.new
-        (fault_from (problem_of checker.old) (derivation_of checker.old) (lines_read lines.old) (lines_left lines.old))) }
+        (fault_from (problem_of checker.old) (derivation_of checker.old) (lines_read lines.old)
+        (lines_left lines.old))) }
 {
     'reads: while lines.next()? {
         if let Some(fault) = checker.fault_of_line(lines.form, &lines.clause, &lines.numbers) {

@@ -1,5 +1,6 @@
 -- A text has at most one fault besides OutOfMemory, and the text of a table has none.
-use Rattle.std.proofs.Common.{◌≡◌, ◌≢◌, ◌⊎◌, inl, inr, ℕ, ◌+◌, ◌*◌, ◌<◌, ◌≤◌, List, [], length, drop, refl, sym, ap, subst, ◌∙◌, arith}
+use Rattle.std.proofs.Common.{◌≡◌, ◌≢◌, ◌⊎◌, inl, inr, ℕ, ◌+◌, ◌*◌, ◌<◌, ◌≤◌, List, [], length, drop, refl, sym, ap}
+use Rattle.std.proofs.Common.{subst, ◌∙◌, arith}
 use Rattle.std.proofs.lemmas.Bool.{cases_order}
 use Rattle.win_index.specs.Laws.{NumberOfWindow, WindowsHaveNumbers}
 use Rattle.channel_tables.specs.Tables.{ChannelTable, IsBegun, windows_of}
@@ -7,13 +8,15 @@ use Rattle.table_text.specs.declared.version.Version.{Version}
 use Rattle.table_text.specs.TableText.{Written, title_then, end_then, lines_then, text_of}
 use Rattle.table_text.specs.Texts.{IsBegunText, IsWritten}
 use Rattle.table_text.specs.LineForms.{HasTitle, HasSizes, IsEntry, HasEntry, HasEnd}
-use Rattle.table_text.specs.Faults.{IsWithin, IsMalformed, no_title, no_sizes, no_entry, no_end, bytes_after, IsNextWindow, IsFault}
+use Rattle.table_text.specs.Faults.{IsWithin, IsMalformed, no_title, no_sizes, no_entry, no_end, bytes_after}
+use Rattle.table_text.specs.Faults.{IsNextWindow, IsFault}
 use Rattle.table_text.specs.Laws.{OneTableFault, TableTextsAreShort, TableTextsAreRead}
 use Rattle.table_text.specs.declared.limits.TheConstants.{LONGEST_TABLE_TEXT}
 use Rattle.table_text.specs.declared.fault.TableFault.{TableFault}
 use Rattle.table_text.specs.declared.fault.TableFault.TheVariants.{Syntax, WrongWindow, ChannelTooLarge, OutOfMemory}
 use Rattle.table_text.proofs.Headers.{title_once}
-use Rattle.table_text.proofs.TablesOnce.{HasLine, begun_of, entry_once, sizes_of, lines_once, lines_next, tables_once, table_next, line_entry}
+use Rattle.table_text.proofs.TablesOnce.{HasLine, begun_of, entry_once, sizes_of, lines_once, lines_next, tables_once}
+use Rattle.table_text.proofs.TablesOnce.{table_next, line_entry}
 
 -- the fault is one of form, at the offset of the rest
 abbrev IsAt : List ℕ → List ℕ → TableFault → Type 0

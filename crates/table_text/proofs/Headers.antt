@@ -101,7 +101,8 @@ head_once {v = v} {r = r} {i = i} {k = k} {r' = r'} {i' = i'} {k' = k'} {s = s} 
     let title = title_once _ _ _ _ (sym p.lines ∙ q.lines) in
     let moved = title.1 ∙ ap (λ version. sizes_then version r' i' k' s' y) (sym title.0) in
     let told = subst (λ version. IsSeparationOf version s') (sym title.0) q.told in
-    let one = sizes_once v r i k r' i' k' s s' x y (sizes_fit r i k p.sizes) (sizes_fit r' i' k' q.sizes) p.told told moved in
+    let one = sizes_once v r i k r' i' k' s s' x y (sizes_fit r i k p.sizes)
+    (sizes_fit r' i' k' q.sizes) p.told told moved in
     (title.0, one.0, one.1, one.2, one.3, one.4)
 
 -- the first two lines give one shape

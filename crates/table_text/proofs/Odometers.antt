@@ -1,5 +1,6 @@
 -- The window that an odometer shows.
-use Rattle.std.proofs.Common.{◌≡◌, ℕ, ◌+◌, ◌-◌, ◌*◌, ◌<◌, ◌≤◌, List, [], length, length-take, length-take-le, take, take_all, drop, get_or, All, refl, ap, sym, subst, ◌∙◌, arith}
+use Rattle.std.proofs.Common.{◌≡◌, ℕ, ◌+◌, ◌-◌, ◌*◌, ◌<◌, ◌≤◌, List, [], length, length-take, length-take-le, take}
+use Rattle.std.proofs.Common.{take_all, drop, get_or, All, refl, ap, sym, subst, ◌∙◌, arith}
 use Rattle.std.proofs.lemmas.List.{take-take, get_or-take, get_or-drop, length_push}
 use Rattle.std.proofs.lemmas.List.Elements.{All-push, All-from_get_or}
 use Rattle.win_index.specs.Windows.{unused, IsWindow}
@@ -61,7 +62,8 @@ prefix_short o is =
     length-take-le o.front o.order (omega (arith, length-take o.ids o.order, is.order.size, is.from, is.within)) in
     let end : ℕ = get_or o.prefix.ends (length (front_of o)) 0 in
     let text : take end o.prefix.bytes ≡ ids_then (front_of o) [] =
-    is.texts.each (length (front_of o)) (omega arith) ∙ ap (λ l. ids_then l []) (take_all _ (front_of o) (omega arith)) in
+    is.texts.each (length (front_of o)) (omega arith)
+    ∙ ap (λ l. ids_then l []) (take_all _ (front_of o) (omega arith)) in
     omega (
       arith,
       ap length is.text,

@@ -1,9 +1,14 @@
 -- Orders of numbers: what a window with one more number lacks, and the window that follows.
-use Rattle.std.proofs.Common.{◌≡◌, ◌≢◌, ◌⊎◌, ℕ, zero, suc, ◌+◌, ◌-◌, ◌*◌, ◌<◌, ◌≤◌, true, false, cond, not, eqb, List, [], ◌∷◌, ◌++◌, length, get_or, take, drop, set, filter, slice_get, Some, refl, sym, ap, subst, ◌∙◌, arith, add-one, append_assoc, length-append, ⊎_elim, inl, inr}
+use Rattle.std.proofs.Common.{◌≡◌, ◌≢◌, ◌⊎◌, ℕ, zero, suc, ◌+◌, ◌-◌, ◌*◌, ◌<◌, ◌≤◌, true, false, cond, not, eqb, List}
+use Rattle.std.proofs.Common.{[], ◌∷◌, ◌++◌, length, get_or, take, drop, set, filter, slice_get, Some, refl, sym, ap}
+use Rattle.std.proofs.Common.{subst, ◌∙◌, arith, add-one, append_assoc, length-append, ⊎_elim, inl, inr}
 use Rattle.std.specs.List.{range_with_len, remove}
 use Rattle.std.proofs.lemmas.Bool.{not_from_false, eq-eqb, ne_eqb, cases_lt}
 use Rattle.std.proofs.Math.Nat.{suc-mul}
-use Rattle.std.proofs.lemmas.List.{take_at, drop_at, set_at, take_more, take_more_set, take_all, take-take, take-append-drop, drop_more, get_or-take, take-append-le, length-take, length-drop, append_cancel_left, append-nil, get_or-drop, get_or_at, get_or-set_same, get_or-set_other, nil_from_length}
+use Rattle.std.proofs.lemmas.List.{take_at, drop_at, set_at, take_more, take_more_set, take_all, take-take}
+use Rattle.std.proofs.lemmas.List.{take-append-drop, drop_more, get_or-take, take-append-le, length-take, length-drop}
+use Rattle.std.proofs.lemmas.List.{append_cancel_left, append-nil, get_or-drop, get_or_at, get_or-set_same}
+use Rattle.std.proofs.lemmas.List.{get_or-set_other, nil_from_length}
 use Rattle.std.proofs.lemmas.List.Folds.{list_any-append}
 use Rattle.std.proofs.lemmas.Option.{slice_get-get_or, slice_get_within, same_Some}
 use Rattle.win_index.specs.Windows.{is_used, unused, windows, IsWindow}
@@ -207,7 +212,8 @@ ends k m n i x front item at' =
     record {
       place = of.number;
       front_at = of.front_at ∙ ap Some first;
-      number = of.number_is ∙ ap (λ r. of.number * (m - k) + r) ((λ j. length (unused (last j) (first j))) ∙ here.rank_is);
+      number = of.number_is ∙ ap (λ r. of.number * (m - k) + r) ((λ j. length (unused (last j) (first j)))
+          ∙ here.rank_is);
     }
 
 -- a window and that with a later number that its prefix lacks

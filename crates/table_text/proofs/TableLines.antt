@@ -1,5 +1,6 @@
 -- The lines of a begun table, and one more line.
-use Rattle.std.proofs.Common.{◌≡◌, ℕ, ◌<◌, ◌≤◌, List, [], ◌∷◌, ◌++◌, Some, length, slice_get, ◌+◌, sym, ap, ◌∙◌, arith, length-append}
+use Rattle.std.proofs.Common.{◌≡◌, ℕ, ◌<◌, ◌≤◌, List, [], ◌∷◌, ◌++◌, Some, length, slice_get, ◌+◌, sym, ap, ◌∙◌}
+use Rattle.std.proofs.Common.{arith, length-append}
 use Rattle.std.specs.Prelude.{codes}
 use Rattle.std.specs.Fmt.{decimal}
 use Rattle.std.proofs.lemmas.List.Elements.{All-cons, All-nil}
@@ -8,7 +9,8 @@ use Rattle.channel_tables.specs.declared.separation.Separation.{Separation}
 use Rattle.channel_tables.proofs.Tables.{begun_with}
 use Rattle.table_text.specs.declared.version.Version.{Version}
 use Rattle.table_text.specs.declared.version.Version.TheVariants.{One, Two}
-use Rattle.table_text.specs.TableText.{Written, written, title_then, counts_then, counts_end, distances_then, sizes_then, ids_then, entry_then, entries_then, end_then, head_then, lines_then}
+use Rattle.table_text.specs.TableText.{Written, written, title_then, counts_then, counts_end, distances_then}
+use Rattle.table_text.specs.TableText.{sizes_then, ids_then, entry_then, entries_then, end_then, head_then, lines_then}
 use Rattle.table_text.specs.Faults.{IsMalformed, no_title, no_sizes, no_entry, no_end, bytes_after}
 
 -- a table with one more entry

@@ -8,14 +8,16 @@ use Rattle.table_text.specs.Faults.{IsMalformed}
 use Rattle.table_text.proofs.TableLines
 
 -- the lines of a begun table, followed by the line of the next entry, are those of the table with that entry
-pub lines_more : (version : Version) (t : ChannelTable) (s : Separation) (text here window : List ℕ) (channel : ℕ) (rest : List ℕ)
+pub lines_more : (version : Version) (t : ChannelTable) (s : Separation) (text here window : List ℕ) (channel : ℕ)
+    (rest : List ℕ)
     → text ≡ lines_then (written version t s) here → slice_get (windows_of t) (length t.entries) ≡ Some window
     → here ≡ entry_then window channel rest
     → text ≡ lines_then (written version (record t { entries = t.entries ++ channel ∷ [] }) s) rest
 lines_more = TableLines.lines_more
 
 -- a begun table with one more entry is begun
-pub begun_more : (t : ChannelTable) (channel : ℕ) → IsBegun t → length t.entries < length (windows_of t) → channel < t.channels
+pub begun_more : (t : ChannelTable) (channel : ℕ) → IsBegun t → length t.entries < length (windows_of t)
+    → channel < t.channels
     → IsBegun (record t { entries = t.entries ++ channel ∷ [] })
 begun_more = TableLines.begun_more
 

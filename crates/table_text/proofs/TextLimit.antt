@@ -1,5 +1,6 @@
 -- The text of a table is within the limit.
-use Rattle.std.proofs.Common.{◌≡◌, ℕ, zero, suc, ◌+◌, ◌*◌, ◌^◌, ◌<◌, ◌≤◌, List, [], ◌∷◌, ◌++◌, length, get_or, inl, inr, sym, arith, length-append}
+use Rattle.std.proofs.Common.{◌≡◌, ℕ, zero, suc, ◌+◌, ◌*◌, ◌^◌, ◌<◌, ◌≤◌, List, [], ◌∷◌, ◌++◌, length, get_or, inl, inr}
+use Rattle.std.proofs.Common.{sym, arith, length-append}
 use Rattle.std.specs.Prelude.{codes, All}
 use Rattle.std.specs.Fmt.{decimal}
 use Rattle.std.proofs.Math.Nat.{mul-le-mul}
@@ -15,7 +16,8 @@ use Rattle.channel_tables.specs.Tables.{ChannelTable, IsBegun, windows_of}
 use Rattle.channel_tables.specs.declared.separation.Separation.{Separation}
 use Rattle.table_text.specs.declared.version.Version.{Version}
 use Rattle.table_text.specs.declared.version.Version.TheVariants.{One, Two}
-use Rattle.table_text.specs.TableText.{Written, counts_then, counts_end, distances_then, ids_then, entry_then, entries_then, end_then, head_then, lines_then, text_of}
+use Rattle.table_text.specs.TableText.{Written, counts_then, counts_end, distances_then, ids_then, entry_then}
+use Rattle.table_text.specs.TableText.{entries_then, end_then, head_then, lines_then, text_of}
 use Rattle.table_text.specs.LineForms.{AreSizes, IsSeparationOf}
 use Rattle.table_text.specs.Texts.{IsBegunText}
 use Rattle.table_text.specs.Laws.{TableTextsAreShort}

@@ -6,7 +6,8 @@ use Rattle.channel_tables.specs.Tables.{windows_of}
 use Rattle.channel_tables.specs.declared.separation.Separation.{Separation}
 use Rattle.table_text.specs.declared.version.Version.{Version}
 use Rattle.table_text.specs.declared.version.Version.TheVariants.{One, Two}
-use Rattle.table_text.specs.TableText.{Written, title_then, counts_then, counts_end, distances_then, sizes_then, ids_then, entry_then, entries_then, end_then, head_then, lines_then, text_of}
+use Rattle.table_text.specs.TableText.{Written, title_then, counts_then, counts_end, distances_then, sizes_then}
+use Rattle.table_text.specs.TableText.{ids_then, entry_then, entries_then, end_then, head_then, lines_then, text_of}
 use Rattle.table_text.specs.Laws.{TableTextsAreApart}
 use Rattle.table_text.proofs.TablesOnce.{tables_once}
 

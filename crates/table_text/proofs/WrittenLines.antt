@@ -1,16 +1,19 @@
 -- The lines of a table, written one after another.
-use Rattle.std.proofs.Common.{◌≡◌, ℕ, zero, suc, add-one, ◌*◌, ◌+◌, ◌-◌, ◌<◌, ◌≤◌, drop, List, [], ◌∷◌, ◌++◌, Some, length, take, get_or, slice_get, refl, sym, ap, ◌∙◌, arith, append_assoc}
+use Rattle.std.proofs.Common.{◌≡◌, ℕ, zero, suc, add-one, ◌*◌, ◌+◌, ◌-◌, ◌<◌, ◌≤◌, drop, List, [], ◌∷◌, ◌++◌, Some}
+use Rattle.std.proofs.Common.{length, take, get_or, slice_get, refl, sym, ap, ◌∙◌, arith, append_assoc}
 use Rattle.std.specs.Fmt.{decimal}
 use Rattle.std.specs.Int.{div_ceil}
 use Rattle.std.specs.Prelude.{flat_map}
 use Rattle.std.proofs.lemmas.Grind.{div_ceil_times}
 use Rattle.std.proofs.Math.Nat.{suc-mul, zero-mul, mul-le-mul_right}
-use Rattle.std.proofs.lemmas.List.{take-take, drop-take, length-take, length-drop, get_or-drop, drop-drop, drop_all, take_all}
+use Rattle.std.proofs.lemmas.List.{take-take, drop-take, length-take, length-drop, get_or-drop, drop-drop}
+use Rattle.std.proofs.lemmas.List.{drop_all, take_all}
 use Rattle.std.proofs.lemmas.Option.{none-some, same_Some, slice_get-get_or, slice_get_within, get_or_from_slice_get}
 use Rattle.channel_tables.specs.Tables.{ChannelTable, windows_of}
 use Rattle.channel_tables.specs.declared.separation.Separation.{Separation}
 use Rattle.table_text.specs.declared.version.Version.TheVariants.{Two}
-use Rattle.table_text.specs.TableText.{written, ids_then, entry_then, entries_then, end_then, head_then, lines_then, text_of, table_text}
+use Rattle.table_text.specs.TableText.{written, ids_then, entry_then, entries_then, end_then, head_then, lines_then}
+use Rattle.table_text.specs.TableText.{text_of, table_text}
 use Rattle.table_text.specs.Sections.{lines_from, AreFilled}
 use Rattle.table_text.specs.Pieces.{id_text, channel_text}
 use Rattle.table_text.proofs.TextsApart.{ids_append, entry_append, entries_append, head_append, lines_append}
@@ -95,7 +98,9 @@ section_more t s first size enough =
     let front : take first cs ≡ take first t.entries = take-take first (first + size) t.entries (omega arith) in
     let rest : drop first cs ≡ take size (drop first t.entries) = drop-take first size t.entries in
     lines_append (written Two (front_of t first) s) [] (lines_from t first size)
-    ∙ ap (head_then (written Two t s)) (sym (entries_split first ws cs [] short ∙ (λ i. entries_then ws (front i) (entries_then (drop first ws) (rest i) []))))
+    ∙ ap (head_then (written Two t s))
+    (sym (entries_split first ws cs [] short
+    ∙ (λ i. entries_then ws (front i) (entries_then (drop first ws) (rest i) []))))
 
 -- the text of a table begins with the lines of its first entries
 pub lines_front : (t : ChannelTable) (s : Separation) (n : ℕ) → length t.entries ≤ length (windows_of t)
@@ -153,7 +158,8 @@ pub filled_lines : (t : ChannelTable) (first size : ℕ) (chunks : List (List �
     flat_map (λ chunk. chunk) chunks ≡ lines_from t first (length chunks * size)
 filled_lines t first size [] enough filled = sym (ap (lines_from t first) (zero-mul size))
 filled_lines t first size (chunk ∷ chunks) enough filled =
-    let own : chunk ≡ lines_from t first size = filled 0 [] (omega arith) ∙ ap (λ n. lines_from t n size) (omega arith) in
+    let own : chunk ≡ lines_from t first size =
+    filled 0 [] (omega arith) ∙ ap (λ n. lines_from t n size) (omega arith) in
     let others = filled_lines t (first + size) size chunks enough
     (λ k d lt. filled (suc k) d (omega (arith, lt)) ∙ ap (λ n. lines_from t n size) (omega (arith, suc-mul k size))) in
     (λ i. own i ++ others i) ∙ lines_join t first size (length chunks * size) enough

@@ -37,7 +37,8 @@ HasSizes version text =
     × IsSeparationOf version s × (text ≡ sizes_then version rounds ids channels s rest)
 
 -- the text is the first two lines of this version with these numbers and this separation, followed by the rest
-pub record IsHead (version : Version) (text : List ℕ) (rounds ids channels : ℕ) (s : Separation) (rest : List ℕ) : Type 0 where
+pub record IsHead (version : Version) (text : List ℕ) (rounds ids channels : ℕ) (s : Separation)
+    (rest : List ℕ) : Type 0 where
   pub sizes : AreSizes rounds ids channels
   pub told : IsSeparationOf version s
   pub lines : text ≡ title_then version (sizes_then version rounds ids channels s rest)

@@ -1,5 +1,6 @@
 -- The window that an odometer shows. No public contract cites this file.
-use Rattle.std.specs.Prelude.{◌≡◌, ℕ, ◌+◌, ◌*◌, ◌<◌, ◌≤◌, List, [], ◌∷◌, ◌++◌, Some, length, take, slice_get, slice_index}
+use Rattle.std.specs.Prelude.{◌≡◌, ℕ, ◌+◌, ◌*◌, ◌<◌, ◌≤◌, List, [], ◌∷◌, ◌++◌, Some, length, take}
+use Rattle.std.specs.Prelude.{slice_get, slice_index}
 use Rattle.node_program.specs.declared.limits.TheConstants.{MAX_CHANNELS}
 use Rattle.win_index.specs.declared.limits.TheConstants.{MAX_IDS, MAX_WINDOW_LEN}
 use Rattle.win_index.specs.Windows.{windows}
@@ -22,8 +23,8 @@ last_of o = slice_index o.order o.last
 abbrev pub window_of : Odometer → List ℕ
 window_of o = front_of o ++ last_of o ∷ []
 
--- The identifiers are an order with its places, the last one of the window is one that its prefix lacks, and the text of
--- the prefix is written.
+-- The identifiers are an order with its places, the last one of the window is one that its prefix lacks, and the
+-- text of the prefix is written.
 pub record IsOdometer (o : Odometer) : Type 0 where
   pub few : o.ids ≤ MAX_IDS
   pub short : o.front < MAX_WINDOW_LEN

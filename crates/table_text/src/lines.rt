@@ -66,8 +66,10 @@ pub(crate) fn after_end(text: &[u8]) -> Option<&[u8]>
 // `end`, and the text after that byte.
 fn three_counts(text: &[u8], end: u8) -> Option<(HeaderCounts, &[u8])>
     requires { end < 48 }
-    ensures counts { IfSome result (λ read. text.now ≡ counts_then read.0.rounds read.0.ids read.0.channels end read.1.now) }
-    ensures fit { IfSome result (λ read. (read.0.rounds < 2 ^ 32) × (read.0.ids < 2 ^ 32) × (read.0.channels < 2 ^ 32)) }
+    ensures counts { IfSome result
+        (λ read. text.now ≡ counts_then read.0.rounds read.0.ids read.0.channels end read.1.now) }
+    ensures fit { IfSome result (λ read. (read.0.rounds < 2 ^ 32) × (read.0.ids < 2 ^ 32)
+        × (read.0.channels < 2 ^ 32)) }
     ensures none { IfNone result ((rounds ids channels : ℕ) (rest : List ℕ) → rounds < 2 ^ 32 → ids < 2 ^ 32
         → channels < 2 ^ 32 → text.now ≡ counts_then rounds ids channels end rest → ⊥) }
 {
@@ -105,7 +107,8 @@ fn shape_of(counts: HeaderCounts) -> Option<Shape>
 fn two_distances(text: &[u8]) -> Option<(Separation, &[u8])>
     ensures told { IfSome result (λ read. IsSeparationOf Version.Two read.0) }
     ensures distances { IfSome result (λ read. text.now ≡ distances_then Version.Two read.0 read.1.now) }
-    ensures none { IfNone result ((s : Separation) (rest : List ℕ) → IsSeparationOf Version.Two s → text.now ≡ distances_then Version.Two s rest → ⊥) }
+    ensures none { IfNone result ((s : Separation) (rest : List ℕ) → IsSeparationOf Version.Two s
+        → text.now ≡ distances_then Version.Two s rest → ⊥) }
 {
     let (near, rest) = field(text, b"near ", b' ')?;
     let (far, rest) = field(rest, b"far ", b'\n')?;
@@ -126,7 +129,8 @@ fn two_distances(text: &[u8]) -> Option<(Separation, &[u8])>
 fn separation_in(version: Version, text: &[u8]) -> Option<(Separation, &[u8])>
     ensures told { IfSome result (λ read. IsSeparationOf version read.0) }
     ensures distances { IfSome result (λ read. text.now ≡ distances_then version read.0 read.1.now) }
-    ensures none { IfNone result ((s : Separation) (rest : List ℕ) → IsSeparationOf version s → text.now ≡ distances_then version s rest → ⊥) }
+    ensures none { IfNone result ((s : Separation) (rest : List ℕ) → IsSeparationOf version s
+        → text.now ≡ distances_then version s rest → ⊥) }
 {
     match version {
         Version::One => Some((Separation { near: 1, far: 0 }, text)),
@@ -239,7 +243,8 @@ fn after_prefix<'a>(text: &'a [u8], prefix: &LinePrefix) -> Option<&'a [u8]>
 // is not seen at once.
 fn known_channel<'a>(ends: &[Piece], text: &'a [u8]) -> Option<(u32, &'a [u8])>
     requires { AreTexts channel_text ends.now }
-    ensures { IfSome result (λ read. (read.0 < length ends.now) × (text.entry.now ≡ channel_text read.0 ++ read.1.now)) }
+    ensures { IfSome result (λ read. (read.0 < length ends.now)
+        × (text.entry.now ≡ channel_text read.0 ++ read.1.now)) }
 {
     if text.len() < 8 {
         return None;
@@ -256,7 +261,8 @@ fn known_channel<'a>(ends: &[Piece], text: &'a [u8]) -> Option<(u32, &'a [u8])>
 // odometer's window, and that is seen at once from the pieces that are written for it.
 fn known_line<'a>(odometer: &Odometer, pieces: &Pieces, text: &'a [u8]) -> Option<(u32, &'a [u8])>
     requires { HasPieces odometer.now pieces.now }
-    ensures { IfSome result (λ read. IsEntry (length (window_of odometer.now)) text.entry.now (window_of odometer.now) read.0 read.1.now) }
+    ensures { IfSome result (λ read. IsEntry (length (window_of odometer.now)) text.entry.now
+        (window_of odometer.now) read.0 read.1.now) }
 {
     let ids: &[Piece] = &pieces.ids;
     let more = after_prefix(text, &odometer.prefix)?;

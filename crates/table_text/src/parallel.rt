@@ -1,6 +1,7 @@
 //! Writing the text of a table whose lines are made by threads.
 
-ghost use Rattle.std.specs.Prelude.{◌≡◌, ℕ, ◌+◌, ◌*◌, ◌^◌, ◌<◌, ◌≤◌, List, [], false, length, vec_len, slice_index_or, IfOk, OnOk, flat_map};
+ghost use Rattle.std.specs.Prelude.{◌≡◌, ℕ, ◌+◌, ◌*◌, ◌^◌, ◌<◌, ◌≤◌, List, [], false, length, vec_len, slice_index_or};
+ghost use Rattle.std.specs.Prelude.{IfOk, OnOk, flat_map};
 ghost use Rattle.devices.specs.Output.{SendsText, WritesText};
 ghost use Rattle.devices.specs.Watched.{device_of, has_failed};
 ghost use Rattle.channel_tables.specs.Tables.{windows_of};
@@ -39,7 +40,8 @@ pub fn write_table_with_workers<R: Threads + Sync, W: Write>(
 ) -> Result<(), OutFault>
     requires separation { IsSeparation separation }
     requires writes { has_failed writer.old ≡ false }
-    ensures { WritesText (table_text table.now separation) (W.contents (device_of writer.old)) (W.contents (device_of writer.new)) (has_failed writer.new) result }
+    ensures { WritesText (table_text table.now separation) (W.contents (device_of writer.old))
+        (W.contents (device_of writer.new)) (has_failed writer.new) result }
 {
     let shape = table.shape();
     if workers < 2 || shape.count(shape.rounds()) < MIN_LINES {

@@ -1,6 +1,7 @@
 //! Reading a table text, line by line.
 
-ghost use Rattle.std.specs.Prelude.{◌≡◌, ◌<◌, ◌≤◌, ℕ, true, false, length, MatchResult, IfOk, OnOk, IfErr, IfSome, IfNone};
+ghost use Rattle.std.specs.Prelude.{◌≡◌, ◌<◌, ◌≤◌, ℕ, true, false, length, MatchResult, IfOk, OnOk, IfErr};
+ghost use Rattle.std.specs.Prelude.{IfSome, IfNone};
 ghost use Rattle.channel_tables.specs.declared.separation.Separation.{Separation};
 ghost use Rattle.channel_tables.specs.Tables.{ChannelTable, IsTable};
 ghost use Rattle.table_text.specs.TableText.{written, lines_then, text_of};
@@ -50,7 +51,8 @@ pub fn read_table(alloc: Global, text: &[u8]) -> Result<(Table, Separation), Tab
 /// their form.
 pub fn shape_in(text: &[u8]) -> Option<Shape>
     ensures shape { IfSome result (λ shape. HasShape text.now shape.rounds shape.ids) }
-    ensures one { IfSome result (λ shape. (rounds ids : ℕ) → HasShape text.now rounds ids → (rounds ≡ shape.rounds) × (ids ≡ shape.ids)) }
+    ensures one { IfSome result (λ shape. (rounds ids : ℕ) → HasShape text.now rounds ids
+        → (rounds ≡ shape.rounds) × (ids ≡ shape.ids)) }
     ensures none { IfNone result ((rounds ids : ℕ) → ¬ HasShape text.now rounds ids) }
 {
     let (version, second) = after_title(text)?;
@@ -107,9 +109,11 @@ fn entries<'a>(
     start: &'a [u8],
 ) -> Result<(Table, &'a [u8]), TableFault>
     requires short { length text.now ≤ LONGEST_TABLE_TEXT }
-    requires head { IsHead version text.now header.shape.rounds header.shape.ids header.channels header.separation start.now }
+    requires head { IsHead version text.now header.shape.rounds header.shape.ids header.channels
+        header.separation start.now }
     ensures table { IfOk result (λ read. IsTable read.0) }
-    ensures lines { IfOk result (λ read. text.entry.now ≡ lines_then (written version read.0 header.separation) read.1.now) }
+    ensures lines { IfOk result
+        (λ read. text.entry.now ≡ lines_then (written version read.0 header.separation) read.1.now) }
     ensures fault { IfErr result (IsFault text.entry.now) }
 {
     let Ok(mut maker) = TableMaker::new(alloc, header.shape, header.channels) else {

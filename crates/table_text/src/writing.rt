@@ -34,7 +34,8 @@ pub fn write_table<W: Write>(
 ) -> Result<(), OutFault>
     requires separation { IsSeparation separation }
     requires writes { has_failed writer.old ≡ false }
-    ensures { WritesText (table_text table.now separation) (W.contents (device_of writer.old)) (W.contents (device_of writer.new)) (has_failed writer.new) result }
+    ensures { WritesText (table_text table.now separation) (W.contents (device_of writer.old))
+        (W.contents (device_of writer.new)) (has_failed writer.new) result }
 {
     let text = first_lines(alloc, table, separation)?;
     let pieces = pieces_of(alloc, table.shape().ids(), table.channels())?;
@@ -78,7 +79,8 @@ fn write_lines<W: Write>(
     requires working { has_failed writer.old ≡ false }
     requires first { chunk.old ≡ head_then (written Two table.now separation) [] }
     requires pieces { ArePieces table.now.ids table.now.channels pieces.now }
-    ensures { SendsText (table_text table.now separation) (W.contents (device_of writer.old)) (W.contents (device_of writer.new)) (has_failed writer.new) result }
+    ensures { SendsText (table_text table.now separation) (W.contents (device_of writer.old))
+        (W.contents (device_of writer.new)) (has_failed writer.new) result }
 {
     let lines = Lines::new(table, pieces);
     let count = lines.count();

@@ -1,13 +1,15 @@
 -- The states of windows after a round, from their first two parts and from messages from the right, if the round reads
 -- these.
-use Rattle.std.proofs.Common.{◌≡◌, inl, ⊎_elim, ℕ, ◌+◌, ◌*◌, ◌<◌, ◌≤◌, true, false, List, [], length, map, take, get_or, sym, subst, ap, ◌∙◌, arith}
+use Rattle.std.proofs.Common.{◌≡◌, inl, ⊎_elim, ℕ, ◌+◌, ◌*◌, ◌<◌, ◌≤◌, true, false, List, [], length, map, take, get_or}
+use Rattle.std.proofs.Common.{sym, subst, ap, ◌∙◌, arith}
 use Rattle.std.proofs.lemmas.Bool.{false≢true, cases_Bool}
 use Rattle.std.specs.List.{range_with_len}
 use Rattle.node_program.specs.Node.{next}
 use Rattle.unroll.specs.States.{AreRewritten}
 use Rattle.round_eval.specs.WindowLaws.{PartsAreJoined}
 use Rattle.unroll.specs.Parts.{window_in}
-use Rattle.unroll.specs.WideColumns.{part_state, left_message, right_message, state_in, AreWritten, HasFronts, HoldFronts, HoldLasts}
+use Rattle.unroll.specs.WideColumns.{part_state, left_message, right_message, state_in, AreWritten, HasFronts}
+use Rattle.unroll.specs.WideColumns.{HoldFronts, HoldLasts}
 use Rattle.unroll.specs.declared.scratch.Scratch.{Scratch}
 use Rattle.unroll.specs.declared.run.Run.{Run}
 use Rattle.unroll.specs.declared.upper_block.UpperBlock.{UpperBlock}
@@ -22,12 +24,14 @@ with_last :
 with_last block count i sent own left lasts lt =
     ⊎_elim (λ (reads : block.reads_right ≡ true). ap (next block.plan.now.program block.below own left) (lasts reads i lt))
     (λ (none : block.reads_right ≡ false).
-    round_ignores block.plan.now.program block.below (sym block.reads ∙ none) own left (get_or sent i 0) (right_message block i))
+    round_ignores block.plan.now.program block.below (sym block.reads ∙ none) own left (get_or sent i 0)
+    (right_message block i))
     (cases_Bool block.reads_right)
 
 -- so the states of all windows follow from their parts in columns
 pub states_in_columns :
-    PartsAreJoined → (block : UpperBlock) (count : ℕ) (scratch : Scratch) (made : List (List ℕ)) → block.once_a_run ≡ false
+    PartsAreJoined → (block : UpperBlock) (count : ℕ) (scratch : Scratch) (made : List (List ℕ))
+    → block.once_a_run ≡ false
     → count ≤ length made → HoldFronts block count scratch → HoldLasts block count scratch.from_right.items
     → ((i : ℕ) → i < count → get_or made i [] ≡ next block.plan.now.program block.below (get_or scratch.own.states i [])
     (get_or scratch.from_left.items i 0) (get_or scratch.from_right.items i 0))
@@ -38,7 +42,8 @@ states_in_columns joined block count scratch made each fits held lasts stepped =
     take_states count made (state_in block) fits
     (λ i lt.
     stepped i lt
-    ∙ with_last block count i scratch.from_right.items (get_or scratch.own.states i []) (get_or scratch.from_left.items i 0) lasts lt
+    ∙ with_last block count i scratch.from_right.items (get_or scratch.own.states i [])
+    (get_or scratch.from_left.items i 0) lasts lt
     ∙ (λ j. next p low (held.own each i lt j) (held.left each i lt j) (right_message block i))
     ∙ sym (joined p low (window_in block i) (held.sizes i lt)))
 
@@ -62,18 +67,21 @@ filled old new from count state size fits written =
 
 -- the windows of a run, after those before them
 module _
-    (block : UpperBlock) (run : Run) (from count end : ℕ) (sum : from + count ≡ end) (old now : Scratch) (held : HoldFronts block from old)
+    (block : UpperBlock) (run : Run) (from count end : ℕ) (sum : from + count ≡ end) (old now : Scratch)
+    (held : HoldFronts block from old)
     (fronts : (i : ℕ) → from ≤ i → i < end → HasFronts block run i)
   where
     later : (i : ℕ) → i < count → HasFronts block run (from + i)
     later i lt = fronts (from + i) (omega arith) (omega (arith, sum, lt))
 
     sizes_more : (i : ℕ) → i < from + count → length (window_in block i) ≡ 2 * block.below + 3
-    sizes_more = below_sum (λ i. length (window_in block i) ≡ 2 * block.below + 3) from count held.sizes (λ i lt. (later i lt).size)
+    sizes_more = below_sum (λ i. length (window_in block i) ≡ 2 * block.below + 3) from count held.sizes
+        (λ i lt. (later i lt).size)
 
     -- in columns
     pub columns_more :
-        block.once_a_run ≡ false → AreWritten ℕ 0 old.from_left.items now.from_left.items from count (λ _. run.first.sent)
+        block.once_a_run ≡ false
+        → AreWritten ℕ 0 old.from_left.items now.from_left.items from count (λ _. run.first.sent)
         → length now.own.states ≡ length old.own.states → from + count ≤ length old.own.states
         → AreRewritten old.own.states now.own.states from count (λ _. run.own.now) → HoldFronts block end now
     columns_more each lefts size fits owns =
@@ -83,7 +91,8 @@ module _
           left = λ _. held_more ℕ 0 from count old.from_left.items now.from_left.items (λ _. run.first.sent)
               (left_message block) (held.left each) lefts (λ i lt. (later i lt).left);
           own = λ _. held_more (List ℕ) [] from count old.own.states now.own.states (λ _. run.own.now)
-              (part_state block 1) (held.own each) (filled old.own.states now.own.states from count run.own.now size fits owns)
+              (part_state block 1) (held.own each)
+              (filled old.own.states now.own.states from count run.own.now size fits owns)
               (λ i lt. (later i lt).own);
           states = λ once. absurd (false≢true (sym each ∙ once));
         })

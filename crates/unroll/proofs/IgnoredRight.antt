@@ -1,10 +1,12 @@
 -- A round whose assignments do not read the message from the right does not depend on it.
-use Rattle.std.proofs.Common.{◌≡◌, ℕ, false, ◌||◌, List, [], ◌∷◌, map, Option, None, Some, slice_get, refl, sym, ap, ◌∙◌}
+use Rattle.std.proofs.Common.{◌≡◌, ℕ, false, ◌||◌, List, [], ◌∷◌, map, Option, None, Some, slice_get, refl, sym}
+use Rattle.std.proofs.Common.{ap, ◌∙◌}
 use Rattle.std.proofs.lemmas.Bool.{false≢true, or_parts}
 use Rattle.std.specs.List.{list_any}
 use Rattle.node_program.specs.Node.{reading_messages, assigned_values, next}
 use Rattle.node_program.specs.Operations.{unary_value}
-use Rattle.node_program.specs.Term.{Term, Literal, Identifier, LeftMessage, RightMessage, RegisterValue, One, Two, Choose, Round, ProgramTree, term_of, step_of}
+use Rattle.node_program.specs.Term.{Term, Literal, Identifier, LeftMessage, RightMessage, RegisterValue, One, Two}
+use Rattle.node_program.specs.Term.{Choose, Round, ProgramTree, term_of, step_of}
 use Rattle.node_program.specs.declared.tree.Round as code
 use Rattle.node_program.specs.Value.{value}
 use Rattle.node_program.specs.declared.tree.Expr.{Expr}
@@ -12,7 +14,8 @@ use Rattle.unroll.specs.RightReads.{reads_right, assignments_read_right, round_r
 
 -- the value of an expression that does not read the message from the right, with two such messages
 module _ (own : List ℕ) (left right other : ℕ) where
-  value_ignores : (e : Term) → reads_right e ≡ false → value e (reading_messages own left right) ≡ value e (reading_messages own left other)
+  value_ignores : (e : Term) → reads_right e ≡ false
+      → value e (reading_messages own left right) ≡ value e (reading_messages own left other)
   value_ignores (Literal n) none = refl
   value_ignores Identifier none = refl
   value_ignores LeftMessage none = refl
@@ -30,14 +33,16 @@ module _ (own : List ℕ) (left right other : ℕ) where
   -- the values of several such expressions, and so the assignments of a round
   values_ignore :
       (es : List Term) → list_any reads_right es ≡ false
-      → map (λ e. value e (reading_messages own left right)) es ≡ map (λ e. value e (reading_messages own left other)) es
+      → map (λ e. value e (reading_messages own left right)) es
+      ≡ map (λ e. value e (reading_messages own left other)) es
   values_ignore [] none = refl
   values_ignore (e ∷ es) none =
       let both = or_parts (reads_right e) (list_any reads_right es) none in
       λ i. value_ignores e both.0 i ∷ values_ignore es both.1 i
 
   assigned_ignore :
-      (round : Option Round) → assignments_read_right round ≡ false → assigned_values round own left right ≡ assigned_values round own left other
+      (round : Option Round) → assignments_read_right round ≡ false
+      → assigned_values round own left right ≡ assigned_values round own left other
   assigned_ignore None none = refl
   assigned_ignore (Some round) none = values_ignore round.next none
 

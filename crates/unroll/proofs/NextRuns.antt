@@ -13,7 +13,8 @@ use Rattle.unroll.specs.Parts.{window_in, EndsAt, IsAtIndex}
 use Rattle.unroll.specs.declared.upper_block.UpperBlock.{UpperBlock}
 use Rattle.unroll.proofs.Known.{window_at}
 
--- the middle part of a window is its prefix without the first identifier; the prefix of its last part lacks the first two
+-- the middle part of a window is its prefix without the first identifier; the prefix of its last part lacks the
+-- first two
 pub middle_at :
     (m low : ℕ) (w : List ℕ) (prefix : RunPrefix) → HasNumbers (2 * low + 2) m (take (2 * low + 2) w) prefix
     → slice_get (windows (2 * low + 1) m) prefix.middle ≡ Some (part w low 1)
@@ -45,13 +46,15 @@ module _
     last_has : HasNumbers (2 * block.below + 2) block.plan.now.ids (take (2 * block.below + 2) end.0) prefix
     last_has = grind (arith, end.2.same, has)
 
-    pub next_run : (next : RunPrefix) → IsPrefixOfNextRun (2 * block.below + 2) block.plan.now.ids prefix next → NextRun block after next
+    pub next_run : (next : RunPrefix) → IsPrefixOfNextRun (2 * block.below + 2) block.plan.now.ids prefix next
+        → NextRun block after next
     next_run next steps =
         let m = block.plan.now.ids in
         let low = block.below in
         let begins = steps end.0 last_is greatest last_has in
         let follows = begins.follows (BLOCK_WINDOWS * block.number + (after - 1)) (grind (arith, end.1)) in
-        let here : slice_get (windows (2 * (low + 1) + 1) m) (BLOCK_WINDOWS * block.number + after) ≡ Some begins.window = grind (arith, follows, some) in
+        let here : slice_get (windows (2 * (low + 1) + 1) m) (BLOCK_WINDOWS * block.number + after)
+        ≡ Some begins.window = grind (arith, follows, some) in
         let own = window_at m (low + 1) (BLOCK_WINDOWS * block.number + after) begins.window here in
         record {
           at' = record {
@@ -64,21 +67,26 @@ module _
     -- so there is a next run
     pub some_run_follows : IsPrefixOfLastRun (2 * block.below + 2) block.plan.now.ids prefix → ⊥
     some_run_follows ends =
-        let all = ends end.0 last_is greatest last_has (BLOCK_WINDOWS * block.number + (after - 1)) (grind (arith, end.1)) in
-        let whole : BLOCK_WINDOWS * block.number + (after - 1) + 1 ≡ length (windows (2 * (block.below + 1) + 1) block.plan.now.ids) = grind (arith, all) in
+        let all = ends end.0 last_is greatest last_has (BLOCK_WINDOWS * block.number + (after - 1))
+        (grind (arith, end.1)) in
+        let whole : BLOCK_WINDOWS * block.number + (after - 1) + 1
+        ≡ length (windows (2 * (block.below + 1) + 1) block.plan.now.ids) = grind (arith, all) in
         omega (arith, whole, inside, some)
 
 -- the position of the window at an index in its run
 pub record IsPlaced (block : UpperBlock) (index place : ℕ) : Type 0 where
-  pub place_is : place_in_run (2 * block.below + 1) (window_in block index) (get_or (window_in block index) (2 * block.below + 2) 0) ≡ place
+  pub place_is : place_in_run (2 * block.below + 1) (window_in block index)
+      (get_or (window_in block index) (2 * block.below + 2) 0) ≡ place
   pub inside : place < place_in_run (2 * block.below + 1) (window_in block index) block.plan.now.ids
 
 -- that of the first window of a run
 pub first_place :
     (block : UpperBlock) (index place : ℕ) (prefix : RunPrefix) (places : RunPlaces) → NextRun block index prefix
     → HasPlaces (2 * block.below + 1) block.plan.now.ids (window_in block index) places
-    → ((k m : ℕ) (window : List ℕ) → 1 ≤ k → IsWindow (k + 2) m window → HasPlaces k m window places → IsFirstOfRun (k + 1) m window → IsAtPlace k m places window place)
-    → ((k m : ℕ) (window : List ℕ) → 1 ≤ k → IsWindow (k + 2) m window → HasPlaces k m window places → IsFirstOfRun (k + 1) m window → place < places.end)
+    → ((k m : ℕ) (window : List ℕ) → 1 ≤ k → IsWindow (k + 2) m window → HasPlaces k m window places
+    → IsFirstOfRun (k + 1) m window → IsAtPlace k m places window place)
+    → ((k m : ℕ) (window : List ℕ) → 1 ≤ k → IsWindow (k + 2) m window → HasPlaces k m window places
+    → IsFirstOfRun (k + 1) m window → place < places.end)
     → IsPlaced block index place
 first_place block index place prefix places run has at_first within =
     let m = block.plan.now.ids in

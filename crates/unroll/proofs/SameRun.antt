@@ -18,7 +18,8 @@ use Rattle.win_index.proofs.Windows.{number_of_is}
 
 -- the positions of a run follow from the prefix of its windows
 pub same_places :
-    (m low : ℕ) (w v : List ℕ) (places : RunPlaces) → take (2 * low + 2) w ≡ take (2 * low + 2) v → HasPlaces (2 * low + 1) m w places
+    (m low : ℕ) (w v : List ℕ) (places : RunPlaces) → take (2 * low + 2) w ≡ take (2 * low + 2) v
+    → HasPlaces (2 * low + 1) m w places
     → HasPlaces (2 * low + 1) m v places
 same_places m low w v places same has =
     let front : take (2 * low + 1 + 1) w ≡ take (2 * low + 1 + 1) v = grind (arith, same) in
@@ -34,7 +35,8 @@ module _ (plan : ProgramForIds) (old now : Entries) (low : ℕ) (grows : Grows o
   pub first_grows : (first : FirstPart) → IsFirstPart plan old low first → IsFirstPart plan now low first
   first_grows first is = record { sent_is = is.sent_is; known = still_known old now low (first.number / BLOCK_WINDOWS) grows is.known }
 
-  pub same_run : (w v : List ℕ) (run : Run) → take (2 * low + 2) w ≡ take (2 * low + 2) v → IsRun plan old low w run → IsRun plan now low v run
+  pub same_run : (w v : List ℕ) (run : Run) → take (2 * low + 2) w ≡ take (2 * low + 2) v → IsRun plan old low w run
+      → IsRun plan now low v run
   same_run w v run same is =
       let left : part w low 0 ≡ part v low 0 = grind (arith, take-take, ap (take (2 * low + 1)) same) in
       let middle : part w low 1 ≡ part v low 1 = grind (arith, drop-take, same) in
@@ -50,10 +52,13 @@ module _ (plan : ProgramForIds) (old now : Entries) (low : ℕ) (grows : Grows o
       }
 
 -- the first parts of a run's windows
-module _ (plan : ProgramForIds) (entries : Entries) (low : ℕ) (w : List ℕ) (run : Run) (is : IsRun plan entries low w run) where
+module _ (plan : ProgramForIds) (entries : Entries) (low : ℕ) (w : List ℕ) (run : Run)
+    (is : IsRun plan entries low w run) where
   pub left_is : run.first.sent ≡ to_right plan.program low (middle_state plan.program low (part w low 0))
   left_is = rw (window_at plan.ids low run.first.number (part w low 0) is.first_is.number_is) at is.first_is.first_is.sent_is
 
   pub left_known : KnowsPart entries plan.ids low w 0
   left_known = λ n number.
-      rw (same_Some n run.first.number (sym number ∙ number_of_is (2 * low + 1) plan.ids run.first.number (part w low 0) is.first_is.number_is)) is.first_is.first_is.known
+      rw (same_Some n run.first.number (sym number
+      ∙ number_of_is (2 * low + 1) plan.ids run.first.number (part w low 0) is.first_is.number_is))
+      is.first_is.first_is.known

@@ -1,5 +1,6 @@
 -- The windows of a series: the first two parts are the same in all, and the last ones are consecutive in one block.
-use Rattle.std.proofs.Common.{◌≡◌, ℕ, ◌+◌, ◌-◌, ◌*◌, ◌/◌, ◌<◌, ◌≤◌, List, take, drop, get_or, slice_get, Some, IsSome, true, refl, sym, ap, ◌∙◌, arith}
+use Rattle.std.proofs.Common.{◌≡◌, ℕ, ◌+◌, ◌-◌, ◌*◌, ◌/◌, ◌<◌, ◌≤◌, List, take, drop, get_or, slice_get, Some, IsSome}
+use Rattle.std.proofs.Common.{true, refl, sym, ap, ◌∙◌, arith}
 use Rattle.std.proofs.lemmas.Grind.{common_steps}
 use Rattle.std.proofs.lemmas.List.{drop-take, take-take, get_or-take, get_or-drop}
 use Rattle.std.proofs.lemmas.Option.{same_Some}
@@ -23,7 +24,8 @@ use Rattle.win_index.proofs.Windows.{slice_window, number_of_is, has_number, one
 
 -- the last part of a window of a run, at the window's position
 suffix_at :
-    (m low start at' : ℕ) (w : List ℕ) (places : RunPlaces) → IsRunStart (2 * low) m (take (2 * low) (drop 2 w)) start → IsAtPlace (2 * low + 1) m places w at'
+    (m low start at' : ℕ) (w : List ℕ) (places : RunPlaces) → IsRunStart (2 * low) m (take (2 * low) (drop 2 w)) start
+    → IsAtPlace (2 * low + 1) m places w at'
     → slice_get (windows (2 * low + 1) m) (start + at') ≡ Some (part w low 2)
 suffix_at m low start at' w places starts is =
     let window = slice_window m (2 * low + 1 + 2) 2 (2 * low + 1) w is.window_is (omega arith) in
@@ -31,29 +33,36 @@ suffix_at m low start at' w places starts is =
     grind (arith, own, is.place_is, get_or-take, get_or-drop, drop-take)
 
 -- the run of a window of an upper block
-module _ (upper : UpperBlock) (old now : Entries) (first : List ℕ) (run : Run) (grows : Grows old now) (is : IsRun upper.plan.now old upper.below first run) where
+module _ (upper : UpperBlock) (old now : Entries) (first : List ℕ) (run : Run) (grows : Grows old now)
+    (is : IsRun upper.plan.now old upper.below first run) where
   pub last_part :
       (place at' : ℕ) (w : List ℕ) → InRun upper first run place at' w
       → slice_get (windows (2 * upper.below + 1) upper.plan.now.ids) (run.start + at') ≡ Some (part w upper.below 2)
   last_part place at' w here =
-      let rest : take (2 * upper.below) (drop 2 first) ≡ take (2 * upper.below) (drop 2 w) = grind (arith, drop-take, here.same) in
+      let rest : take (2 * upper.below) (drop 2 first) ≡ take (2 * upper.below) (drop 2 w) =
+      grind (arith, drop-take, here.same) in
       suffix_at upper.plan.now.ids upper.below run.start at' w run.places (rw rest at is.start_is) here.is
 
   -- a window of a series that begins with a window in the run
   pub in_series :
-      (place at' count : ℕ) (w : List ℕ) → InRun upper first run place at' w → IsSeries (2 * upper.below + 1) upper.plan.now.ids w count
+      (place at' count : ℕ) (w : List ℕ) → InRun upper first run place at' w
+      → IsSeries (2 * upper.below + 1) upper.plan.now.ids w count
       → (i : ℕ) → i < count → (next : List ℕ) × InRun upper first run (place + i) (at' + i) next
   in_series place at' count w here series i lt =
       let m : ℕ = upper.plan.now.ids in
       let low : ℕ = upper.below in
       let this = last_part place at' w here in
-      let suffix : slice_get (windows (2 * low + 1) m) (run.start + at') ≡ Some (drop 2 w) = grind (arith, common_steps, this, here.is.window_is.size) in
-      let there = series (BLOCK_WINDOWS * upper.number + place) (run.start + at') i (grind (arith, here.here)) suffix lt in
+      let suffix : slice_get (windows (2 * low + 1) m) (run.start + at') ≡ Some (drop 2 w) =
+      grind (arith, common_steps, this, here.is.window_is.size) in
+      let there = series (BLOCK_WINDOWS * upper.number + place) (run.start + at') i
+      (grind (arith, here.here)) suffix lt in
       let next : List ℕ = there.0 in
       let window : IsWindow (2 * low + 1 + 2) m next =
-      (has_number (2 * low + 1 + 2) m next).0 (rw (number_of_is (2 * low + 1 + 2) m (BLOCK_WINDOWS * upper.number + place + i) next there.1) (λ _. true)) in
+      (has_number (2 * low + 1 + 2) m next).0
+      (rw (number_of_is (2 * low + 1 + 2) m (BLOCK_WINDOWS * upper.number + place + i) next there.1) (λ _. true)) in
       let same : take (2 * low + 2) next ≡ take (2 * low + 2) first = grind (arith, there.2, here.same) in
-      let own : (p : ℕ) → place_in_run (2 * low + 1) next (get_or next (2 * low + 1 + 1) 0) ≡ p → InRun upper first run (place + i) p next =
+      let own : (p : ℕ) → place_in_run (2 * low + 1) next (get_or next (2 * low + 1 + 1) 0) ≡ p
+      → InRun upper first run (place + i) p next =
       λ p is_at. record {
         here = grind (arith, there.1);
         same = same;
@@ -61,12 +70,15 @@ module _ (upper : UpperBlock) (old now : Entries) (first : List ℕ) (run : Run)
       } in
       let at : ℕ = place_in_run (2 * low + 1) next (get_or next (2 * low + 1 + 1) 0) in
       let last = last_part (place + i) at next (own at refl) in
-      let own_suffix : slice_get (windows (2 * low + 1) m) (run.start + at) ≡ Some (drop 2 next) = grind (arith, common_steps, last, window.size) in
-      let further = one_number (2 * low + 1) m (run.start + at) (run.start + at' + i) (drop 2 next) own_suffix there.3 in
+      let own_suffix : slice_get (windows (2 * low + 1) m) (run.start + at) ≡ Some (drop 2 next) =
+      grind (arith, common_steps, last, window.size) in
+      let further = one_number (2 * low + 1) m (run.start + at) (run.start + at' + i)
+      (drop 2 next) own_suffix there.3 in
       (next, own (at' + i) (omega (arith, further)))
 
   -- what a window in the run shares with it
-  module _ (place at' c index : ℕ) (w : List ℕ) (here : InRun upper first run place at' w) (start : run.start + at' ≡ BLOCK_WINDOWS * c + index) where
+  module _ (place at' c index : ℕ) (w : List ℕ) (here : InRun upper first run place at' w)
+      (start : run.start + at' ≡ BLOCK_WINDOWS * c + index) where
     own_run : IsRun upper.plan.now now upper.below w run
     own_run = same_run upper.plan.now old now upper.below grows first w run (sym here.same) is
 
@@ -82,25 +94,31 @@ module _ (upper : UpperBlock) (old now : Entries) (first : List ℕ) (run : Run)
 
     last_is : block_state upper.plan.now upper.below c index ≡ part_state upper 2 place
     last_is =
-        let own = window_at upper.plan.now.ids upper.below (BLOCK_WINDOWS * c + index) (part w upper.below 2) (rw start at (last_part place at' w here)) in
+        let own = window_at upper.plan.now.ids upper.below (BLOCK_WINDOWS * c + index) (part w upper.below 2)
+        (rw start at (last_part place at' w here)) in
         rw (own, window_is) refl
 
-    parts_known : IsSome (now upper.below c) → index < BLOCK_WINDOWS → KnowsParts now upper.plan.now.ids upper.below (window_in upper place)
+    parts_known : IsSome (now upper.below c) → index < BLOCK_WINDOWS
+        → KnowsParts now upper.plan.now.ids upper.below (window_in upper place)
     parts_known known small =
         rw window_is (knows_three now upper.plan.now.ids upper.below w (left_known upper.plan.now now upper.below w run own_run) own_run.own_known
         (λ number is_part.
-        let own = number_of_is (2 * upper.below + 1) upper.plan.now.ids (run.start + at') (part w upper.below 2) (last_part place at' w here) in
+        let own = number_of_is (2 * upper.below + 1) upper.plan.now.ids (run.start + at') (part w upper.below 2)
+        (last_part place at' w here) in
         let same : number ≡ run.start + at' = same_Some number (run.start + at') (sym is_part ∙ own) in
         let block : number / BLOCK_WINDOWS ≡ c = omega (arith, same, start, small) in
         rw block known))
 
   -- the windows that are taken, and those of a series whose last parts are in one block from an index on
   pub taken_more :
-      (before : Entries) (from place at' c index count : ℕ) (sent written : List ℕ) → Grows before now → AreTakenInRun before upper run from place sent
-      → (block : IsSome (now upper.below c)) → run.start + at' ≡ BLOCK_WINDOWS * c + index → index + count ≤ BLOCK_WINDOWS
+      (before : Entries) (from place at' c index count : ℕ) (sent written : List ℕ) → Grows before now
+      → AreTakenInRun before upper run from place sent
+      → (block : IsSome (now upper.below c)) → run.start + at' ≡ BLOCK_WINDOWS * c + index
+      → index + count ≤ BLOCK_WINDOWS
       → (upper.reads_right ≡ true → AreWritten ℕ 0 sent written place count
       (λ i. to_left upper.plan.now.program upper.below (block_state upper.plan.now upper.below c (index + i))))
-      → ((i : ℕ) → i < count → (next : List ℕ) × InRun upper first run (place + i) (at' + i) next) → AreTakenInRun now upper run from (place + count) written
+      → ((i : ℕ) → i < count → (next : List ℕ) × InRun upper first run (place + i) (at' + i) next)
+      → AreTakenInRun now upper run from (place + count) written
   taken_more before from place at' c index count sent written more taken known start small wrote series =
       let m : ℕ = upper.plan.now.ids in
       let low : ℕ = upper.below in
@@ -110,7 +128,8 @@ module _ (upper : UpperBlock) (old now : Entries) (first : List ℕ) (run : Run)
             below_sum (λ i. from ≤ i → HasFronts upper run i) place count (λ i lt late. taken.fronts i late lt)
             (λ i lt late. fronts_are (place + i) (at' + i) c (index + i) (series i lt).0 (series i lt).1 (begins i)) i lt late;
         taken = record {
-          lasts = λ reads. held_more ℕ 0 place count sent written (λ i. to_left upper.plan.now.program low (block_state upper.plan.now low c (index + i)))
+          lasts = λ reads. held_more ℕ 0 place count sent written
+              (λ i. to_left upper.plan.now.program low (block_state upper.plan.now low c (index + i)))
               (right_message upper) (taken.taken.lasts reads) (wrote reads)
               (λ i lt. ap (to_left upper.plan.now.program low) (last_is (place + i) (at' + i) c (index + i) (series i lt).0 (series i lt).1 (begins i)));
           known = λ lower j one lt.
@@ -137,7 +156,8 @@ module _
 
     pub run_goes_on :
         (later : List ℕ) (next : ℕ) → IsAtPlace (2 * upper.below + 1) upper.plan.now.ids run.places later next
-        → take (2 * upper.below + 1 + 1) later ≡ take (2 * upper.below + 1 + 1) last → IsNext (2 * upper.below + 1 + 2) upper.plan.now.ids last later
+        → take (2 * upper.below + 1 + 1) later ≡ take (2 * upper.below + 1 + 1) last
+        → IsNext (2 * upper.below + 1 + 2) upper.plan.now.ids last later
         → InRun upper first run (place + count) next later
     run_goes_on later next is same after =
         let follows = after (BLOCK_WINDOWS * upper.number + (place + (count - 1))) (grind (arith, here.here)) in

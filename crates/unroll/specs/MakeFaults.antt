@@ -32,17 +32,20 @@ IsMakeFault entries old new m r b OutOfMemory = new ≡ old
 
 -- the result of making the block of this level, number and maker from a source: the block, with every block below it
 -- known, or why it was not made
-abbrev pub IsMade : {S : Type 0} → (S → Entries) → S → S → ProgramForIds → ℕ → ℕ → ℕ → Result MadeBlock MakeFault → Type 0
+abbrev pub IsMade : {S : Type 0} → (S → Entries) → S → S → ProgramForIds → ℕ → ℕ → ℕ
+    → Result MadeBlock MakeFault → Type 0
 IsMade entries old new plan level number maker result =
-    MatchResult result (IsMadeFrom (entries new) plan level number maker) (IsMakeFault entries old new plan.ids level number)
+    MatchResult result (IsMadeFrom (entries new) plan level number maker)
+    (IsMakeFault entries old new plan.ids level number)
 
 -- a source after a block of this level was made from it: it was asked, unless the level is 0
-pub record AskedFor {S F : Type 0} (level : ℕ) (plan : S → ProgramForIds) (fixed : S → F) (entries : S → Entries) (old new : S) : Type 0 where
+pub record AskedFor {S F : Type 0} (level : ℕ) (plan : S → ProgramForIds) (fixed : S → F) (entries : S
+    → Entries) (old new : S) : Type 0 where
   pub asked : Asked plan fixed entries old new
   pub not_for_0 : level ≡ 0 → new ≡ old
 
--- A call that looks up blocks below block b of level r in a source: the source was asked, and the result is what the call
--- `finds`, by the entries that the source has now, or that one of these blocks is not known.
+-- A call that looks up blocks below block b of level r in a source: the source was asked, and the result is what
+-- the call `finds`, by the entries that the source has now, or that one of these blocks is not known.
 pub record LooksUp
     {S F T : Type 0} (plan : S → ProgramForIds) (fixed : S → F) (entries : S → Entries) (old new : S) (m r b : ℕ)
     (finds : Entries → T → Type 0) (result : Result T MakeFault)

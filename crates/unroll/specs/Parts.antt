@@ -1,5 +1,6 @@
 -- What the functions that make a block say of the source, for one window at a time.
-use Rattle.std.specs.Prelude.{◌≡◌, ℕ, ◌+◌, ◌*◌, ◌/◌, ◌%◌, ◌<◌, List, take, drop, length, slice_get, Some, IsSome, IfSome}
+use Rattle.std.specs.Prelude.{◌≡◌, ℕ, ◌+◌, ◌*◌, ◌/◌, ◌%◌, ◌<◌, List, take, drop, length, slice_get, Some}
+use Rattle.std.specs.Prelude.{IsSome, IfSome}
 use Rattle.lang_check.specs.Plans.{ProgramForIds}
 use Rattle.node_program.specs.Node.{to_right}
 use Rattle.win_index.specs.RunPrefixes.{HasNumbers}
@@ -29,13 +30,15 @@ window_in block index = window_numbered block.plan.now.ids (block.below + 1) (BL
 -- an upper block has a window at this index
 pub record IsWindowIn (block : UpperBlock) (index : ℕ) : Type 0 where
   pub inside : index < block_len block.plan.now.ids (block.below + 1) block.number
-  pub here : slice_get (windows (2 * (block.below + 1) + 1) block.plan.now.ids) (BLOCK_WINDOWS * block.number + index) ≡ Some (window_in block index)
+  pub here : slice_get (windows (2 * (block.below + 1) + 1) block.plan.now.ids) (BLOCK_WINDOWS * block.number + index)
+      ≡ Some (window_in block index)
   pub window : IsWindow (2 * block.below + 3) block.plan.now.ids (window_in block index)
 
 -- the prefix of this window has these numbers
 pub record IsAtIndex (block : UpperBlock) (index : ℕ) (prefix : RunPrefix) : Type 0 where
   pub is : IsWindowIn block index
-  pub has : HasNumbers (2 * block.below + 2) block.plan.now.ids (take (2 * block.below + 2) (window_in block index)) prefix
+  pub has : HasNumbers (2 * block.below + 2) block.plan.now.ids
+      (take (2 * block.below + 2) (window_in block index)) prefix
 
 -- the blocks of the level low that hold the three parts of the window w are known
 abbrev pub KnowsParts : Entries → ℕ → ℕ → List ℕ → Type 0
@@ -43,21 +46,25 @@ KnowsParts entries m low w = (n : ℕ) → IsPartNumber m low w n → IsSome (en
 
 -- the block of the level low that holds the part of the window w at offset d is known
 abbrev pub KnowsPart : Entries → ℕ → ℕ → List ℕ → ℕ → Type 0
-KnowsPart entries m low w d = (n : ℕ) → number_of (2 * low + 1) m (part w low d) ≡ Some n → IsSome (entries low (n / BLOCK_WINDOWS))
+KnowsPart entries m low w d = (n : ℕ) → number_of (2 * low + 1) m (part w low d) ≡ Some n
+    → IsSome (entries low (n / BLOCK_WINDOWS))
 
 -- item `index` of a known block is the window of this level with this number
-pub record HoldsWindow (plan : ProgramForIds) (entries : Entries) (level number : ℕ) (b : MadeBlock) (index : ℕ) : Type 0 where
+pub record HoldsWindow (plan : ProgramForIds) (entries : Entries) (level number : ℕ) (b : MadeBlock)
+    (index : ℕ) : Type 0 where
   pub block : IsEntry plan entries level (number / BLOCK_WINDOWS) b
   pub place : index ≡ number % BLOCK_WINDOWS
   pub inside : index < block_len plan.ids level (number / BLOCK_WINDOWS)
 
 -- the first part of a window: the message of its node to the right after `low` rounds. Its block is known
 pub record IsFirstPart (plan : ProgramForIds) (entries : Entries) (low : ℕ) (first : FirstPart) : Type 0 where
-  pub sent_is : first.sent ≡ to_right plan.program low (middle_state plan.program low (window_numbered plan.ids low first.number))
+  pub sent_is : first.sent
+      ≡ to_right plan.program low (middle_state plan.program low (window_numbered plan.ids low first.number))
   pub known : IsSome (entries low (first.number / BLOCK_WINDOWS))
 
 -- the first part of the window w, one level above low, by its number
-pub record IsFirstPartOf (plan : ProgramForIds) (entries : Entries) (low : ℕ) (w : List ℕ) (first : FirstPart) : Type 0 where
+pub record IsFirstPartOf (plan : ProgramForIds) (entries : Entries) (low : ℕ) (w : List ℕ)
+    (first : FirstPart) : Type 0 where
   pub number_is : slice_get (windows (2 * low + 1) plan.ids) first.number ≡ Some (part w low 0)
   pub first_is : IsFirstPart plan entries low first
 
@@ -86,7 +93,8 @@ pub record IsRun (plan : ProgramForIds) (entries : Entries) (low : ℕ) (w : Lis
 -- the parts of the first `count` windows of block b of level r are known
 abbrev pub KnowsBelow : Entries → ℕ → ℕ → ℕ → ℕ → Type 0
 KnowsBelow entries m r b count =
-    (low place : ℕ) → r ≡ low + 1 → place < count → KnowsParts entries m low (window_numbered m r (BLOCK_WINDOWS * b + place))
+    (low place : ℕ) → r ≡ low + 1 → place < count
+    → KnowsParts entries m low (window_numbered m r (BLOCK_WINDOWS * b + place))
 
 -- the window of level r with number n is the last one of the run of w
 abbrev pub EndsAt : ℕ → ℕ → List ℕ → ℕ → Type 0
@@ -94,15 +102,17 @@ EndsAt m r w n = (last : List ℕ) × (slice_get (windows (2 * r + 1) m) n ≡ S
 
 -- window `place` of an upper block is w, it is in the run of the window `first`, and at this position of it
 pub record InRun (block : UpperBlock) (first : List ℕ) (run : Run) (place at' : ℕ) (w : List ℕ) : Type 0 where
-  pub here : slice_get (windows (2 * (block.below + 1) + 1) block.plan.now.ids) (BLOCK_WINDOWS * block.number + place) ≡ Some w
+  pub here : slice_get (windows (2 * (block.below + 1) + 1) block.plan.now.ids) (BLOCK_WINDOWS * block.number + place)
+      ≡ Some w
   pub same : take (2 * block.below + 2) w ≡ take (2 * block.below + 2) first
   pub is : IsAtPlace (2 * block.below + 1) block.plan.now.ids run.places w at'
 
--- a place among the windows of an upper block: the index of a window, the position of its last part, its run, and a known
--- block that may hold the last part of another window
+-- a place among the windows of an upper block: the index of a window, the position of its last part, its run, and a
+-- known block that may hold the last part of another window
 pub record IsReached (entries : Entries) (block : UpperBlock) (reached : Reached) : Type 0 where
   pub inside : reached.index < block_len block.plan.now.ids (block.below + 1) block.number
   pub run : IsRun block.plan.now entries block.below (window_in block reached.index) reached.run
-  pub here : InRun block (window_in block reached.index) reached.run reached.index reached.place (window_in block reached.index)
+  pub here : InRun block (window_in block reached.index) reached.run reached.index reached.place
+      (window_in block reached.index)
   pub before_end : reached.place < reached.run.places.end
   pub last : IfSome reached.last (λ b. IsKnownBlock block.plan.now entries block.below b.now)

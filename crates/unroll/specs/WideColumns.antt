@@ -1,5 +1,6 @@
 -- Columns for the windows of a block. No public contract cites this file.
-use Rattle.std.specs.Prelude.{◌≡◌, ℕ, ◌+◌, ◌-◌, ◌*◌, ◌<◌, ◌≤◌, true, false, List, [], length, take, slice_index, slice_index_or}
+use Rattle.std.specs.Prelude.{◌≡◌, ℕ, ◌+◌, ◌-◌, ◌*◌, ◌<◌, ◌≤◌, true, false, List, [], length, take}
+use Rattle.std.specs.Prelude.{slice_index, slice_index_or}
 use Rattle.node_program.specs.Node.{to_left, to_right}
 use Rattle.node_program.specs.Term.{terms}
 use Rattle.win_index.specs.declared.limits.TheConstants.{BLOCK_WINDOWS}
@@ -71,13 +72,15 @@ pub record AreGathered (entries : Entries) (block : UpperBlock) (count : ℕ) (s
   pub fronts : HoldFronts block count scratch
   pub taken : AreTaken entries block count scratch.from_right.items
 
--- the last parts of the windows before the index `end` were taken so, and those from an index on have the first two parts
--- of a run
-pub record AreTakenInRun (entries : Entries) (block : UpperBlock) (run : Run) (from end : ℕ) (sent : List ℕ) : Type 0 where
+-- the last parts of the windows before the index `end` were taken so, and those from an index on have the first two
+-- parts of a run
+pub record AreTakenInRun (entries : Entries) (block : UpperBlock) (run : Run) (from end : ℕ)
+    (sent : List ℕ) : Type 0 where
   pub fronts : (i : ℕ) → from ≤ i → i < end → HasFronts block run i
   pub taken : AreTaken entries block end sent
 
--- such windows up to where their run ends, or the block; the known block `last` holds the last part of the one before `end`
+-- such windows up to where their run ends, or the block; the known block `last` holds the last part of the one
+-- before `end`
 pub record IsRunGathered
     (entries : Entries) (block : UpperBlock) (run : Run) (from end : ℕ) (last : MadeBlock) (sent : List ℕ)
     : Type 0 where
@@ -98,12 +101,13 @@ pub record AreWritten (A : Type 0) (none : A) (old new : List A) (place count : 
 abbrev pub HoldBlock : ProgramForIds → ℕ → ℕ → List (List ℕ) → Type 0
 HoldBlock plan r b states = take (block_len plan.ids r b) states ≡ first_states plan r b (block_len plan.ids r b)
 
--- scratch for the blocks of a plan: room for its expressions, columns for its registers, and which of its rounds read the
--- message from the right
+-- scratch for the blocks of a plan: room for its expressions, columns for its registers, and which of its rounds
+-- read the message from the right
 pub record IsReady (plan : ProgramForIds) (scratch : Scratch) : Type 0 where
   pub room : most_columns (terms plan.program) ≤ scratch.work.columns
   pub width : scratch.work.width ≡ BLOCK_WINDOWS
-  pub reads : (k : ℕ) → k < length plan.program.steps → slice_index_or scratch.reads_right k true ≡ round_reads_right plan.program k
+  pub reads : (k : ℕ) → k < length plan.program.steps
+      → slice_index_or scratch.reads_right k true ≡ round_reads_right plan.program k
   pub from_left_wide : length scratch.from_left.items ≡ BLOCK_WINDOWS
   pub own_wide : HasSize BLOCK_WINDOWS (length plan.program.start) scratch.own
   pub from_right_wide : length scratch.from_right.items ≡ BLOCK_WINDOWS

@@ -4,7 +4,8 @@ ghost use Rattle.round_eval.specs.BlockStates.{IsKey, block_len, window_numbered
 ghost use Rattle.round_eval.specs.HeldStates.{HoldsSent};
 ghost use Rattle.unroll.specs.MakeFaults.{KnowsAllBelow, LooksUp};
 ghost use Rattle.unroll.specs.Parts.{IsFirstWindow, IsReached};
-ghost use Rattle.unroll.specs.WideColumns.{AreGathered, AreTaken, HoldBlock, HoldFronts, IsReady, IsRunGathered, ShareFronts};
+ghost use Rattle.unroll.specs.WideColumns.{AreGathered, AreTaken, HoldBlock, HoldFronts, IsReady};
+ghost use Rattle.unroll.specs.WideColumns.{IsRunGathered, ShareFronts};
 ghost use Rattle.win_index.specs.Blocks.{block_count};
 
 use crate::fault::MakeFault;
@@ -158,7 +159,8 @@ pub(crate) fn write_states<'s, S: Source<'s>>(
     requires ready { IsReady code.now scratch.old }
     ensures ready { IsReady code.now scratch.new }
     ensures written { LooksUp S.plan S.fixed S.entries source.old source.new code.now.ids level number
-        (λ entries _. HoldBlock code.now level number scratch.new.made.states × KnowsAllBelow entries code.now.ids level number) result
+        (λ entries _. HoldBlock code.now level number scratch.new.made.states
+        × KnowsAllBelow entries code.now.ids level number) result
         × (level ≡ 0 → source.new ≡ source.old) }
 {
     states_from_parts();

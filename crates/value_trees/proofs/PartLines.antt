@@ -1,5 +1,7 @@
 -- A tree shows each part of an expression that counts, and each branch that is not taken.
-use Rattle.std.proofs.Common.{◌≡◌, ◌==◌, if◌then◌else◌, Bool, false, true, ◌⊎◌, inl, inr, ⊎_elim, ℕ, zero, suc, ◌+◌, List, [], ◌∷◌, ◌++◌, length, slice_get, refl, sym, subst, ◌∙◌, length-append, zero-add, arith}
+use Rattle.std.proofs.Common.{◌≡◌, ◌==◌, if◌then◌else◌, Bool, false, true, ◌⊎◌, inl, inr, ⊎_elim, ℕ, zero, suc, ◌+◌}
+use Rattle.std.proofs.Common.{List, [], ◌∷◌, ◌++◌, length, slice_get, refl, sym, subst, ◌∙◌, length-append}
+use Rattle.std.proofs.Common.{zero-add, arith}
 use Rattle.std.specs.List.{Contains}
 use Rattle.std.proofs.lemmas.List.Elements.{Contains-append_left, Contains-append_right, Contains-append_cases}
 use Rattle.std.specs.Prelude.{Some}
@@ -72,7 +74,8 @@ taken_in env d true x y p has = tail_in (folded d x) (parts_at env d y) p has
 taken_in env d false x y p has = Contains-append_left (parts_at env d x) (folded d y ∷ []) p has
 
 other_in : (env : Env) (d : ℕ) (t : Bool) (x y : Term) →
-    Contains (branches t (folded d x) (folded d y) (parts_at env d x) (parts_at env d y)) (folded d (if t then x else y))
+    Contains (branches t (folded d x) (folded d y) (parts_at env d x) (parts_at env d y))
+    (folded d (if t then x else y))
 other_in env d true x y = first_in (folded d x) (parts_at env d y)
 other_in env d false x y =
     Contains-append_right (parts_at env d x) (folded d y ∷ []) (folded d y) (first_in (folded d y) [])
@@ -232,14 +235,16 @@ trees_show b env e = record {
         let is = are_parts env 0 e (counted depth term) has in
         subst (λ k. Counts env k term e) (sym (is.1 ∙ zero-add is.0)) is.2,
     λ is.
-        subst (λ k. Contains (parts_at env 0 e) (counted k term)) (zero-add depth) (counts_listed env depth 0 term e is),
+        subst (λ k. Contains (parts_at env 0 e) (counted k term)) (zero-add depth)
+        (counts_listed env depth 0 term e is),
   );
   are_untaken = λ depth term. (
     λ has.
         let is = are_parts env 0 e (folded depth term) has in
         subst (λ k. IsUntaken env k term e) (sym (is.1 ∙ zero-add is.0)) is.2,
     λ is.
-        subst (λ k. Contains (parts_at env 0 e) (folded k term)) (zero-add depth) (untaken_listed env depth 0 term e is),
+        subst (λ k. Contains (parts_at env 0 e) (folded k term)) (zero-add depth)
+        (untaken_listed env depth 0 term e is),
   );
   as_many = count_is env 0 e;
   first = first_is env e;

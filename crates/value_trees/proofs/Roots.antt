@@ -5,7 +5,8 @@ use Rattle.std.proofs.lemmas.Option.{none-some, same_Some}
 use Rattle.std.proofs.lemmas.List.FromFn.{get_or-map-range_with_len}
 use Rattle.node_program.specs.Term.{Term}
 use Rattle.node_program.specs.Value.{value}
-use Rattle.node_program.specs.Node.{reading_messages, left_sent, right_sent, assigned_values, to_left, to_right, next, channel}
+use Rattle.node_program.specs.Node.{reading_messages, left_sent, right_sent, assigned_values, to_left, to_right}
+use Rattle.node_program.specs.Node.{next, channel}
 use Rattle.node_program.specs.GlobalRounds.{left_of, right_of, state, channel_at}
 use Rattle.value_trees.specs.Laws.{StartsAreHeld, AssignedAreHeld, MessagesAreSent, FinishIsChannel}
 

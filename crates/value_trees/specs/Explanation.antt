@@ -12,7 +12,8 @@ use Rattle.numerals.specs.declared.base.Base.{Base}
 abbrev pub headed : List ℕ → Base → Env → Term → List ℕ
 headed heading b env e = heading ++ (codes "\n" ++ tree_lines b env e)
 
--- the heading of what gives the registers after r rounds: `start` for 0, else the number of the last round, counted from 1
+-- the heading of what gives the registers after r rounds: `start` for 0, else the number of the last round, counted
+-- from 1
 abbrev pub phase : ℕ → List ℕ
 phase r = if r == 0 then codes "start" else codes "round " ++ decimal r
 
@@ -40,11 +41,12 @@ assigned_lines r b env j (e ∷ es) = headed (register_heading r j) b env e ++ a
 abbrev pub before_messages : ProgramTree → List ℕ → ℕ → ℕ → Env
 before_messages p x i r = reading_messages (state p x r i) 0 0
 
--- what it can read once the messages of the next round are there: that of its left neighbour to the right, and that of its
--- right neighbour to the left
+-- what it can read once the messages of the next round are there: that of its left neighbour to the right, and that
+-- of its right neighbour to the left
 abbrev pub with_messages : ProgramTree → List ℕ → ℕ → ℕ → Env
 with_messages p x i r =
-    reading_messages (state p x r i) (to_right p r (state p x r (left_of x i))) (to_left p r (state p x r (right_of x i)))
+    reading_messages (state p x r i) (to_right p r (state p x r (left_of x i)))
+    (to_left p r (state p x r (right_of x i)))
 
 -- the round s after r others: its messages, and its assignments
 abbrev pub round_trees : Base → ProgramTree → List ℕ → ℕ → ℕ → Round → List ℕ

@@ -7,7 +7,8 @@ use Rattle.node_program.specs.Node.{knowing_id, to_left, to_right}
 use Rattle.node_program.specs.GlobalRounds.{state, channels_of}
 use Rattle.value_trees.specs.Trees.{tree_lines}
 use Rattle.value_trees.specs.Parts.{IsTree}
-use Rattle.value_trees.specs.Explanation.{before_messages, explanation, finish_heading, register_heading, side_heading, with_messages}
+use Rattle.value_trees.specs.Explanation.{before_messages, explanation, finish_heading, register_heading}
+use Rattle.value_trees.specs.Explanation.{side_heading, with_messages}
 use Rattle.numerals.specs.declared.base.Base.{Base}
 
 -- the tree of an expression shows each of its parts that counts, and where a branch is not taken
@@ -22,7 +23,8 @@ StartsAreHeld =
 
 abbrev pub AssignedAreHeld : Type 0
 AssignedAreHeld =
-    (p : ProgramTree) (x : List ℕ) (i r j : ℕ) (s : Round) (e : Term) → slice_get p.steps r ≡ Some s → slice_get s.next j ≡ Some e
+    (p : ProgramTree) (x : List ℕ) (i r j : ℕ) (s : Round) (e : Term) → slice_get p.steps r ≡ Some s
+    → slice_get s.next j ≡ Some e
     → value e (with_messages p x i r) ≡ slice_index (state p x (r + 1) i) j
 
 -- the values of the expressions of a round's messages are the messages
@@ -65,4 +67,5 @@ pub record ShowsTrace (b : Base) (p : ProgramTree) (x : List ℕ) (i : ℕ) (tex
 
 -- an explanation shows what a trace and a run do
 abbrev pub ExplanationsShowTraces : Type 0
-ExplanationsShowTraces = (b : Base) (p : ProgramTree) (x : List ℕ) (i : ℕ) → i < length x → ShowsTrace b p x i (explanation b p x i)
+ExplanationsShowTraces = (b : Base) (p : ProgramTree) (x : List ℕ) (i : ℕ) → i < length x
+    → ShowsTrace b p x i (explanation b p x i)

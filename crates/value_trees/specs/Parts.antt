@@ -1,6 +1,7 @@
 -- What a tree has to show: each part of an expression that counts on a line of its own, as deep as the part is, with
 -- its value, and one line in place of each branch that is not taken.
-use Rattle.std.specs.Prelude.{◌≡◌, ◌↔◌, ℕ, zero, suc, ◌+◌, ◌==◌, if◌then◌else◌, Bool, false, true, List, [], ◌∷◌, ◌++◌, Contains, Some, codes, length, map, replicate, slice_get}
+use Rattle.std.specs.Prelude.{◌≡◌, ◌↔◌, ℕ, zero, suc, ◌+◌, ◌==◌, if◌then◌else◌, Bool, false, true, List, [], ◌∷◌, ◌++◌}
+use Rattle.std.specs.Prelude.{Contains, Some, codes, length, map, replicate, slice_get}
 use Rattle.std.specs.List.{flat_map}
 use Rattle.node_program.specs.Term.{Term, One, Two, Choose}
 use Rattle.node_program.specs.Value.{Env, value}

@@ -52,4 +52,8 @@ abbrev pub rows_of_round : RoundTrace → RoundRows
 rows_of_round t = record { left = t.left.items; right = t.right.items; registers = items_of t.registers.items }
 
 abbrev pub rows_of : Trace → TraceRows
-rows_of t = record { start = items_of t.start.items; rounds = map rows_of_round t.rounds.items; finish = t.finish.items }
+rows_of t = record {
+  start = items_of t.start.items;
+  rounds = map rows_of_round t.rounds.items;
+  finish = t.finish.items;
+}

@@ -1,5 +1,5 @@
--- The trace of a ring in a base: its identifiers, and the registers and the messages of its places in global rounds, round by
--- round.
+-- The trace of a ring in a base: its identifiers, and the registers and the messages of its places in global
+-- rounds, round by round.
 use Rattle.std.specs.Prelude.{ℕ, ◌+◌, List, [], ◌∷◌, ◌++◌, length, slice_index, codes}
 use Rattle.std.specs.List.{flat_map, range_with_len}
 use Rattle.std.specs.Fmt.{decimal}
@@ -43,7 +43,8 @@ trace_lines b p x = row_line b (codes "ring") x ++ (register_lines b p x 0 ++ la
 -- the same from rows: those of the registers after r rounds, from register j on
 abbrev pub told_registers : Base → ℕ → ℕ → List (List ℕ) → List ℕ
 told_registers b r j [] = []
-told_registers b r j (ns ∷ rows) = row_line b (phase r ++ (codes " r" ++ decimal j)) ns ++ told_registers b r (j + 1) rows
+told_registers b r j (ns ∷ rows) = row_line b (phase r ++ (codes " r" ++ decimal j)) ns
+    ++ told_registers b r (j + 1) rows
 
 -- those of round r
 abbrev pub told_round : Base → ℕ → RoundRows → List ℕ

@@ -15,8 +15,8 @@ counted depth term = record { depth = depth; term = term; counts = true }
 abbrev pub folded : ℕ → Term → Part
 folded depth term = record { depth = depth; term = term; counts = false }
 
--- the parts of an expression at a depth that have a line, in the order of their lines: the expression, and then those of
--- its operands, one deeper; of a branch that is not taken the branch alone
+-- the parts of an expression at a depth that have a line, in the order of their lines: the expression, and then
+-- those of its operands, one deeper; of a branch that is not taken the branch alone
 abbrev pub parts_at : Env → ℕ → Term → List Part
 parts_at env d (One o x) = counted d (One o x) ∷ parts_at env (d + 1) x
 parts_at env d (Two o x y) = counted d (Two o x y) ∷ (parts_at env (d + 1) x ++ parts_at env (d + 1) y)

@@ -1,4 +1,5 @@
--- The expressions of a program as trees of values, at a place of a ring: the parts of each that have a line, with their values.
+-- The expressions of a program as trees of values, at a place of a ring: the parts of each that have a line, with
+-- their values.
 use Rattle.std.specs.Prelude.{ℕ, ◌+◌, Bool, List, [], ◌∷◌, ◌++◌, map, length, slice_index}
 use Rattle.node_program.specs.Term.{Term, Round, ProgramTree, term_of}
 use Rattle.node_program.specs.Value.{Env, value}
@@ -66,7 +67,12 @@ unvalued p = record { depth = p.depth; term = p.term; counts = p.counts }
 
 -- a part and a tree, as the code holds them
 abbrev pub part_value : TreePart → ValuedPart
-part_value part = record { depth = part.depth; term = term_of part.expression.now; value = part.value; counts = part.counts }
+part_value part = record {
+  depth = part.depth;
+  term = term_of part.expression.now;
+  value = part.value;
+  counts = part.counts;
+}
 
 abbrev pub tree_value : code.ValueTree → ValueTree
 tree_value tree = record { round = tree.round; given = tree.given; parts = map part_value tree.parts.items }

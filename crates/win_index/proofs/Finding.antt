@@ -1,5 +1,6 @@
 -- The position of an element in a list that has it at most once.
-use Rattle.std.proofs.Common.{◌≡◌, ◌↔◌, ℕ, ◌<◌, Bool, true, false, Option, List, length, get_or, slice_get, Some, None, IsSome, ◌⊎◌, inl, inr, ⊎_elim, refl, ap, ◌∙◌, arith}
+use Rattle.std.proofs.Common.{◌≡◌, ◌↔◌, ℕ, ◌<◌, Bool, true, false, Option, List, length, get_or, slice_get, Some, None}
+use Rattle.std.proofs.Common.{IsSome, ◌⊎◌, inl, inr, ⊎_elim, refl, ap, ◌∙◌, arith}
 use Rattle.std.specs.Prelude.{position}
 use Rattle.std.proofs.lemmas.Bool.{lt-ltb, false_from_ne_true, false≢true}
 use Rattle.std.proofs.lemmas.List.Quantifiers.{position-Some}

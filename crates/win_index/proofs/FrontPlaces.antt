@@ -1,7 +1,9 @@
 -- A window by its prefix and its last identifier, and the positions of these among the identifiers that a list lacks.
-use Rattle.std.proofs.Common.{◌≡◌, ◌≢◌, ℕ, suc, ◌+◌, ◌-◌, ◌*◌, ◌/◌, ◌%◌, ◌<◌, ◌≤◌, false, nat_lt, cond, List, [], ◌∷◌, length, get_or, take, drop, set, slice_get, Some, sym, ap, ◌∙◌, arith}
+use Rattle.std.proofs.Common.{◌≡◌, ◌≢◌, ℕ, suc, ◌+◌, ◌-◌, ◌*◌, ◌/◌, ◌%◌, ◌<◌, ◌≤◌, false, nat_lt, cond, List, [], ◌∷◌}
+use Rattle.std.proofs.Common.{length, get_or, take, drop, set, slice_get, Some, sym, ap, ◌∙◌, arith}
 use Rattle.std.proofs.lemmas.Bool.{not-true, ne_eqb}
-use Rattle.std.proofs.lemmas.List.{take_all, take_more, drop-take, take-set, get_or-set_same, length-set, length-drop, length-take-le, get_or-drop, take_at, get_or_push}
+use Rattle.std.proofs.lemmas.List.{take_all, take_more, drop-take, take-set, get_or-set_same, length-set, length-drop}
+use Rattle.std.proofs.lemmas.List.{length-take-le, get_or-drop, take_at, get_or_push}
 use Rattle.std.proofs.lemmas.Nat.{div-mul-add, mod-mul-add, div-add-mod'}
 use Rattle.std.proofs.lemmas.List.Elements.{All-take, All-drop}
 use Rattle.win_index.specs.Runs.{IsLastOfRun}
@@ -10,7 +12,8 @@ use Rattle.win_index.proofs.Kept.{kept_is}
 use Rattle.win_index.proofs.Numbers.{window_parts}
 use Rattle.win_index.proofs.Order.{one_place}
 use Rattle.win_index.proofs.Positions.{free_at, front_more, front_step, window_place}
-use Rattle.win_index.proofs.Unused.{lacks, lacks_both, distinct_take, distinct_drop, distinct_head, distinct_tail, counted, apart, same_order, unused_in_front, unused_at_end, length-unused}
+use Rattle.win_index.proofs.Unused.{lacks, lacks_both, distinct_take, distinct_drop, distinct_head, distinct_tail}
+use Rattle.win_index.proofs.Unused.{counted, apart, same_order, unused_in_front, unused_at_end, length-unused}
 
 -- consecutive numbers of a window are a window
 pub slice_window : (m n d len : ℕ) (w : List ℕ) → IsWindow n m w → d + len ≤ n → IsWindow len m (take len (drop d w))

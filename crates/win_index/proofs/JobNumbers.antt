@@ -1,11 +1,13 @@
 -- Each job is at its number and nowhere else.
-use Rattle.std.proofs.Common.{◌≡◌, ◌↔◌, ℕ, zero, suc, ◌+◌, ◌-◌, ◌<◌, ◌≤◌, true, eqb, List, length, slice_get, Some, None, IsSome, refl, sym, ap, ◌∙◌, arith, ⊎_elim}
+use Rattle.std.proofs.Common.{◌≡◌, ◌↔◌, ℕ, zero, suc, ◌+◌, ◌-◌, ◌<◌, ◌≤◌, true, eqb, List, length, slice_get, Some}
+use Rattle.std.proofs.Common.{None, IsSome, refl, sym, ap, ◌∙◌, arith, ⊎_elim}
 use Rattle.std.proofs.lemmas.Bool.{and_parts, eqb-true, eq-eqb, cases_lt}
 use Rattle.std.proofs.lemmas.Option.{some_pair_parts, slice_get_within}
 use Rattle.win_index.specs.Blocks.{block_count}
 use Rattle.win_index.specs.Jobs.{level_jobs, jobs_of, is_job, job_number}
 use Rattle.win_index.proofs.Finding.{IsOnly, position_some, position_is, position_none, has_position}
-use Rattle.win_index.proofs.JobPlaces.{no_jobs_below, jobs_below, jobs_below_more, length-level_jobs, level_job_at, jobs_are_below, job_at}
+use Rattle.win_index.proofs.JobPlaces.{no_jobs_below, jobs_below, jobs_below_more, length-level_jobs, level_job_at}
+use Rattle.win_index.proofs.JobPlaces.{jobs_are_below, job_at}
 use Rattle.win_index.proofs.Kept.{slice_get-append_left, slice_get-append_right}
 
 -- the position of a block of a level among the jobs of the levels below k

@@ -1,5 +1,6 @@
 -- The numbers below a bound that pass a test, in rising order.
-use Rattle.std.proofs.Common.{◌≡◌, ℕ, zero, suc, ◌+◌, ◌-◌, ◌<◌, ◌≤◌, Bool, true, false, cond, List, [], ◌∷◌, ◌++◌, length, filter, find, slice_get, Some, refl, sym, ap, ◌∙◌, arith, length-append, ⊎_elim}
+use Rattle.std.proofs.Common.{◌≡◌, ℕ, zero, suc, ◌+◌, ◌-◌, ◌<◌, ◌≤◌, Bool, true, false, cond, List, [], ◌∷◌, ◌++◌}
+use Rattle.std.proofs.Common.{length, filter, find, slice_get, Some, refl, sym, ap, ◌∙◌, arith, length-append, ⊎_elim}
 use Rattle.std.specs.List.{range_with_len}
 use Rattle.std.proofs.lemmas.Bool.{cases_lt}
 use Rattle.std.proofs.lemmas.List.Elements.{filter-append}
@@ -36,7 +37,8 @@ slice_get-append_right (x ∷ xs) ys n i e =
 
 -- what holds of each item of a list and of one more at its end
 pub each_snoc :
-    {W : Type 0} (P : ℕ → W → Type 0) (xs : List W) (w : W) → ((k : ℕ) (x : W) → slice_get xs k ≡ Some x → P k x) → P (length xs) w
+    {W : Type 0} (P : ℕ → W → Type 0) (xs : List W) (w : W) → ((k : ℕ) (x : W) → slice_get xs k ≡ Some x → P k x)
+    → P (length xs) w
     → (k : ℕ) (x : W) → slice_get (xs ++ w ∷ []) k ≡ Some x → P k x
 each_snoc P xs w before next k x is =
     ⊎_elim (λ (inside : k < length xs). before k x (sym (slice_get-append_left xs (w ∷ []) k inside) ∙ is))

@@ -1,5 +1,6 @@
 -- The position of a window in the list of windows, and that each window has one.
-use Rattle.std.proofs.Common.{◌≡◌, ◌↔◌, ℕ, zero, suc, ◌+◌, ◌-◌, ◌*◌, ◌<◌, ◌≤◌, false, nat_eq, List, length, get_or, take, slice_get, Some, None, IsSome, sym, ◌∙◌, arith, add-one}
+use Rattle.std.proofs.Common.{◌≡◌, ◌↔◌, ℕ, zero, suc, ◌+◌, ◌-◌, ◌*◌, ◌<◌, ◌≤◌, false, nat_eq, List, length, get_or}
+use Rattle.std.proofs.Common.{take, slice_get, Some, None, IsSome, sym, ◌∙◌, arith, add-one}
 use lib.Pointwise.{pointwise, pointwise_decides}
 use Rattle.std.proofs.lemmas.Bool.{eqb-true, eq-eqb}
 use Rattle.std.proofs.lemmas.List.{get_or-take, length-take-le, take_all, take_more}

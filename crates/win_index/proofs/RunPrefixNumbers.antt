@@ -1,5 +1,6 @@
 -- The numbers of a prefix with one identifier more, and with one fewer.
-use Rattle.std.proofs.Common.{◌≡◌, ◌≢◌, ℕ, zero, suc, ◌+◌, ◌-◌, ◌*◌, ◌/◌, ◌%◌, ◌<◌, ◌≤◌, nat_le, cond, List, [], ◌∷◌, length, get_or, take, drop, slice_get, Some, refl, sym, ap, ◌∙◌, arith, length-drop}
+use Rattle.std.proofs.Common.{◌≡◌, ◌≢◌, ℕ, zero, suc, ◌+◌, ◌-◌, ◌*◌, ◌/◌, ◌%◌, ◌<◌, ◌≤◌, nat_le, cond, List, [], ◌∷◌}
+use Rattle.std.proofs.Common.{length, get_or, take, drop, slice_get, Some, refl, sym, ap, ◌∙◌, arith, length-drop}
 use Rattle.std.proofs.Math.Nat.{div-div-eq-div-mul, div-one, mul_comm}
 use Rattle.std.proofs.lemmas.Bool.Decides.{nat_tests}
 use Rattle.std.proofs.lemmas.List.{take_all, take-take, get_or-take, get_or-drop}
@@ -10,7 +11,8 @@ use Rattle.win_index.specs.Falling.{falling}
 use Rattle.win_index.specs.Windows.{unused, windows, IsWindow}
 use Rattle.win_index.specs.declared.run_prefix.RunPrefix.{RunPrefix}
 use Rattle.win_index.specs.declared.series.RunPlaces.{RunPlaces}
-use Rattle.win_index.proofs.FrontPlaces.{Part, Placed, placed, below, last_place, window_front, shorter_number, part_longer, part_shorter}
+use Rattle.win_index.proofs.FrontPlaces.{Part, Placed, placed, below, last_place, window_front, shorter_number}
+use Rattle.win_index.proofs.FrontPlaces.{part_longer, part_shorter}
 use Rattle.win_index.proofs.Numbers.{windows-zero, window_step, windows_all}
 use Rattle.win_index.proofs.Unused.{lacks_from_differs, unused_all, unused_at}
 
@@ -167,7 +169,8 @@ first_at : (k m x : ℕ) (rest : List ℕ) (p : RunPrefix) → HasNumbers k m (x
 first_at k m x rest p has =
     let later = λ (i : ℕ). let more : i + 2 ≡ suc (1 + i) = omega arith in ap (λ n. get_or (x ∷ rest) n 0) (sym more) in
     let lacks = lacks_from_differs (drop 1 rest) x (λ i lt same.
-    has.window.distinct 0 (i + 2) 0 (omega arith) (omega (arith, lt, length-drop 1 rest)) (sym same ∙ get_or-drop 1 rest i 0 ∙ later i)) in
+    has.window.distinct 0 (i + 2) 0 (omega arith) (omega (arith, lt, length-drop 1 rest)) (sym same
+    ∙ get_or-drop 1 rest i 0 ∙ later i)) in
     rw has.first_gap at (unused_at (drop 1 rest) m x (has.window.below 0 0 (omega arith)) lacks)
 
 -- a list follows from its numbers
@@ -176,5 +179,6 @@ one_list k m [] b p some has other = absurd (omega (arith, has.window.size))
 one_list k m (x ∷ u) [] p some has other = absurd (omega (arith, other.window.size))
 one_list k m (x ∷ u) (y ∷ v) p some has other =
     let rest : u ≡ v = same_Some u v (sym has.middle ∙ other.middle) in
-    let first : x ≡ y = same_Some x y (sym (first_at k m x u p has) ∙ (λ q. slice_get (unused m (drop 1 (rest q))) p.first_gap) ∙ first_at k m y v p other) in
+    let first : x ≡ y = same_Some x y (sym (first_at k m x u p has)
+    ∙ (λ q. slice_get (unused m (drop 1 (rest q))) p.first_gap) ∙ first_at k m y v p other) in
     (λ q. first q ∷ rest q)

@@ -1,5 +1,6 @@
 -- The prefix after a prefix.
-use Rattle.std.proofs.Common.{◌≡◌, ℕ, suc, ◌+◌, ◌-◌, ◌<◌, ◌≤◌, List, [], ◌∷◌, ◌++◌, get_or, take, slice_get, Option, Some, None, IfNone, refl, subst, arith}
+use Rattle.std.proofs.Common.{◌≡◌, ℕ, suc, ◌+◌, ◌-◌, ◌<◌, ◌≤◌, List, [], ◌∷◌, ◌++◌, get_or, take, slice_get, Option}
+use Rattle.std.proofs.Common.{Some, None, IfNone, refl, subst, arith}
 use Rattle.std.proofs.lemmas.Bool.{not-true}
 use Rattle.std.proofs.lemmas.List.{take_at, set_at, get_or_push}
 use Rattle.std.proofs.lemmas.Option.{slice_get-get_or}

@@ -1,5 +1,6 @@
 -- The positions of the windows of a run and of a series.
-use Rattle.std.proofs.Common.{◌≡◌, ◌≢◌, ◌⊎◌, ℕ, ◌+◌, ◌-◌, ◌<◌, ◌≤◌, List, get_or, take, drop, set, slice_get, Some, sym, ap, ◌∙◌, arith}
+use Rattle.std.proofs.Common.{◌≡◌, ◌≢◌, ◌⊎◌, ℕ, ◌+◌, ◌-◌, ◌<◌, ◌≤◌, List, get_or, take, drop, set, slice_get, Some, sym}
+use Rattle.std.proofs.Common.{ap, ◌∙◌, arith}
 use Rattle.std.proofs.lemmas.Bool.Decides.{nat_tests}
 use Rattle.std.proofs.lemmas.List.{take-set, get_or-set_same, get_or-take}
 use Rattle.std.proofs.lemmas.Option.{slice_get-get_or}
@@ -9,7 +10,8 @@ use Rattle.win_index.specs.Windows.{unused, windows, IsWindow}
 use Rattle.win_index.specs.declared.series.RunPlaces.{RunPlaces}
 use Rattle.win_index.proofs.Numbers.{windows_all, unused_left}
 use Rattle.win_index.proofs.Positions.{window_place}
-use Rattle.win_index.proofs.FrontPlaces.{Placed, placed, below, last_place, window_front, window_with, last_of_run, Part, part_apart, part_along, part_window}
+use Rattle.win_index.proofs.FrontPlaces.{Placed, placed, below, last_place, window_front, window_with, last_of_run}
+use Rattle.win_index.proofs.FrontPlaces.{Part, part_apart, part_along, part_window}
 use Rattle.win_index.proofs.Kept.{kept_is}
 use Rattle.win_index.proofs.Unused.{lacks}
 

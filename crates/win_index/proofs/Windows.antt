@@ -1,6 +1,8 @@
--- What other crates cite of windows: lists of distinct identifiers, the identifiers that a list lacks, the numbers of windows,
--- runs, rings and jobs. Of the files here they import this one alone.
-use Rattle.std.proofs.Common.{◌≡◌, ◌≢◌, ◌↔◌, ℕ, zero, suc, ◌+◌, ◌-◌, ◌*◌, ◌/◌, ◌%◌, ◌<◌, ◌≤◌, false, cond, nat_lt, List, [], ◌∷◌, ◌++◌, flat_map, filter, count_by, length, get_or, take, drop, slice_get, Some, IsSome, sym, ap, ◌∙◌, arith, length-drop, get_or-drop}
+-- What other crates cite of windows: lists of distinct identifiers, the identifiers that a list lacks, the numbers
+-- of windows, runs, rings and jobs. Of the files here they import this one alone.
+use Rattle.std.proofs.Common.{◌≡◌, ◌≢◌, ◌↔◌, ℕ, zero, suc, ◌+◌, ◌-◌, ◌*◌, ◌/◌, ◌%◌, ◌<◌, ◌≤◌, false, cond, nat_lt, List}
+use Rattle.std.proofs.Common.{[], ◌∷◌, ◌++◌, flat_map, filter, count_by, length, get_or, take, drop, slice_get, Some}
+use Rattle.std.proofs.Common.{IsSome, sym, ap, ◌∙◌, arith, length-drop, get_or-drop}
 use Rattle.std.proofs.Math.Nat.{mod-lt, mul_assoc, mul-one}
 use Rattle.std.proofs.lemmas.Bool.{not-true}
 use Rattle.std.proofs.lemmas.List.{drop-take, take_all, take_more, take-take}
@@ -58,7 +60,8 @@ pub distinct_take : (n : ℕ) (list : List ℕ) → IsDistinct list → IsDistin
 distinct_take = Unused.distinct_take
 
 -- each of them is not among those before it
-pub free_at : (list : List ℕ) (j : ℕ) → IsDistinct list → j < length list → is_used (take j list) (get_or list j 0) ≡ false
+pub free_at : (list : List ℕ) (j : ℕ) → IsDistinct list → j < length list
+    → is_used (take j list) (get_or list j 0) ≡ false
 free_at = Positions.free_at
 
 -- a number that a list lacks differs from each of its numbers
@@ -66,13 +69,16 @@ pub lacks_differs : (list : List ℕ) (x : ℕ) → is_used list x ≡ false →
 lacks_differs = Unused.lacks_differs
 
 -- a list lacks a number that differs from each of its numbers
-pub lacks_from_differs : (list : List ℕ) (x : ℕ) → ((k : ℕ) → k < length list → get_or list k 0 ≢ x) → is_used list x ≡ false
+pub lacks_from_differs : (list : List ℕ) (x : ℕ) → ((k : ℕ) → k < length list → get_or list k 0 ≢ x)
+    → is_used list x ≡ false
 lacks_from_differs = Unused.lacks_from_differs
 
 -- what a list lacks, its last numbers lack
 pub lacks_drop : (n x : ℕ) (list : List ℕ) → is_used list x ≡ false → is_used (drop n list) x ≡ false
 lacks_drop n x list free =
-    lacks_from_differs (drop n list) x (λ i lt e. lacks_differs list x free (n + i) 0 (omega (arith, length-drop n list)) (sym (get_or-drop n list i 0) ∙ e))
+    lacks_from_differs (drop n list) x
+    (λ i lt e. lacks_differs list x free (n + i) 0 (omega (arith, length-drop n list))
+    (sym (get_or-drop n list i 0) ∙ e))
 
 -- ---- the numbers that a list lacks, and their ranks
 
@@ -93,11 +99,13 @@ unused_is list m index x item =
     record { below = own.below; free = not-true (is_used list x) own.passes; rank_is = own.before }
 
 -- a number that a list lacks is at its rank among those that the list lacks
-pub unused_at : (list : List ℕ) (m x : ℕ) → x < m → is_used list x ≡ false → slice_get (unused m list) (rank list x) ≡ Some x
+pub unused_at : (list : List ℕ) (m x : ℕ) → x < m → is_used list x ≡ false
+    → slice_get (unused m list) (rank list x) ≡ Some x
 unused_at = Unused.unused_at
 
 -- up to a bound a list lacks what it lacks up to a smaller one, and then what it lacks from there on
-pub unused_split : (list : List ℕ) (low m : ℕ) → low ≤ m → unused m list ≡ unused low list ++ filter (lacks list) (range_with_len low (m - low))
+pub unused_split : (list : List ℕ) (low m : ℕ) → low ≤ m
+    → unused m list ≡ unused low list ++ filter (lacks list) (range_with_len low (m - low))
 unused_split list = Kept.kept_split (lacks list)
 
 -- up to the next number a list lacks what it lacks below the number, and the number itself, if it lacks that
@@ -113,7 +121,8 @@ pub rank_rises : (list : List ℕ) (x y : ℕ) → is_used list x ≡ false → 
 rank_rises = Unused.counted
 
 -- two numbers that a list lacks have different ranks
-pub ranks_differ : (list : List ℕ) (x y : ℕ) → is_used list x ≡ false → is_used list y ≡ false → x ≢ y → rank list x ≢ rank list y
+pub ranks_differ : (list : List ℕ) (x y : ℕ) → is_used list x ≡ false → is_used list y ≡ false → x ≢ y
+    → rank list x ≢ rank list y
 ranks_differ = Unused.apart
 
 -- the rank of x is x less the number of smaller numbers in the list
@@ -125,12 +134,14 @@ pub unused_few : (list : List ℕ) (x more : ℕ) → rank list (x + more) ≤ r
 unused_few = Unused.unused_few
 
 -- with a smaller number in front of the list a rank is less by one
-pub unused_in_front : (y x : ℕ) (list : List ℕ) → IsDistinct (y ∷ list) → rank (y ∷ list) x + cond (nat_lt y x) 1 0 ≡ rank list x
+pub unused_in_front : (y x : ℕ) (list : List ℕ) → IsDistinct (y ∷ list)
+    → rank (y ∷ list) x + cond (nat_lt y x) 1 0 ≡ rank list x
 unused_in_front = Unused.unused_in_front
 
 -- and so it is with a smaller number at the end of the list
 pub unused_at_end :
-    (y x : ℕ) (list : List ℕ) → IsDistinct list → is_used list x ≡ false → rank (list ++ x ∷ []) y + cond (nat_lt x y) 1 0 ≡ rank list y
+    (y x : ℕ) (list : List ℕ) → IsDistinct list → is_used list x ≡ false
+    → rank (list ++ x ∷ []) y + cond (nat_lt x y) 1 0 ≡ rank list y
 unused_at_end = Unused.unused_at_end
 
 -- ---- windows
@@ -155,7 +166,8 @@ window_take k m j list le is = slice_window m k 0 j list is (omega arith)
 pub window_drop : (k m j : ℕ) (list : List ℕ) → IsWindow (j + k) m list → IsWindow k m (drop j list)
 window_drop k m j list is =
     let size = is.size in
-    rw (take_all k (drop j list) (omega (arith, length-drop j list))) at (slice_window m (j + k) j k list is (omega arith))
+    rw (take_all k (drop j list) (omega (arith, length-drop j list))) at
+    (slice_window m (j + k) j k list is (omega arith))
 
 -- and all but the first one
 pub back_window : (k m : ℕ) (list : List ℕ) → IsWindow (k + 1) m list → IsWindow k m (drop 1 list)
@@ -164,17 +176,20 @@ back_window k m list is =
     window_drop k m 1 list (rw turn at is)
 
 -- a window is its first identifiers and its last one
-pub whole_list : (k m : ℕ) (window : List ℕ) → IsWindow (k + 1) m window → take k window ++ get_or window k 0 ∷ [] ≡ window
+pub whole_list : (k m : ℕ) (window : List ℕ) → IsWindow (k + 1) m window
+    → take k window ++ get_or window k 0 ∷ [] ≡ window
 whole_list k m window is =
     let size = is.size in
     sym (take_more window k 0 (omega arith)) ∙ take_all (k + 1) window (omega arith)
 
 -- a window with one more identifier that it lacks is a window
-pub push_window : (k m x : ℕ) (front : List ℕ) → IsWindow k m front → x < m → is_used front x ≡ false → IsWindow (suc k) m (front ++ x ∷ [])
+pub push_window : (k m x : ℕ) (front : List ℕ) → IsWindow k m front → x < m → is_used front x ≡ false
+    → IsWindow (suc k) m (front ++ x ∷ [])
 push_window = Numbers.push_window
 
 -- a window that has not all identifiers is the front of a longer one
-pub longer_window : (k m : ℕ) (window : List ℕ) → k < m → IsWindow k m window → (x : ℕ) × IsWindow (suc k) m (window ++ x ∷ [])
+pub longer_window : (k m : ℕ) (window : List ℕ) → k < m → IsWindow k m window
+    → (x : ℕ) × IsWindow (suc k) m (window ++ x ∷ [])
 longer_window k m window few is =
     let some : 0 < length (unused m window) = omega (arith, unused_left is, few) in
     let x = get_or (unused m window) 0 0 in
@@ -183,7 +198,8 @@ longer_window k m window few is =
 
 -- the first p+1 identifiers of a list are a window if the first p are and lack the next one
 pub front_more :
-    (p m : ℕ) (list : List ℕ) → p < length list → IsWindow p m (take p list) → get_or list p 0 < m → is_used (take p list) (get_or list p 0) ≡ false
+    (p m : ℕ) (list : List ℕ) → p < length list → IsWindow p m (take p list) → get_or list p 0 < m
+    → is_used (take p list) (get_or list p 0) ≡ false
     → IsWindow (p + 1) m (take (p + 1) list)
 front_more = Positions.front_more
 
@@ -198,7 +214,8 @@ pub window_place : (k m : ℕ) (list : List ℕ) → IsWindow k m list → (n : 
 window_place = Positions.window_place
 
 -- and only at one place
-pub one_number : (k m i j : ℕ) (list : List ℕ) → slice_get (windows k m) i ≡ Some list → slice_get (windows k m) j ≡ Some list → i ≡ j
+pub one_number : (k m i j : ℕ) (list : List ℕ) → slice_get (windows k m) i ≡ Some list
+    → slice_get (windows k m) j ≡ Some list → i ≡ j
 one_number = Order.one_place
 
 -- the number of a window is its index in the list
@@ -250,7 +267,8 @@ abbrev pub place_of_last : ℕ → List ℕ → ℕ
 place_of_last k list = rank (take k list) (get_or list k 0)
 
 -- a run is at the number of its prefix times the length of a run
-pub run_start_is : (k m n first : ℕ) (front : List ℕ) → slice_get (windows k m) n ≡ Some front → first ≡ n * (m - k) → IsRunStart k m front first
+pub run_start_is : (k m n first : ℕ) (front : List ℕ) → slice_get (windows k m) n ≡ Some front → first ≡ n * (m - k)
+    → IsRunStart k m front first
 run_start_is = RunStarts.run_start_is
 
 -- a window with one identifier more is in the run of its prefix, at the rank of that identifier
@@ -259,7 +277,8 @@ longer_number = RunStarts.longer_number
 
 -- the same from the index of that identifier among those that the prefix lacks
 pub window_from_parts :
-    (k m place rest last : ℕ) (front : List ℕ) → slice_get (windows k m) place ≡ Some front → slice_get (unused m front) rest ≡ Some last
+    (k m place rest last : ℕ) (front : List ℕ) → slice_get (windows k m) place ≡ Some front
+    → slice_get (unused m front) rest ≡ Some last
     → slice_get (windows (suc k) m) (place * (m - k) + rest) ≡ Some (front ++ last ∷ [])
 window_from_parts = Numbers.window_from_parts
 
@@ -291,9 +310,11 @@ run_of k m n longer at' =
       number_is = one_number (k + 1) m n (front.0 * (m - k) + place_of_last k longer) longer at' numbered.1;
     }
 
--- the window at a place of a run has the prefix with the number of the run, and an identifier with the place as its rank
+-- the window at a place of a run has the prefix with the number of the run, and an identifier with the place as its
+-- rank
 pub at_place_of_run :
-    (k m run place : ℕ) (window : List ℕ) → place < m - k → slice_get (windows (k + 1) m) (run * (m - k) + place) ≡ Some window
+    (k m run place : ℕ) (window : List ℕ) → place < m - k
+    → slice_get (windows (k + 1) m) (run * (m - k) + place) ≡ Some window
     → (slice_get (windows k m) run ≡ Some (take k window)) × (place_of_last k window ≡ place)
 at_place_of_run k m run place window lt at' =
     let own = run_of k m (run * (m - k) + place) window at' in
@@ -309,10 +330,12 @@ pub record InLongerRun (k m more n : ℕ) (longer : List ℕ) : Type 0 where
   pub number_is : n ≡ number * falling (m - k) more + rest
 
 -- each window of k+more identifiers has them
-pub in_longer_run : (k m more n : ℕ) (longer : List ℕ) → slice_get (windows (k + more) m) n ≡ Some longer → InLongerRun k m more n longer
+pub in_longer_run : (k m more n : ℕ) (longer : List ℕ) → slice_get (windows (k + more) m) n ≡ Some longer
+    → InLongerRun k m more n longer
 in_longer_run k m more n longer at' =
     let each : ℕ = falling (m - k) more in
-    let below = rw (length-windows (k + more) m, falling-add m k more) at (slice_get_within (windows (k + more) m) n longer at') in
+    let below = rw (length-windows (k + more) m, falling-add m k more) at
+    (slice_get_within (windows (k + more) m) n longer at') in
     let some : 0 < each = grind (arith, below) in
     record {
       number = n / each;
@@ -323,8 +346,10 @@ in_longer_run k m more n longer at' =
     }
 
 -- a number is at one place of one run
-pub one_run : (c place rest number n : ℕ) → rest < c → n ≡ place * c + rest → number * c ≤ n → n < number * c + c → place ≡ number
-one_run c place rest number n short is from to = (same_from_place place rest number (n - number * c) c short (omega arith) (omega arith)).0
+pub one_run : (c place rest number n : ℕ) → rest < c → n ≡ place * c + rest → number * c ≤ n → n < number * c + c
+    → place ≡ number
+one_run c place rest number n short is from to =
+    (same_from_place place rest number (n - number * c) c short (omega arith) (omega arith)).0
 
 -- ---- rings
 
@@ -333,7 +358,8 @@ pub length_arc : (x : List ℕ) (start count : ℕ) → length (arc x start coun
 length_arc = Arcs.length_arc
 
 -- each of them is that of its place, around the ring
-pub item_of_arc : (x : List ℕ) (start count k d : ℕ) → k < count → get_or (arc x start count) k d ≡ get_or x ((start + k) % length x) 0
+pub item_of_arc : (x : List ℕ) (start count k d : ℕ) → k < count
+    → get_or (arc x start count) k d ≡ get_or x ((start + k) % length x) 0
 item_of_arc = Arcs.item_of_arc
 
 -- the first identifiers of an arc are an arc
@@ -345,18 +371,22 @@ pub drop-arc : (x : List ℕ) (start count j : ℕ) → j ≤ count → drop j (
 drop-arc = Arcs.drop-arc
 
 -- an arc that is no longer than the ring is a window
-pub arc_window : (m t start count : ℕ) (x : List ℕ) → IsRing m t x → count ≤ length x → IsWindow count m (arc x start count)
+pub arc_window : (m t start count : ℕ) (x : List ℕ) → IsRing m t x → count ≤ length x
+    → IsWindow count m (arc x start count)
 arc_window = Arcs.arc_window
 
 -- and so are the identifiers around a place
-pub around_window : (m t level place : ℕ) (x : List ℕ) → IsRing m t x → level ≤ t → IsWindow (2 * level + 1) m (window_around x level place)
+pub around_window : (m t level place : ℕ) (x : List ℕ) → IsRing m t x → level ≤ t
+    → IsWindow (2 * level + 1) m (window_around x level place)
 around_window = Arcs.around_window
 
 -- the windows in the first n identifiers of a list are windows of the list
-pub part_of_front : (r step n : ℕ) (list : List ℕ) → step + (2 * r + 1) ≤ n → part_at r step (take n list) ≡ part_at r step list
+pub part_of_front : (r step n : ℕ) (list : List ℕ) → step + (2 * r + 1) ≤ n
+    → part_at r step (take n list) ≡ part_at r step list
 part_of_front r step n list le =
     let split : step + (n - step) ≡ n = omega arith in
-    rw (← split) (ap (take (2 * r + 1)) (drop-take step (n - step) list) ∙ take-take (2 * r + 1) (n - step) (drop step list) (omega arith))
+    rw (← split) (ap (take (2 * r + 1)) (drop-take step (n - step) list)
+    ∙ take-take (2 * r + 1) (n - step) (drop step list) (omega arith))
 
 -- a list of 2t+1+extra distinct identifiers is a ring, and at place t+step it has its window from the offset step on
 pub tuple_ring : TuplesAreRings
@@ -373,45 +403,55 @@ pub no_jobs_below : (m : ℕ) → length (jobs_below m 0) ≡ 0
 no_jobs_below = JobPlaces.no_jobs_below
 
 -- a level has a job for each of its blocks
-pub length_jobs_below : (m level : ℕ) → length (jobs_below m (level + 1)) ≡ length (jobs_below m level) + block_count m level
+pub length_jobs_below : (m level : ℕ)
+    → length (jobs_below m (level + 1)) ≡ length (jobs_below m level) + block_count m level
 length_jobs_below = JobPlaces.length_jobs_below
 
 -- the number of a block's job is that of the jobs of the levels below and of the blocks before it
 pub job_number_at :
-    (m t level block n : ℕ) → level ≤ t → block < block_count m level → n ≡ length (jobs_below m level) + block → job_number m t level block ≡ Some n
+    (m t level block n : ℕ) → level ≤ t → block < block_count m level → n ≡ length (jobs_below m level) + block
+    → job_number m t level block ≡ Some n
 job_number_at = JobNumbers.job_number_at
 
 -- ---- lists of all kinds
 
 -- the first items of two joined lists are those of the first list
-pub slice_get-append_left : {X : Type 0} (xs ys : List X) (n : ℕ) → n < length xs → slice_get (xs ++ ys) n ≡ slice_get xs n
+pub slice_get-append_left : {X : Type 0} (xs ys : List X) (n : ℕ) → n < length xs
+    → slice_get (xs ++ ys) n ≡ slice_get xs n
 slice_get-append_left xs ys n lt = Kept.slice_get-append_left xs ys n lt
 
 -- those after them are the items of the second list
-pub slice_get-append_right : {X : Type 0} (xs ys : List X) (n i : ℕ) → n ≡ length xs + i → slice_get (xs ++ ys) n ≡ slice_get ys i
+pub slice_get-append_right : {X : Type 0} (xs ys : List X) (n i : ℕ) → n ≡ length xs + i
+    → slice_get (xs ++ ys) n ≡ slice_get ys i
 slice_get-append_right xs ys n i is = Kept.slice_get-append_right xs ys n i is
 
 -- what holds of each item of a list and of one more at its end holds of each item of the longer list
 pub each_snoc :
-    {W : Type 0} (P : ℕ → W → Type 0) (xs : List W) (w : W) → ((k : ℕ) (x : W) → slice_get xs k ≡ Some x → P k x) → P (length xs) w
+    {W : Type 0} (P : ℕ → W → Type 0) (xs : List W) (w : W) → ((k : ℕ) (x : W) → slice_get xs k ≡ Some x → P k x)
+    → P (length xs) w
     → (k : ℕ) (x : W) → slice_get (xs ++ w ∷ []) k ≡ Some x → P k x
 each_snoc P xs w before next k x item = Kept.each_snoc P xs w before next k x item
 
 -- n+l consecutive numbers are the first n and then l others
-pub range_with_len-append : (a n l b : ℕ) → a + n ≡ b → range_with_len a (n + l) ≡ range_with_len a n ++ range_with_len b l
+pub range_with_len-append : (a n l b : ℕ) → a + n ≡ b
+    → range_with_len a (n + l) ≡ range_with_len a n ++ range_with_len b l
 range_with_len-append = Kept.range_with_len-append
 
 -- lists of length c that are made of the items of a list, joined, have c times its length
-pub length_pieces : {X Y : Type 0} (f : X → List Y) (xs : List X) (c : ℕ) → HasPieces f xs c → length (flat_map f xs) ≡ length xs * c
+pub length_pieces : {X Y : Type 0} (f : X → List Y) (xs : List X) (c : ℕ) → HasPieces f xs c
+    → length (flat_map f xs) ≡ length xs * c
 length_pieces f xs c each = Pieces.length_pieces f xs c each
 
 -- the item at a place of one of them is in the joined list, behind those of the lists before
 pub piece_at :
-    {X Y : Type 0} (f : X → List Y) (xs : List X) (c place rest : ℕ) (x : X) (item : Y) → HasPieces f xs c → slice_get xs place ≡ Some x
+    {X Y : Type 0} (f : X → List Y) (xs : List X) (c place rest : ℕ) (x : X) (item : Y) → HasPieces f xs c
+    → slice_get xs place ≡ Some x
     → slice_get (f x) rest ≡ Some item → slice_get (flat_map f xs) (place * c + rest) ≡ Some item
-piece_at f xs c place rest x item each source_at item_at = Pieces.piece_at f xs c place rest x item each source_at item_at
+piece_at f xs c place rest x item each source_at item_at =
+    Pieces.piece_at f xs c place rest x item each source_at item_at
 
 -- and each item of the joined list is at such a place
 pub piece_of :
-    {X Y : Type 0} (f : X → List Y) (xs : List X) (c n : ℕ) (item : Y) → HasPieces f xs c → slice_get (flat_map f xs) n ≡ Some item → Piece f xs c n item
+    {X Y : Type 0} (f : X → List Y) (xs : List X) (c n : ℕ) (item : Y) → HasPieces f xs c
+    → slice_get (flat_map f xs) n ≡ Some item → Piece f xs c n item
 piece_of f xs c n item each at' = Pieces.piece_of f xs c n item each at'

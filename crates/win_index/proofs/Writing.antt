@@ -1,6 +1,7 @@
 -- A window from its number: the quotient is the number of the window without its last identifier, and the remainder is
 -- the position of that identifier among those that are left.
-use Rattle.std.proofs.Common.{◌≡◌, ℕ, zero, ◌+◌, ◌-◌, ◌/◌, ◌%◌, ◌<◌, List, length, take, set, slice_get, Some, arith, add-one}
+use Rattle.std.proofs.Common.{◌≡◌, ℕ, zero, ◌+◌, ◌-◌, ◌/◌, ◌%◌, ◌<◌, List, length, take, set, slice_get, Some}
+use Rattle.std.proofs.Common.{arith, add-one}
 use Rattle.std.proofs.lemmas.List.{take_more_set}
 use Rattle.std.proofs.lemmas.Nat.{div_below, mod_below, div-add-mod'}
 use Rattle.win_index.specs.Windows.{unused, windows}

@@ -1,5 +1,6 @@
 -- The statements of the laws of this crate, one definition each.
-use Rattle.std.specs.Prelude.{◌≡◌, ℕ, ◌+◌, ◌-◌, ◌*◌, ◌/◌, ◌%◌, ◌<◌, ◌≤◌, ◌↔◌, List, length, take, slice_get, slice_index, slice_index_or, Some, IsSome}
+use Rattle.std.specs.Prelude.{◌≡◌, ℕ, ◌+◌, ◌-◌, ◌*◌, ◌/◌, ◌%◌, ◌<◌, ◌≤◌, ◌↔◌, List, length, take, slice_get}
+use Rattle.std.specs.Prelude.{slice_index, slice_index_or, Some, IsSome}
 use Rattle.win_index.specs.declared.limits.TheConstants.{MAX_BLOCKS}
 use Rattle.win_index.specs.declared.ring.RingFault.{RingFault}
 use Rattle.win_index.specs.Arcs.{arc, window_around, part_at}

@@ -1,6 +1,7 @@
 -- Runs: the windows with a common prefix, all identifiers but the last. They are consecutive, in the order of their
 -- last identifiers.
-use Rattle.std.specs.Prelude.{◌≡◌, ℕ, ◌+◌, ◌-◌, ◌<◌, ◌≤◌, Bool, List, take, drop, set, length, slice_index, slice_get, Some}
+use Rattle.std.specs.Prelude.{◌≡◌, ℕ, ◌+◌, ◌-◌, ◌<◌, ◌≤◌, Bool, List, take, drop, set, length, slice_index}
+use Rattle.std.specs.Prelude.{slice_get, Some}
 use Rattle.std.specs.Bool.{OnTrue, OnFalse}
 use Rattle.win_index.specs.Successor.{IsNext, IsLast}
 use Rattle.win_index.specs.Windows.{unused, windows, IsWindow}
@@ -69,4 +70,5 @@ pub record IsLongestSeries (places : RunPlaces) (place most count : ℕ) : Type 
   pub few : count ≤ most
   pub inside : place + count ≤ places.end
   pub series : (k m : ℕ) (first : List ℕ) → 1 ≤ k → IsAtPlace k m places first place → IsSeries k m first count
-  pub whole : (k m : ℕ) (first : List ℕ) → 1 ≤ k → IsAtPlace k m places first place → count < most → IsSeries k m first (count + 1) → ⊥
+  pub whole : (k m : ℕ) (first : List ℕ) → 1 ≤ k → IsAtPlace k m places first place → count < most
+      → IsSeries k m first (count + 1) → ⊥

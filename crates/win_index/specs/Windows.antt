@@ -1,5 +1,6 @@
 -- Windows: lists of distinct identifiers, in order, and their numbers.
-use Rattle.std.specs.Prelude.{◌≡◌, ◌≢◌, ◌==◌, ℕ, zero, suc, ◌<◌, Bool, not, nat_eq, Option, List, [], ◌∷◌, ◌++◌, map, filter, flat_map, position, length, All, AllPairs}
+use Rattle.std.specs.Prelude.{◌≡◌, ◌≢◌, ◌==◌, ℕ, zero, suc, ◌<◌, Bool, not, nat_eq, Option, List, [], ◌∷◌, ◌++◌, map}
+use Rattle.std.specs.Prelude.{filter, flat_map, position, length, All, AllPairs}
 use Rattle.std.specs.List.{list_any, range_with_len}
 use lib.Pointwise.{pointwise}
 

@@ -1,6 +1,7 @@
 //! The prefixes of runs, by numbers from which those of the parts of their windows follow. A prefix
 //! is stepped to the next one, so that no list is numbered anew.
-ghost use Rattle.std.specs.Prelude.{◌≡◌, ℕ, List, ◌+◌, ◌-◌, ◌<◌, ◌≤◌, take, nat_lt, if◌then◌else◌, length, slice_index, IfSome, IfNone};
+ghost use Rattle.std.specs.Prelude.{◌≡◌, ℕ, List, ◌+◌, ◌-◌, ◌<◌, ◌≤◌, take, nat_lt, if◌then◌else◌, length, slice_index};
+ghost use Rattle.std.specs.Prelude.{IfSome, IfNone};
 ghost use Rattle.win_index.specs.declared.limits.TheConstants.{MAX_IDS, MAX_WINDOWS};
 ghost use Rattle.win_index.specs.RunPrefixes.{HasNumbers, IsLonger, IsPrefix, IsNextPrefix, IsLastPrefix};
 ghost use Rattle.win_index.specs.Runs.{HasPlaces};
@@ -50,7 +51,8 @@ impl Prefixes {
     // Returns the prefix with one identifier more, which has this position.
     pub(crate) fn longer(self, prefix: RunPrefix, place: u32) -> RunPrefix
         requires { (window : List ℕ) × IsLonger self.len self.ids prefix place window }
-        ensures { (window : List ℕ) → IsLonger self.len self.ids prefix place window → HasNumbers (self.len + 1) self.ids window result }
+        ensures { (window : List ℕ) → IsLonger self.len self.ids prefix place window
+            → HasNumbers (self.len + 1) self.ids window result }
     {
         let free = self.ids - self.len;
         RunPrefix {
@@ -64,7 +66,8 @@ impl Prefixes {
     // Returns the prefix without its last identifier, and the position of that one.
     pub(crate) fn without_last(self, prefix: RunPrefix) -> (RunPrefix, u32)
         requires { IsPrefix (self.len + 1) self.ids prefix }
-        ensures { (window : List ℕ) → HasNumbers (self.len + 1) self.ids window prefix → IsLonger self.len self.ids result.0 result.1 window }
+        ensures { (window : List ℕ) → HasNumbers (self.len + 1) self.ids window prefix
+            → IsLonger self.len self.ids result.0 result.1 window }
     {
         let free = self.ids - self.len;
         let place = prefix.last % (free + 2);
@@ -149,7 +152,8 @@ impl Shape {
     pub fn prefix_places(&self, below: u32, prefix: RunPrefix) -> RunPlaces
         requires below { below < self.now.rounds }
         ensures { (window : List ℕ) → IsWindow (2 * below + 3) self.now.ids window
-            → HasNumbers (2 * below + 2) self.now.ids (take (2 * below + 2) window) prefix → HasPlaces (2 * below + 1) self.now.ids window result }
+            → HasNumbers (2 * below + 2) self.now.ids (take (2 * below + 2) window) prefix
+            → HasPlaces (2 * below + 1) self.now.ids window result }
     {
         self.run_prefixes(below).places(prefix)
     }
@@ -159,7 +163,8 @@ impl Shape {
     pub fn last_run_start(&self, below: u32, prefix: RunPrefix) -> u32
         requires below { below < self.now.rounds }
         requires prefix { IsPrefix (2 * below + 2) self.now.ids prefix }
-        ensures { (list : List ℕ) → HasNumbers (2 * below + 2) self.now.ids list prefix → IsRunStart (2 * below) self.now.ids (drop 2 list) result }
+        ensures { (list : List ℕ) → HasNumbers (2 * below + 2) self.now.ids list prefix
+            → IsRunStart (2 * below) self.now.ids (drop 2 list) result }
     {
         prefix.last * (self.ids - 2 * below)
     }

@@ -37,7 +37,8 @@ impl Model for Ring {
 }
 
 impl Ring {
-    ghost use Rattle.std.specs.Prelude.{◌≡◌, ◌+◌, ◌*◌, ◌<◌, ◌≤◌, ◌↔◌, IfOk, IfErr, IsOk, IsTrue, length, slice_get, Some};
+    ghost use Rattle.std.specs.Prelude.{◌≡◌, ◌+◌, ◌*◌, ◌<◌, ◌≤◌, ◌↔◌, IfOk, IfErr, IsOk, IsTrue, length};
+    ghost use Rattle.std.specs.Prelude.{slice_get, Some};
     ghost use Rattle.win_index.specs.Arcs.{window_around};
     ghost use Rattle.win_index.specs.RingFaults.{IsFirstFault};
 
@@ -45,7 +46,8 @@ impl Ring {
     /// with its first fault: its length, or else the least place whose identifier is too large or
     /// occurs before it.
     pub fn new(shape: Shape, ids: Vec<u32>) -> Result<Ring, (Vec<u32>, RingFault)>
-        ensures ok { IfOk result (λ ring. ring ≡ record { ids = shape.ids; rounds = shape.rounds; places = ids.items }) }
+        ensures ok { IfOk result
+            (λ ring. ring ≡ record { ids = shape.ids; rounds = shape.rounds; places = ids.items }) }
         ensures exact { IsOk result ↔ IsRing shape.ids shape.rounds ids.items }
         ensures err { IfErr result (λ e. (e.0 ≡ ids) × IsFirstFault shape.ids shape.rounds ids.items e.1) }
     {

@@ -1,6 +1,7 @@
 //! The prefixes of the runs of a level, one after another.
 ghost use Rattle.std.specs.Prelude.{◌≡◌, ℕ, List, ◌+◌, ◌-◌, ◌*◌, ◌<◌, ◌≤◌, take, IfSome, IfNone};
-ghost use Rattle.win_index.specs.RunPrefixes.{HasNumbers, IsLonger, IsPrefix, IsNextPrefix, IsLastPrefix, IsPrefixOfNextRun, IsPrefixOfLastRun};
+ghost use Rattle.win_index.specs.RunPrefixes.{HasNumbers, IsLonger, IsPrefix, IsNextPrefix, IsLastPrefix};
+ghost use Rattle.win_index.specs.RunPrefixes.{IsPrefixOfNextRun, IsPrefixOfLastRun};
 ghost use Rattle.win_index.specs.Windows.{IsWindow};
 
 use crate::prefixes::Prefixes;
@@ -32,7 +33,8 @@ impl RunPrefixes {
     pub fn next(self) -> Option<RunPrefixes>
         requires { IsPrefix self.lists.len self.lists.ids self.prefix }
         ensures lists { IfSome result (λ later. later.lists ≡ self.lists) }
-        ensures next { IfSome result (λ later. IsPrefixOfNextRun self.lists.len self.lists.ids self.prefix later.prefix) }
+        ensures next { IfSome result
+            (λ later. IsPrefixOfNextRun self.lists.len self.lists.ids self.prefix later.prefix) }
         ensures last { IfNone result (IsPrefixOfLastRun self.lists.len self.lists.ids self.prefix) }
     {
         self.step()
@@ -91,7 +93,8 @@ impl RunPrefixes {
         requires len { 3 ≤ lists.len }
         requires list { (list : List ℕ) × IsLonger (lists.len - 1) lists.ids front place list }
         ensures lists { result.lists ≡ lists }
-        ensures prefix { (list : List ℕ) → IsLonger (lists.len - 1) lists.ids front place list → HasNumbers lists.len lists.ids list result.prefix }
+        ensures prefix { (list : List ℕ) → IsLonger (lists.len - 1) lists.ids front place list
+            → HasNumbers lists.len lists.ids list result.prefix }
     {
         let prefix = lists.shorter().longer(front, place);
         RunPrefixes {

@@ -81,8 +81,10 @@ impl RunPlaces {
         requires { place < self.end }
         ensures inside { IfSome result (λ next. (place < next) × (next < self.end)) }
         ensures next { IfSome result (λ next. (k m : ℕ) (window : List ℕ) → 1 ≤ k → IsAtPlace k m self window place
-            → (later : List ℕ) × IsAtPlace k m self later next × (take (k + 1) later ≡ take (k + 1) window) × IsNext (k + 2) m window later) }
-        ensures last { IfNone result ((k m : ℕ) (window : List ℕ) → 1 ≤ k → IsAtPlace k m self window place → IsLastOfRun (k + 2) m window) }
+            → (later : List ℕ) × IsAtPlace k m self later next × (take (k + 1) later ≡ take (k + 1) window)
+            × IsNext (k + 2) m window later) }
+        ensures last { IfNone result ((k m : ℕ) (window : List ℕ) → 1 ≤ k → IsAtPlace k m self window place
+            → IsLastOfRun (k + 2) m window) }
     {
         let next = self.past_gap(self.past_gap(place + 1));
         if next < self.end { Some(next) } else { None }

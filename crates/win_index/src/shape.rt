@@ -33,7 +33,8 @@ pub struct Shape {
 }
 
 impl Shape {
-    ghost use Rattle.std.specs.Prelude.{◌≡◌, ℕ, List, ◌+◌, ◌*◌, ◌<◌, ◌↔◌, IsTrue, IfOk, IfErr, IfSome, IsOk, Some, length, take, slice_get};
+    ghost use Rattle.std.specs.Prelude.{◌≡◌, ℕ, List, ◌+◌, ◌*◌, ◌<◌, ◌↔◌, IsTrue, IfOk, IfErr, IfSome, IsOk, Some};
+    ghost use Rattle.std.specs.Prelude.{length, take, slice_get};
     ghost use Rattle.win_index.specs.Windows.{windows, number_of, IsWindow};
     ghost use Rattle.win_index.specs.Runs.{IsRunStart, IsReplacedByRun};
     ghost use Rattle.win_index.specs.Successor.{IsReplaced};

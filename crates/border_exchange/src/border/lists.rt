@@ -1,5 +1,6 @@
 //! The content of a border under its lock.
-ghost use Rattle.std.specs.Prelude.{◌≡◌, ◌+◌, ◌^◌, ◌<◌, ◌≤◌, ◌↔◌, [], IsTrue, true, false, Err, OnOk, OnErr, IfErr, IfOk, IfSome, length, slice_get};
+ghost use Rattle.std.specs.Prelude.{◌≡◌, ◌+◌, ◌^◌, ◌<◌, ◌≤◌, ◌↔◌, [], IsTrue, true, false, Err, OnOk, OnErr, IfErr};
+ghost use Rattle.std.specs.Prelude.{IfOk, IfSome, length, slice_get};
 ghost use Rattle.border_exchange.specs.InRounds.{AreInRounds};
 ghost use Rattle.border_exchange.specs.BorderContents.{messages_of, with_message};
 ghost use Rattle.border_exchange.specs.SeatState.{IsNext, IsPutFault};
@@ -29,7 +30,11 @@ impl<M: Dated, R: Ledger, L: Ledger> Model for BorderLists<M, R, L> {
 
     ghost Value = { BorderContents M };
 
-    ghost view = { λ b. record { rightward = b.rightward.messages; leftward = b.leftward.messages; closed = b.closed } };
+    ghost view = { λ b. record {
+      rightward = b.rightward.messages;
+      leftward = b.leftward.messages;
+      closed = b.closed;
+    } };
 
     ghost invariant = { λ b. (b.rightward.side ≡ Rightward) × (b.leftward.side ≡ Leftward) };
 }

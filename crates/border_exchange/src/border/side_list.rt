@@ -1,5 +1,6 @@
 //! The message list of one side.
-ghost use Rattle.std.specs.Prelude.{◌≡◌, ◌+◌, ◌<◌, [], ◌∷◌, ◌++◌, length, Some, OnOk, OnErr, IfErr, IfOk, IfSome, slice_get};
+ghost use Rattle.std.specs.Prelude.{◌≡◌, ◌+◌, ◌<◌, [], ◌∷◌, ◌++◌, length, Some, OnOk, OnErr, IfErr, IfOk};
+ghost use Rattle.std.specs.Prelude.{IfSome, slice_get};
 ghost use Rattle.border_exchange.specs.InRounds.{AreInRounds};
 
 use crate::{Dated, Side};
@@ -26,7 +27,8 @@ impl<M: Dated, L: Ledger> Model for SideList<M, L> {
 
     ghost view = { λ w. record { side = w.side; messages = w.messages.items } };
 
-    ghost invariant = { λ w. (w.book.total ≡ length w.messages.items) × AreInRounds M.side_of M.round_of w.side w.messages.items × (L.parts ≡ 1) };
+    ghost invariant = { λ w. (w.book.total ≡ length w.messages.items)
+        × AreInRounds M.side_of M.round_of w.side w.messages.items × (L.parts ≡ 1) };
 }
 
 impl<M: Dated + Copy, L: Ledger> SideList<M, L> {
@@ -73,7 +75,8 @@ impl<M: Dated + Copy, L: Ledger> SideList<M, L> {
     /// Appends a message, and counts it in the book and in the share. If the list can't grow, the
     /// message is returned and nothing else changes.
     pub(crate) fn append(&mut self, share: &mut Share<L>, message: M) -> Result<(), M>
-        requires { (0 < share.old.parts) × (M.side_of message ≡ self.old.side) × (M.round_of message ≡ length self.old.messages) }
+        requires { (0 < share.old.parts) × (M.side_of message ≡ self.old.side)
+            × (M.round_of message ≡ length self.old.messages) }
         ensures appended { OnOk result ((self.new ≡ record self.old { messages = self.old.messages ++ message ∷ [] })
             × (share.new.amount ≡ share.old.amount + 1)) }
         ensures parts { share.new.parts ≡ share.old.parts }

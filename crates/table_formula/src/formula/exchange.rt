@@ -23,7 +23,8 @@ pub(crate) fn exchanged_number(shape: Shape, number: u32, first: u32, second: u3
     requires first { first < shape.ids }
     requires second { second < shape.ids }
     ensures value { number_of (2 * shape.rounds + 1) shape.ids
-        (map (exchanged first second) (slice_index_or (windows (2 * shape.rounds + 1) shape.ids) number [])) ≡ Some result }
+        (map (exchanged first second) (slice_index_or (windows (2 * shape.rounds + 1) shape.ids) number []))
+        ≡ Some result }
     ensures below { result < length (windows (2 * shape.rounds + 1) shape.ids) }
 {
     let rounds = shape.rounds();

@@ -1,7 +1,8 @@
 //! Patterns with other channels.
 ghost use Rattle.std.specs.Prelude.{◌≡◌};
 ghost use Rattle.std.specs.List.{list_any};
-ghost use Rattle.table_formula.specs.Exchanges.{entry_by, is_same_entry, is_same_pattern, map_to_themselves, pattern_by};
+ghost use Rattle.table_formula.specs.Exchanges.{entry_by, is_same_entry, is_same_pattern};
+ghost use Rattle.table_formula.specs.Exchanges.{map_to_themselves, pattern_by};
 ghost use Rattle.table_formula.specs.ChannelMaps.{other_channel};
 
 use crate::formula::exchange::other_of;

@@ -6,7 +6,8 @@ ghost use Rattle.devices.specs.declared.chunk.TheConstants.{CHUNK_LEN};
 ghost use Rattle.devices.specs.Output.{SendsText, SendsSoFar, WritesText};
 ghost use Rattle.devices.specs.Watched.{device_of, has_failed};
 ghost use Rattle.table_formula.specs.Formula.{formula as clauses_of, clause_room};
-ghost use Rattle.table_formula.specs.Texts.{literal_text, clause_text, clauses_text, head_text, formula_text, patterns_line};
+ghost use Rattle.table_formula.specs.Texts.{literal_text, clause_text, clauses_text, head_text};
+ghost use Rattle.table_formula.specs.Texts.{formula_text, patterns_line};
 
 use crate::formula::Formula;
 use crate::literal::Literal;
@@ -35,7 +36,8 @@ pub fn write_formula<W: Write>(
     writer: &mut Watched<W>,
 ) -> Result<(), OutFault>
     requires { has_failed writer.old ≡ false }
-    ensures { WritesText (formula_text formula.now) (W.contents (device_of writer.old)) (W.contents (device_of writer.new)) (has_failed writer.new) result }
+    ensures { WritesText (formula_text formula.now) (W.contents (device_of writer.old))
+        (W.contents (device_of writer.new)) (has_failed writer.new) result }
 {
     let comment = patterns_line(alloc, formula.forbidden())?;
     let mut clause = vec![in alloc; Literal::new(0, true); formula.clause_room()]?;
@@ -72,7 +74,8 @@ fn write_lines<W: Write>(
     requires working { has_failed writer.old ≡ false }
     requires first { chunk.old ≡ head_text formula.now }
     requires room { clause_room formula.now ≤ length clause.old }
-    ensures { SendsText (comment.now ++ clauses_text formula.now) (W.contents (device_of writer.old)) (W.contents (device_of writer.new)) (has_failed writer.new) result }
+    ensures { SendsText (comment.now ++ clauses_text formula.now) (W.contents (device_of writer.old))
+        (W.contents (device_of writer.new)) (has_failed writer.new) result }
 {
     send(writer, comment)?;
     write_clauses(writer, chunk, clause, formula)
@@ -110,7 +113,8 @@ fn write_clauses<W: Write>(
     requires working { has_failed writer.old ≡ false }
     requires first { chunk.old ≡ head_text formula.now }
     requires room { clause_room formula.now ≤ length clause.old }
-    ensures { SendsText (clauses_text formula.now) (W.contents (device_of writer.old)) (W.contents (device_of writer.new)) (has_failed writer.new) result }
+    ensures { SendsText (clauses_text formula.now) (W.contents (device_of writer.old))
+        (W.contents (device_of writer.new)) (has_failed writer.new) result }
 {
     for index in 0..formula.count() {
         let len = formula.write_clause(index, clause);
@@ -126,7 +130,8 @@ fn write_clause<W: Write>(
     clause: &[Literal],
 ) -> Result<(), EngineFault>
     requires { has_failed writer.old ≡ false }
-    ensures { SendsSoFar (chunk.old ++ clause_text clause.now) chunk.new (W.contents (device_of writer.old)) (W.contents (device_of writer.new)) (has_failed writer.new) result }
+    ensures { SendsSoFar (chunk.old ++ clause_text clause.now) chunk.new (W.contents (device_of writer.old))
+        (W.contents (device_of writer.new)) (has_failed writer.new) result }
 {
     for l in clause {
         chunk.make_room(LITERAL_LEN, writer)?;

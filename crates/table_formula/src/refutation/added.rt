@@ -12,7 +12,8 @@ pub(crate) fn insert_clause(
     number: u64,
     clause: Vec<Literal>,
 ) -> Result<(), AllocError>
-    ensures ok { OnOk result ((n : ℕ) → added_clause added.new n ≡ (if n == number then Some clause.items else added_clause added.old n)) }
+    ensures ok { OnOk result ((n : ℕ)
+        → added_clause added.new n ≡ (if n == number then Some clause.items else added_clause added.old n)) }
     ensures err { OnErr result ((n : ℕ) → added_clause added.new n ≡ added_clause added.old n) }
 {
     added.insert(number, clause)?;

@@ -33,7 +33,8 @@ impl<'f> Checker<'f> {
     ghost use Rattle.std.specs.Prelude.{◌<◌, true, None, IsTrue, IfOk, IfErr, OnOk, OnErr};
     ghost use Rattle.table_formula.specs.Hints.{outcome_of};
     ghost use Rattle.table_formula.specs.Marked.{is_marked};
-    ghost use Rattle.table_formula.specs.Derivations.{opening, hints_fault, is_known, step_fault, line_fault, with_clause, after_line};
+    ghost use Rattle.table_formula.specs.Derivations.{opening, hints_fault, is_known, step_fault, line_fault};
+    ghost use Rattle.table_formula.specs.Derivations.{with_clause, after_line};
     ghost use Rattle.table_formula.specs.Forms.{line_of, is_addition};
     ghost use Rattle.table_formula.specs.Stored.{clause_of};
     ghost use Rattle.table_formula.specs.Checked.{problem_of, derivation_of};
@@ -67,7 +68,8 @@ impl<'f> Checker<'f> {
     ) -> Option<LineFault>
         ensures problem { problem_of self.new ≡ problem_of self.old }
         ensures derivation { derivation_of self.new ≡ derivation_of self.old }
-        ensures value { result ≡ line_fault (problem_of self.old) (derivation_of self.old) (line_of form clause.now numbers.now) }
+        ensures value { result ≡ line_fault (problem_of self.old) (derivation_of self.old)
+            (line_of form clause.now numbers.now) }
     {
         match form {
             LineForm::Malformed => Some(LineFault::Form),
@@ -86,9 +88,11 @@ impl<'f> Checker<'f> {
         clause: &[Literal],
         numbers: &[u64],
     ) -> Result<(), AllocError>
-        requires { line_fault (problem_of self.old) (derivation_of self.old) (line_of form clause.now numbers.now) ≡ None }
+        requires { line_fault (problem_of self.old) (derivation_of self.old) (line_of form clause.now numbers.now)
+            ≡ None }
         ensures problem { problem_of self.new ≡ problem_of self.old }
-        ensures after { OnOk result (derivation_of self.new ≡ after_line (derivation_of self.old) (line_of form clause.now numbers.now)) }
+        ensures after { OnOk result
+            (derivation_of self.new ≡ after_line (derivation_of self.old) (line_of form clause.now numbers.now)) }
         ensures refused { OnErr result (is_addition form ≡ true) }
         ensures kept { OnErr result (derivation_of self.new ≡ derivation_of self.old) }
     {
@@ -112,7 +116,8 @@ impl<'f> Checker<'f> {
     ) -> Option<LineFault>
         ensures problem { problem_of self.new ≡ problem_of self.old }
         ensures derivation { derivation_of self.new ≡ derivation_of self.old }
-        ensures value { result ≡ step_fault (problem_of self.old) (derivation_of self.old) exchange number clause.now hints.now }
+        ensures value { result ≡ step_fault (problem_of self.old) (derivation_of self.old) exchange number
+            clause.now hints.now }
     {
         if number <= self.newest {
             return Some(LineFault::NumberNotAscending);
@@ -131,7 +136,8 @@ impl<'f> Checker<'f> {
     fn fault_of_hints(&mut self, hints: &[u64]) -> Option<LineFault>
         ensures problem { problem_of self.new ≡ problem_of self.old }
         ensures derivation { derivation_of self.new ≡ derivation_of self.old }
-        ensures value { result ≡ hints_fault (outcome_of (clause_of self.old.clauses) (is_marked self.old.marks) hints.now) }
+        ensures value { result ≡ hints_fault
+            (outcome_of (clause_of self.old.clauses) (is_marked self.old.marks) hints.now) }
     {
         match outcome_of_hints(&self.clauses, &mut self.marks, &mut self.room, hints) {
             Outcome::Follows => None,

@@ -24,7 +24,8 @@ pub(crate) struct Clauses<'f> {
 }
 
 impl<'f> Clauses<'f> {
-    ghost use Rattle.std.specs.Prelude.{ℕ, ◌==◌, ◌<◌, ◌≤◌, None, Some, IfOk, IfSome, OnOk, OnErr, All, IsTrue, map, option_map, if◌then◌else◌};
+    ghost use Rattle.std.specs.Prelude.{ℕ, ◌==◌, ◌<◌, ◌≤◌, None, Some, IfOk, IfSome, OnOk, OnErr, All, IsTrue, map};
+    ghost use Rattle.std.specs.Prelude.{option_map, if◌then◌else◌};
     ghost use Rattle.std.specs.List.{list_any};
     ghost use Rattle.table_formula.specs.Hints.{left_of, remaining_of};
     ghost use Rattle.table_formula.specs.Marked.{is_marked, variables_of, IsOneBelow};
@@ -38,7 +39,8 @@ impl<'f> Clauses<'f> {
     /// Returns the clauses of a formula.
     pub(crate) fn new(alloc: Global, formula: &'f Formula) -> Result<Clauses<'f>, AllocError>
         ensures formula { IfOk result (λ clauses. clauses.formula.now ≡ formula.now) }
-        ensures clauses { IfOk result (λ clauses. (number : ℕ) → clause_of clauses number ≡ (opening formula.now).clauses number) }
+        ensures clauses { IfOk result (λ clauses. (number : ℕ)
+            → clause_of clauses number ≡ (opening formula.now).clauses number) }
     {
         Ok(Clauses {
             formula,
@@ -57,7 +59,8 @@ impl<'f> Clauses<'f> {
     ) -> Option<Remaining>
         requires variables { variables_of marks.now ≡ variable_count self.now.formula.now }
         requires room { clause_room self.now.formula.now ≤ length room.old }
-        ensures value { result ≡ option_map (λ clause. remaining_of (left_of (is_marked marks.now) clause)) (clause_of self.now number) }
+        ensures value { result ≡ option_map (λ clause. remaining_of (left_of (is_marked marks.now) clause))
+            (clause_of self.now number) }
         ensures below { IfSome result (IsOneBelow (variables_of marks.now)) }
         ensures room { length room.new ≡ length room.old }
     {
@@ -87,7 +90,8 @@ impl<'f> Clauses<'f> {
         requires may { IsTrue (may_exchange self.now.formula.now exchange) }
         requires known { IsTrue (is_known self.now.formula.now clause.now) }
         requires variables { variables_of marks.old ≡ variable_count self.now.formula.now }
-        ensures marked { (k : Lit) → is_marked marks.new k ≡ has_literal (after_exchange self.now.formula.now exchange clause.now) k }
+        ensures marked { (k : Lit)
+            → is_marked marks.new k ≡ has_literal (after_exchange self.now.formula.now exchange clause.now) k }
         ensures variables { variables_of marks.new ≡ variables_of marks.old }
     {
         match exchange {
@@ -101,7 +105,8 @@ impl<'f> Clauses<'f> {
         requires can { IsTrue (can_exchange self.now.formula.now exchange) }
         requires known { IsTrue (is_known self.now.formula.now clause.now) }
         requires variables { variables_of marks.old ≡ variable_count self.now.formula.now }
-        ensures marked { (k : Lit) → is_marked marks.new k ≡ has_literal (map (exchanged_literal self.now.formula.now exchange) clause.now) k }
+        ensures marked { (k : Lit)
+            → is_marked marks.new k ≡ has_literal (map (exchanged_literal self.now.formula.now exchange) clause.now) k }
         ensures variables { variables_of marks.new ≡ variables_of marks.old }
     {
         marks.take_clause(&[]);
@@ -138,7 +143,8 @@ impl<'f> Clauses<'f> {
         requires after { length (clauses_of self.old.formula.now) < number }
         requires known { All (λ l. l.variable < variable_count self.old.formula.now) clause.items }
         ensures formula { self.new.formula.now ≡ self.old.formula.now }
-        ensures clauses { OnOk result ((n : ℕ) → clause_of self.new n ≡ (if n == number then Some clause.items else clause_of self.old n)) }
+        ensures clauses { OnOk result ((n : ℕ)
+            → clause_of self.new n ≡ (if n == number then Some clause.items else clause_of self.old n)) }
         ensures kept { OnErr result ((n : ℕ) → clause_of self.new n ≡ clause_of self.old n) }
     {
         insert_clause(&mut self.added, number, clause)

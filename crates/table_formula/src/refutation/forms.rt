@@ -75,7 +75,8 @@ fn read_list<T: Spelled>(words: &mut Split, items: &mut Vec<T>) -> Result<bool, 
 
 // Reads numbers up to the last word, which ends their list. Returns whether the words are such.
 fn read_all_numbers(words: Split, numbers: &mut Vec<u64>) -> Result<bool, AllocError>
-    ensures { IfOk result (λ is_list. said.numbers_in (parts_left words.entry) ≡ (if is_list then Some numbers.new.items else None)) }
+    ensures { IfOk result (λ is_list. said.numbers_in (parts_left words.entry)
+        ≡ (if is_list then Some numbers.new.items else None)) }
 {
     let mut rest = words;
     let is_list = read_list(&mut rest, numbers)?;
@@ -107,7 +108,8 @@ fn read_numbered(
     clause: &mut Vec<Literal>,
     numbers: &mut Vec<u64>,
 ) -> Result<LineForm, AllocError>
-    ensures { IfOk result (λ form. said.numbered_line number (parts_left words.entry) ≡ line_of form clause.new.items numbers.new.items) }
+    ensures { IfOk result (λ form. said.numbered_line number (parts_left words.entry)
+        ≡ line_of form clause.new.items numbers.new.items) }
 {
     let Some(number) = number else {
         return Ok(LineForm::Malformed);
@@ -130,7 +132,8 @@ fn read_lettered(
     clause: &mut Vec<Literal>,
     numbers: &mut Vec<u64>,
 ) -> Result<LineForm, AllocError>
-    ensures { IfOk result (λ form. said.lettered_line letter number (parts_left words.entry) ≡ line_of form clause.new.items numbers.new.items) }
+    ensures { IfOk result (λ form. said.lettered_line letter number (parts_left words.entry)
+        ≡ line_of form clause.new.items numbers.new.items) }
 {
     if matches!(letter, Letter::Deletion) {
         return read_deletion(words, numbers);
@@ -144,7 +147,8 @@ fn read_lettered(
 
 // Reads the numbers of a deletion.
 fn read_deletion(words: Split, numbers: &mut Vec<u64>) -> Result<LineForm, AllocError>
-    ensures { IfOk result (λ form. (clause : List Lit) → option_map Deletion (said.numbers_in (parts_left words.entry)) ≡ line_of form clause numbers.new.items) }
+    ensures { IfOk result (λ form. (clause : List Lit)
+        → option_map Deletion (said.numbers_in (parts_left words.entry)) ≡ line_of form clause numbers.new.items) }
 {
     if read_all_numbers(words, numbers)? {
         Ok(LineForm::Deletion)
@@ -161,7 +165,9 @@ fn read_addition(
     clause: &mut Vec<Literal>,
     numbers: &mut Vec<u64>,
 ) -> Result<LineForm, AllocError>
-    ensures { IfOk result (λ form. said.addition_of exchange number (said.list_in spelled.literal_in (parts_left words.entry)) ≡ line_of form clause.new.items numbers.new.items) }
+    ensures { IfOk result (λ form. said.addition_of exchange number
+        (said.list_in spelled.literal_in (parts_left words.entry))
+        ≡ line_of form clause.new.items numbers.new.items) }
 {
     let mut rest = words;
     if read_list(&mut rest, clause)? && read_all_numbers(rest, numbers)? {
@@ -173,7 +179,8 @@ fn read_addition(
 
 // Takes the words of an exchange with this letter.
 fn exchange_in(letter: Letter, words: &mut Split) -> Option<Exchange>
-    ensures { said.exchange_in letter (parts_left words.old) ≡ option_map (λ exchange. (exchange, parts_left words.new)) result }
+    ensures { said.exchange_in letter (parts_left words.old)
+        ≡ option_map (λ exchange. (exchange, parts_left words.new)) result }
 {
     match letter {
         Letter::Deletion => None,

@@ -108,7 +108,8 @@ impl Marks {
         ensures marked { (k : Lit) → is_marked self.new k ≡ false }
         ensures variables { variables_of self.new ≡ variables_of self.old }
         ensures newest { self.old.newest < u32.MAX → self.new.newest ≡ self.old.newest + 1 }
-        ensures stamps { self.old.newest < u32.MAX → (self.new.positive ≡ self.old.positive) × (self.new.negative ≡ self.old.negative) }
+        ensures stamps { self.old.newest < u32.MAX
+            → (self.new.positive ≡ self.old.positive) × (self.new.negative ≡ self.old.negative) }
     {
         if self.newest == u32::MAX {
             self.positive.fill(0);

@@ -10,7 +10,8 @@ use Rattle.channel_tables.proofs.Close.{too_close_along, too_close_for_more}
 use Rattle.channel_tables.proofs.Witnesses.{none_bad, suffice}
 use Rattle.channel_tables.proofs.laws.less_is_apart.Goals as goal
 
-module _ (t : ChannelTable) (s less : Separation) (near : less.near ≤ s.near) (far : less.far ≤ s.far) (apart : IsApart t s) where
+module _ (t : ChannelTable) (s less : Separation) (near : less.near ≤ s.near) (far : less.far ≤ s.far)
+    (apart : IsApart t s) where
   -- the tuples are as long
   same_tuples : extra less ≡ extra s → IsApart t less
   unfolding IsBad

@@ -31,16 +31,19 @@ proper_of_apart t apart k d within same =
 apart_of_proper : (t : ChannelTable) → IsProper t → IsApart t one_apart
 unfolding IsBad
 apart_of_proper t proper =
-    subst (λ n. All (λ y. ¬ IsBad t one_apart y) (windows n t.ids)) (sym (more t)) (λ k d within close. proper k d within (same_of_too_close _ _ _ close))
+    subst (λ n. All (λ y. ¬ IsBad t one_apart y) (windows n t.ids)) (sym (more t))
+    (λ k d within close. proper k d within (same_of_too_close _ _ _ close))
 
 good_of_apart : (t : ChannelTable) → IsApartEverywhere t one_apart → IsGoodEverywhere t
 good_of_apart t apart ring place is within same =
     let long = is.long in
-    apart_not_too_close one_apart _ _ _ (apart ring place is (omega arith) within) (inl (close_of_same _ _ (channel_around t ring place is) same))
+    apart_not_too_close one_apart _ _ _ (apart ring place is (omega arith) within)
+    (inl (close_of_same _ _ (channel_around t ring place is) same))
 
 apart_of_good : (t : ChannelTable) → IsGoodEverywhere t → IsApartEverywhere t one_apart
 apart_of_good t good ring place is long within =
-    apart_of_not_too_close one_apart _ _ _ (channel_around t ring place is) (channel_around t ring (place + 1) is) (channel_around t ring (place + 2) is)
+    apart_of_not_too_close one_apart _ _ _ (channel_around t ring place is) (channel_around t ring (place + 1) is)
+    (channel_around t ring (place + 2) is)
     (λ close. good ring place is within (same_of_too_close _ _ _ close))
 
 pub returns-clause-proper : goal.returns-clause-proper

@@ -4,7 +4,8 @@ use Rattle.std.proofs.lemmas.Grind.{common_steps}
 use Rattle.std.proofs.lemmas.List.{take-append-le}
 use Rattle.devices.proofs.Known.{on_err}
 use Rattle.devices.specs.Watched.{has_failed}
-use Rattle.devices.proofs.input.read_input.Goals.{else-reads-test, then-reads-test+then-len-most, then-reads-test+else-len-most+in_ok-count+then-count-eq0}
+use Rattle.devices.proofs.input.read_input.Goals.{else-reads-test, then-reads-test+then-len-most}
+use Rattle.devices.proofs.input.read_input.Goals.{then-reads-test+else-len-most+in_ok-count+then-count-eq0}
 use Rattle.devices.proofs.input.read_input.Goals as goal
 
 -- The last bytes were taken from the reader, and there was no memory to keep them.
@@ -22,7 +23,8 @@ reads-preserved g c =
     let bound = c.in_ok-count.ensures.bound in
     let within : c.in_ok-count.count ≤ length c.read.new.buffer = search rules in
     record {
-      taken = rw (c.in_ok-extend_from_slice.ensures.items, take-append-le) (Consumes-trans _ _ _ _ _ c.reads.invariant.taken last);
+      taken = rw (c.in_ok-extend_from_slice.ensures.items, take-append-le)
+          (Consumes-trans _ _ _ _ _ c.reads.invariant.taken last);
       turns = grind (arith, common_steps);
       bounded = grind (arith, common_steps);
       working = search rules;
@@ -46,7 +48,8 @@ returns-clause-failed g c =
     let working : has_failed c.reads-test.reader ≡ false = elim c.reads-test.branch [
       | else-reads-test w ↦ rw w.reader-is inv.working
       | then-reads-test+then-len-most w ↦ rw w.reader-is inv.working
-      | then-reads-test+else-len-most+in_ok-count+then-count-eq0 w ↦ rw w.reader-is (ap is_some w.in_ok-count.ensures.call.noted ∙ inv.working)
+      | then-reads-test+else-len-most+in_ok-count+then-count-eq0 w ↦ rw w.reader-is
+          (ap is_some w.in_ok-count.ensures.call.noted ∙ inv.working)
     ] in
     record { fault_is = tt; failed_is = (λ none. absurd (cc), λ failed. absurd (cc)) }
 

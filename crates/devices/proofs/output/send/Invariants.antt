@@ -5,7 +5,8 @@ use Rattle.devices.proofs.output.send.Given as goal
 
 abbrev pub invariant-loop-sent : goal.invariant-loop-sent
 invariant-loop-sent g l = record {
-  front : Appends (g.W.Write.contents l.initial.writer.device) (g.W.Write.contents l.writer.device) (take l.sent l.bytes);
+  front : Appends (g.W.Write.contents l.initial.writer.device) (g.W.Write.contents l.writer.device)
+      (take l.sent l.bytes);
   bounded : l.sent ≤ length l.bytes;
   working : has_failed l.writer ≡ false;
 }

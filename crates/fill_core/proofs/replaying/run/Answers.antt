@@ -23,4 +23,5 @@ loop-event-preserved c =
 pub returns-clause-follows : goal.returns-clause-follows
 returns-clause-follows c =
     let l = c.loop-event in
-    replay_follows (take l.event-index c.args.events.now) c.args.plan.now c.args.workers (machine_of l.world) c.jobs_have_numbers.ensures.at c.requires l.invariant
+    replay_follows (take l.event-index c.args.events.now) c.args.plan.now c.args.workers
+    (machine_of l.world) c.jobs_have_numbers.ensures.at c.requires l.invariant

@@ -8,7 +8,8 @@ returns-clause-headline g c =
     let p = c.args.plan.now.program in
     let m = c.args.plan.now.ids in
     let compiled = c.in_ok-table.ensures in
-    let good = good_tables p m c.args.separation c.in_ok-table.table (λ i. (compiled.table i).ids) (λ i. (compiled.table i).rounds) compiled.agrees in
+    let good = good_tables p m c.args.separation c.in_ok-table.table (λ i. (compiled.table i).ids)
+    (λ i. (compiled.table i).rounds) compiled.agrees in
     let yes = c.in-Ok-judge.ensures.yes in
     record {
       table_agrees = compiled.agrees;

@@ -5,4 +5,5 @@ use Rattle.headline.proofs.laws.program_tables_solve.Goals as goal
 
 pub returns : goal.returns
 unfolding table_of
-returns c = λ p m problem. solving_tables p m problem (table_of p m) refl refl (c.table_has_the_channels_of_rounds.ensures p m)
+returns c = λ p m problem. solving_tables p m problem (table_of p m) refl refl
+    (c.table_has_the_channels_of_rounds.ensures p m)

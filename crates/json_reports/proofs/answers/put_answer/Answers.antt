@@ -8,7 +8,8 @@ returns-in_ok-put_bounds-in-Accepted c =
     let a = c.in-Accepted in
     let sizes = size_fields a.ids a.rounds a.channels in
     rw a.is (record {
-      ok = more _ _ _ (kind (codes "accepted") ∷ sizes) (numbered (codes "bound") a.bound ∷ numbered (codes "windows") a.windows ∷ [])
+      ok = more _ _ _ (kind (codes "accepted") ∷ sizes)
+          (numbered (codes "bound") a.bound ∷ numbered (codes "windows") a.windows ∷ [])
           (more _ _ _ (kind (codes "accepted") ∷ []) sizes c.in_ok-put_text-in-Accepted.ensures.ok c.in_ok-put_sizes-in-Accepted.ensures.ok)
           c.in_ok-put_bounds-in-Accepted.ensures.ok;
       before = c.in_ok-put_bounds-in-Accepted.ensures.before ∙ c.in_ok-put_sizes-in-Accepted.ensures.before
@@ -20,4 +21,5 @@ returns-in_ok-put_program-in-Program c =
     rw c.in-Program.is (record { ok = c.in_ok-put_program-in-Program.ensures.ok; before = c.in_ok-put_program-in-Program.ensures.before })
 
 pub returns-in_ok-put_no-in-No : goal.returns-in_ok-put_no-in-No
-returns-in_ok-put_no-in-No c = rw c.in-No.is (record { ok = c.in_ok-put_no-in-No.ensures.ok; before = c.in_ok-put_no-in-No.ensures.before })
+returns-in_ok-put_no-in-No c =
+    rw c.in-No.is (record { ok = c.in_ok-put_no-in-No.ensures.ok; before = c.in_ok-put_no-in-No.ensures.before })

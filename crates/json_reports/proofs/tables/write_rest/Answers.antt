@@ -1,4 +1,5 @@
-use Rattle.std.proofs.Common.{◌≡◌, ◌+◌, ◌-◌, ◌++◌, List, ℕ, ◌≤◌, Option, length, drop, take, codes, refl, subst, ap, ◌∙◌, arith, rules}
+use Rattle.std.proofs.Common.{◌≡◌, ◌+◌, ◌-◌, ◌++◌, List, ℕ, ◌≤◌, Option, length, drop, take, codes, refl, subst, ap}
+use Rattle.std.proofs.Common.{◌∙◌, arith, rules}
 use Rattle.std.specs.List.{flat_map}
 use Rattle.std.proofs.lemmas.List.{take_all}
 use Rattle.devices.specs.Output.{IsWrittenSoFar}
@@ -9,7 +10,8 @@ use Rattle.json_reports.proofs.tables.write_rest.Goals as goal
 
 -- once all channels are taken, those so far are all
 all_told : (a b : Option (List ℕ)) (chunk entries : List ℕ) (i : ℕ) → length entries ≤ i
-    → IsWrittenSoFar a b chunk (flat_map entry_text (take i entries)) → IsWrittenSoFar a b chunk (flat_map entry_text entries)
+    → IsWrittenSoFar a b chunk (flat_map entry_text (take i entries))
+    → IsWrittenSoFar a b chunk (flat_map entry_text entries)
 all_told a b chunk entries i le told =
     subst (λ (k : List ℕ). IsWrittenSoFar a b chunk (flat_map entry_text k)) (take_all i entries le) told
 
@@ -21,12 +23,14 @@ loop-first-preserved g c =
     let front = flat_map entry_text (take first entries) in
     let exact : first + count - first ≡ count = omega arith in
     let moved = tells_moved _ _ _ c.loop-first.chunk _ _ c.loop-first.invariant.told c.in_ok-make_room.ensures.sent.ok in
-    let more = tells_more _ _ _ c.push_stored.new.self (flat_map entry_text (take (first + count - first) (drop first entries))) front moved
+    let more = tells_more _ _ _ c.push_stored.new.self
+    (flat_map entry_text (take (first + count - first) (drop first entries))) front moved
     c.push_stored.ensures.text in
     record {
       within = omega (arith, c.loop-first.invariant.within, c.min-count.ensures);
       told = subst (IsWrittenSoFar _ _ c.push_stored.new.self)
-          (ap (λ k. front ++ flat_map entry_text (take k (drop first entries))) exact ∙ text_join entries first count) more;
+          (ap (λ k. front ++ flat_map entry_text (take k (drop first entries))) exact
+          ∙ text_join entries first count) more;
       working = search rules;
     }
 

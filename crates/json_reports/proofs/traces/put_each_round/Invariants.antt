@@ -7,5 +7,6 @@ use Rattle.json_reports.proofs.traces.put_each_round.Given as goal
 -- those so far were appended
 abbrev pub invariant-loop-round : goal.invariant-loop-round
 invariant-loop-round l =
-    (l.writer.tokens ≡ l.initial.writer.tokens ++ value_tokens (map round_value (map rows_of_round (take l.round-index l.rounds))))
+    (l.writer.tokens ≡ l.initial.writer.tokens
+    ++ value_tokens (map round_value (map rows_of_round (take l.round-index l.rounds))))
     × (l.writer.before ≡ l.initial.writer.before)

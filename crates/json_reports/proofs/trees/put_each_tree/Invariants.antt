@@ -7,5 +7,6 @@ use Rattle.json_reports.proofs.trees.put_each_tree.Given as goal
 -- those so far were appended
 abbrev pub invariant-loop-tree : goal.invariant-loop-tree
 invariant-loop-tree l =
-    (l.writer.tokens ≡ l.initial.writer.tokens ++ value_tokens (map tree_json (map tree_value (take l.tree-index l.trees))))
+    (l.writer.tokens ≡ l.initial.writer.tokens
+    ++ value_tokens (map tree_json (map tree_value (take l.tree-index l.trees))))
     × (l.writer.before ≡ l.initial.writer.before)

@@ -17,5 +17,6 @@ returns c fields none begun shallow =
     ∙ ap (λ bs. bs ++ print closed.tokens) (c.in_ok-end_object.ensures.room.0 ∙ none) ∙ ap print all in
     record {
       text = c.in_ok-push.ensures.items ∙ ap (λ bs. bs ++ 10 ∷ []) bytes;
-      read = read_back (object_of fields) (subst (λ (ts : List Token). tokens (print ts) ≡ ts) all c.into_inner-text.ensures.reads_back) shallow;
+      read = read_back (object_of fields)
+          (subst (λ (ts : List Token). tokens (print ts) ≡ ts) all c.into_inner-text.ensures.reads_back) shallow;
     }

@@ -13,7 +13,8 @@ returns-in_ok-text-in-Answer-clause-writes g c =
     let report = c.args.report in
     let answer = c.in-Answer.answer in
     let text : c.deref.result.now ≡ json_bytes report.text.now (answer_of answer) (note_of report) =
-    c.deref.ensures.value ∙ c.in_ok-text-in-Answer.ensures.text ∙ sym (answer_bytes report.text.now answer (note_of report)) in
+    c.deref.ensures.value ∙ c.in_ok-text-in-Answer.ensures.text
+    ∙ sym (answer_bytes report.text.now answer (note_of report)) in
     let before = g.W.Write.contents (device_of c.args.writer.now) in
     let after = g.W.Write.contents (device_of c.send.new.writer) in
     let failed = has_failed c.send.new.writer in

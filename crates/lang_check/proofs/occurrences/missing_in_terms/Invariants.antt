@@ -6,4 +6,5 @@ use Rattle.lang_check.proofs.occurrences.missing_in_terms.Given as goal
 
 abbrev pub invariant-loop-expression : goal.invariant-loop-expression
 invariant-loop-expression l =
-    l.found ≡ find (λ j. nat_le l.count j) (flat_map registers_read (map term_of (take l.expression-index l.expressions)))
+    l.found ≡ find (λ j. nat_le l.count j)
+    (flat_map registers_read (map term_of (take l.expression-index l.expressions)))

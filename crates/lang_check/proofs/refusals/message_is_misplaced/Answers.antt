@@ -11,7 +11,8 @@ pub returns-then-sends_use_message : goal.returns-then-sends_use_message
 returns-then-sends_use_message c =
     let p = c.args.program.now in
     let at_start : list_any reads_message p.start ≡ c.any_uses_message.result =
-    rw (← c.start.ensures.value, list_any_mapped reads_message term_of c.start.result.now) (sym c.any_uses_message.ensures) in
+    rw (← c.start.ensures.value, list_any_mapped reads_message term_of c.start.result.now)
+    (sym c.any_uses_message.ensures) in
     let after = list_any-append reads_message p.start (sent_terms p.steps ++ p.finish ∷ []) in
     elim c.if-any_uses_message.branch [
       | then-any_uses_message w ↦ rw (w.value-is, after, at_start, w.if-any_uses_message.true)

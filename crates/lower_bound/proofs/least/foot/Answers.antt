@@ -9,5 +9,6 @@ loop-round-preserved c =
 
 pub returns : goal.returns
 returns c =
-    let end : c.loop-round._round ≡ c.args.rounds = omega (arith, c.loop-round-test.false, c.loop-round.auto._round-end) in
+    let end : c.loop-round._round ≡ c.args.rounds =
+    omega (arith, c.loop-round-test.false, c.loop-round.auto._round-end) in
     rw end at (foot_all c.args.top c.loop-round._round c.loop-round.foot c.loop-round.invariant)

@@ -6,7 +6,8 @@ use Rattle.nbhd_check.proofs.before.write_run.Goals.{After-windows_per_run-each,
 use Rattle.nbhd_check.proofs.before.write_run.Goals as goal
 
 -- the run's windows are among all
-within : (c : After-windows_per_run-each) → c.args.next.run * wide c.args.table.now + wide c.args.table.now ≤ length c.args.table.now.entries
+within : (c : After-windows_per_run-each)
+    → c.args.next.run * wide c.args.table.now + wide c.args.table.now ≤ length c.args.table.now.entries
 within c =
     omega (arith, c.requires.next.within, c.windows_per_run-each.ensures.table.size)
 
@@ -26,7 +27,8 @@ channels_of-channels-requires c = within (goal.at.channels_of-channels-requires 
 pub bounds-channels-place : goal.bounds-channels-place
 bounds-channels-place c =
     let t = c.args.table.now in
-    let lt : c.loop-place.place < wide t = omega (arith, c.loop-place-test.true, c.windows_per_run-each.ensures.value) in
+    let lt : c.loop-place.place < wide t =
+    omega (arith, c.loop-place-test.true, c.windows_per_run-each.ensures.value) in
     subst (λ list. c.loop-place.place < length list) (sym c.channels_of-channels.ensures)
     (in_run_at t t.entries c.args.next.run c.loop-place.place (within (goal.at.bounds-channels-place c).After-windows_per_run-each) lt).0
 
@@ -40,7 +42,8 @@ pub overflow_mul-before : goal.overflow_mul-before
 overflow_mul-before c =
     let own = cell (goal.at.overflow_mul-before c).In-loop-place in
     let table = c.windows_per_run-each.ensures.table in
-    let same : c.run_at.result * c.windows_per_run-each.result ≡ second_run c.args.next c.loop-place.place * wide c.args.table.now =
+    let same : c.run_at.result * c.windows_per_run-each.result
+    ≡ second_run c.args.next c.loop-place.place * wide c.args.table.now =
     λ i. c.run_at.ensures i * c.windows_per_run-each.ensures.value i in
     omega (arith, same, own.inside, table.size, table.begun.shape.few_windows)
 

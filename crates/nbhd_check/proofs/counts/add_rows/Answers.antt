@@ -1,4 +1,5 @@
-use Rattle.std.proofs.Common.{◌≡◌, ◌==◌, ◌≢◌, ℕ, zero, suc, List, length-set, ◌+◌, ◌-◌, ◌*◌, ◌/◌, ◌<◌, ◌≤◌, get_or, set, sym, ap, ltb, length, ◌∙◌, arith, ⊎_elim}
+use Rattle.std.proofs.Common.{◌≡◌, ◌==◌, ◌≢◌, ℕ, zero, suc, List, length-set, ◌+◌, ◌-◌, ◌*◌, ◌/◌, ◌<◌, ◌≤◌, get_or, set}
+use Rattle.std.proofs.Common.{sym, ap, ltb, length, ◌∙◌, arith, ⊎_elim}
 use Rattle.std.proofs.Math.Nat.{div-lt_iff_lt-mul, div-mul-le_self, lt-div-mul-add, mul-le-mul_right}
 use Rattle.std.proofs.lemmas.Bool.{cases_eq}
 use Rattle.std.proofs.lemmas.Bool.Decides.{nat_tests}
@@ -27,7 +28,8 @@ place_of cell wide rows len some from below len_is =
     let low : row * wide ≤ cell = div-mul-le_self cell wide in
     let high : cell < row * wide + wide = lt-div-mul-add {a = cell} some in
     let few : row < rows = (div-lt_iff_lt-mul some).1 (omega (arith, below, len_is)) in
-    let later : 1 ≤ row = ⊎_elim (λ (none : row ≡ 0). absurd (omega (arith, high, from, ap (λ n. n * wide) none))) (λ other. omega (arith, other)) (cases_eq row 0) in
+    let later : 1 ≤ row = ⊎_elim (λ (none : row ≡ 0). absurd (omega (arith, high, from, ap (λ n. n * wide) none)))
+    (λ other. omega (arith, other)) (cases_eq row 0) in
     let back : row - 1 + 1 ≡ row = omega (arith, later) in
     let more : row * wide ≡ (row - 1) * wide + wide = ap (λ n. n * wide) (sym back) ∙ row_more (row - 1) wide in
     record {
@@ -47,14 +49,17 @@ module _ (c : In-loop-at) where
 
   place : Place c.loop-at.at wide (length c.loop-at.cells)
   place =
-      place_of c.loop-at.at wide (c.requires.rows.0 + 1) (length c.loop-at.cells) (omega arith) c.loop-at.auto.at (omega (arith, c.loop-at-test.true, c.loop-at.auto.cells))
-      (c.loop-at.auto.cells ∙ c.requires.rows.1 ∙ ap (λ n. (c.requires.rows.0 + 1) * (n + 1)) (sym (c.ids.ensures ∙ c.shape.ensures.ids)))
+      place_of c.loop-at.at wide (c.requires.rows.0 + 1) (length c.loop-at.cells) (omega arith) c.loop-at.auto.at
+      (omega (arith, c.loop-at-test.true, c.loop-at.auto.cells))
+      (c.loop-at.auto.cells ∙ c.requires.rows.1
+      ∙ ap (λ n. (c.requires.rows.0 + 1) * (n + 1)) (sym (c.ids.ensures ∙ c.shape.ensures.ids)))
 
   sum : get_or c.loop-at.cells c.loop-at.at 0 + get_or c.loop-at.cells (c.loop-at.at - wide) 0
       ≡ held_count c.args.table.now c.args.first c.args.count place.column (λ channel. ltb channel place.row)
   sum =
       let here = c.loop-at.invariant.1 place.row place.column place.in_row (omega (arith, place.at_cell)) place.within in
-      let before = c.loop-at.invariant.0 (place.row - 1) place.column place.in_row (omega (arith, place.above, c.loop-at.auto.at)) in
+      let before = c.loop-at.invariant.0 (place.row - 1) place.column place.in_row
+      (omega (arith, place.above, c.loop-at.auto.at)) in
       omega (arith, rw place.at_cell at here, rw place.above at before, below_step c.args.table.now c.args.first c.args.count place.column place.row place.some)
 
 pub overflow_add-cells : goal.overflow_add-cells
@@ -67,9 +72,11 @@ no_channel : (channel : ℕ) → (0 == channel + 1) ≡ ltb channel 0
 no_channel channel = grind (arith, nat_tests)
 
 first_row : (t : ChannelTable) (first count w v x : ℕ) (cells : List ℕ) → v * w + x < w → w ≤ length cells
-    → ((v + 1) * w ≤ length cells → get_or cells (v * w + x) 0 ≡ held_count t first count x (λ channel. v == channel + 1))
+    → ((v + 1) * w ≤ length cells
+    → get_or cells (v * w + x) 0 ≡ held_count t first count x (λ channel. v == channel + 1))
     → get_or cells (v * w + x) 0 ≡ held_count t first count x (λ channel. ltb channel v)
-first_row t first count w zero x cells before some counted = counted (omega (arith, some)) ∙ (λ q. held_count t first count x (λ channel. no_channel channel q))
+first_row t first count w zero x cells before some counted =
+    counted (omega (arith, some)) ∙ (λ q. held_count t first count x (λ channel. no_channel channel q))
 first_row t first count w (suc v) x cells before some counted = absurd (omega (arith, before, row_more v w))
 
 pub loop-at-init : goal.loop-at-init
@@ -78,8 +85,11 @@ loop-at-init c =
     let cells = c.args.cells.now in
     let w : ℕ = c.ids.result + 1 in
     let ids_is = c.ids.ensures ∙ c.shape.ensures.ids in
-    let counted : (v x : ℕ) → x < w → (v + 1) * w ≤ length cells → get_or cells (v * w + x) 0 ≡ held_count t c.args.first c.args.count x (λ channel. v == channel + 1) = λ v x lt within.
-    (λ q. get_or cells (v * (ids_is q + 1) + x) 0) ∙ c.requires.counted v x (omega (arith, lt, ids_is)) (rw ids_is at within) in
+    let counted : (v x : ℕ) → x < w → (v + 1) * w ≤ length cells
+    → get_or cells (v * w + x) 0
+    ≡ held_count t c.args.first c.args.count x (λ channel. v == channel + 1) = λ v x lt within.
+    (λ q. get_or cells (v * (ids_is q + 1) + x) 0)
+    ∙ c.requires.counted v x (omega (arith, lt, ids_is)) (rw ids_is at within) in
     let some : w ≤ length cells = omega (arith, c.requires.rows.1, row_more c.requires.rows.0 (t.ids + 1), ids_is) in (
       λ v x lt before. first_row t c.args.first c.args.count w v x cells before some (counted v x lt),
       λ v x lt from within. counted v x lt within,
@@ -102,5 +112,6 @@ loop-at-preserved c =
           ∙ (λ q. held_count c.args.table.now c.args.first c.args.count (sym are.1 q) (λ channel. ltb channel (sym are.0 q))))
           (λ not. other v x not ∙ c.loop-at.invariant.0 v x lt (omega (arith, before, not)))
           (cases_eq (v * wide d + x) cell),
-      λ v x lt from within. other v x (λ e. omega (arith, e, from)) ∙ c.loop-at.invariant.1 v x lt (omega (arith, from)) (rw len at within),
+      λ v x lt from within. other v x (λ e. omega (arith, e, from))
+          ∙ c.loop-at.invariant.1 v x lt (omega (arith, from)) (rw len at within),
     )

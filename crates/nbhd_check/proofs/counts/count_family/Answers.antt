@@ -21,7 +21,8 @@ module _ (c : After-window_number) where
   family : IsFamily c.args.table.now c.args.shared.now (c.window_number.result * count) count
   family =
       let item = rw (c.rounds.ensures, c.shape-shape.ensures.rounds, c.shape-shape.ensures.ids) at c.window_number.ensures.item in
-      rw (c.ids.ensures, c.shape-shape.ensures.ids, c.requires.shared.size) (family_is c.args.table.now c.requires.some c.args.shared.now c.window_number.result item)
+      rw (c.ids.ensures, c.shape-shape.ensures.ids, c.requires.shared.size)
+      (family_is c.args.table.now c.requires.some c.args.shared.now c.window_number.result item)
 
 pub overflow_mul-first : goal.overflow_mul-first
 overflow_mul-first c = omega (arith, (family c).within, c.shape-shape.ensures.table.begun.shape.few_windows)
@@ -33,7 +34,8 @@ window-requires-clause-below c =
     let size = c.requires.shared.size in
     let enough = c.shape-shape.result.in_range.enough in
     let some = some_product others (others - 1) (omega arith) (omega arith) in
-    rw (c.rounds-2.ensures, c.shape-shape.ensures.rounds, c.shape-shape.ensures.ids) (omega (arith, (family d).within, some))
+    rw (c.rounds-2.ensures, c.shape-shape.ensures.rounds, c.shape-shape.ensures.ids)
+    (omega (arith, (family d).within, some))
 
 pub returns-clause-counts : goal.returns-clause-counts
 returns-clause-counts c =
@@ -64,8 +66,11 @@ returns-clause-fit c =
     }
 
 pub add_rows-requires-clause-rows : goal.add_rows-requires-clause-rows
-add_rows-requires-clause-rows c =
-    (c.args.counts.now.limit, c.count_windows.auto.cells ∙ c.fill.ensures.len ∙ ap length c.deref_mut-cells.ensures.value ∙ c.requires.fit.room)
+add_rows-requires-clause-rows c = (
+  c.args.counts.now.limit,
+  c.count_windows.auto.cells ∙ c.fill.ensures.len
+      ∙ ap length c.deref_mut-cells.ensures.value ∙ c.requires.fit.room,
+)
 
 pub add_rows-requires-clause-few : goal.add_rows-requires-clause-few
 add_rows-requires-clause-few c =

@@ -13,8 +13,11 @@ returns-clause-counted c = λ v x lt.
     let two : List ℕ = set one (row * w + c.args.last.1) (get_or one (row * w + c.args.last.1) 0 + 1) in
     let two_len : length two ≡ length zero = length-set one _ _ ∙ one_len in
     let columns = c.requires.columns in
-    let first = cell_add zero w row c.args.last.0 v x lt (omega (arith, columns.0)) (omega (arith, columns.0, within)) in
-    let second = cell_add one w row c.args.last.1 v x lt (omega (arith, columns.1)) (omega (arith, columns.1, within, one_len)) in
-    let third = cell_add two w row (w - 1) v x lt (omega (arith, columns.0)) (omega (arith, columns.0, within, two_len)) in
+    let first = cell_add zero w row c.args.last.0 v x lt (omega (arith, columns.0))
+    (omega (arith, columns.0, within)) in
+    let second = cell_add one w row c.args.last.1 v x lt (omega (arith, columns.1))
+    (omega (arith, columns.1, within, one_len)) in
+    let third = cell_add two w row (w - 1) v x lt (omega (arith, columns.0))
+    (omega (arith, columns.0, within, two_len)) in
     let end : row * w + (w - 1) ≡ row * w + w - 1 = omega (arith, columns.0) in
     omega (arith, first, second, rw end at third)

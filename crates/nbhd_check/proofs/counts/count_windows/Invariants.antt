@@ -9,5 +9,6 @@ abbrev pub invariant-loop-number : goal.invariant-loop-number
 invariant-loop-number l =
     (l.number < l.first + l.count → slice_get (windows_of l.table) l.number ≡ Some l.window)
     × IsWindow (2 * l.table.rounds + 1) l.table.ids l.window
-    × AreCells (λ v x. held_count l.table l.first (l.number - l.first) x (λ channel. v == channel + 1)) (l.table.ids + 1) l.cells
+    × AreCells (λ v x. held_count l.table l.first (l.number - l.first) x (λ channel. v == channel + 1))
+    (l.table.ids + 1) l.cells
     × ((i : ℕ) → get_or l.cells i 0 ≤ 3 * (l.number - l.first))

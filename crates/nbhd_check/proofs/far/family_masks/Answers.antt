@@ -18,4 +18,5 @@ returns-then-not-is_empty g c =
     subst (AreMasks t.entries each separation.far) (sym c.deref.ensures.value)
     (subst (λ n. AreMasks t.entries n separation.far c.args.runs.items) (sym each_is)
     (subst (λ d. AreMasks t.entries (wide t) d c.args.runs.items) c.if-separation-distance.true c.requires.runs)) in
-    subst (λ n. AreMasks t.entries n separation.far c.joined_masks.result.items) size (c.joined_masks.ensures t.entries separation.far runs)
+    subst (λ n. AreMasks t.entries n separation.far c.joined_masks.result.items) size
+    (c.joined_masks.ensures t.entries separation.far runs)

@@ -9,6 +9,8 @@ least_bad-requires-clause-within c =
     let t = c.args.tuples.windows.now in
     let s = c.args.tuples.separation in
     let len : ℕ = run_len t s in
-    let low : c.from.result * c.per_window-each.result ≡ c.args.first * len = λ q. c.from.ensures q * c.per_window-each.ensures.value q in
-    let more : c.from-2.result * c.per_window-each.result ≡ c.args.count * len = λ q. c.from-2.ensures q * c.per_window-each.ensures.value q in
+    let low : c.from.result * c.per_window-each.result ≡ c.args.first * len =
+    λ q. c.from.ensures q * c.per_window-each.ensures.value q in
+    let more : c.from-2.result * c.per_window-each.result ≡ c.args.count * len =
+    λ q. c.from-2.ensures q * c.per_window-each.ensures.value q in
     omega (arith, low, more, add-mul c.args.first c.args.count len, mul-le-mul_right len c.requires, all_runs t s)

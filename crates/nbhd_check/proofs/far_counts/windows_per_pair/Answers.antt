@@ -16,5 +16,12 @@ returns-clause-value c =
     let some : 0 < m * (m - 1) = some_product m (m - 1) (omega arith) (omega arith) in
     let size : 2 * t.rounds + 1 ≡ 2 + shared_len t = omega (arith, c.requires) in
     let all : c.window_count.result ≡ m * (m - 1) * each =
-    c.window_count.ensures.value ∙ rw (size, length-windows (2 + shared_len t) t.ids, falling-add t.ids 2 (shared_len t), falling_two t.ids, ids_is) refl in
+    c.window_count.ensures.value
+    ∙ rw (
+      size,
+      length-windows (2 + shared_len t) t.ids,
+      falling-add t.ids 2 (shared_len t),
+      falling_two t.ids,
+      ids_is,
+    ) refl in
     ap (λ n. n / (m * (m - 1))) all ∙ mul-div_cancel_left each some

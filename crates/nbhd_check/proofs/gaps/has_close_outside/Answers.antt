@@ -16,7 +16,12 @@ returns-else-has_close c =
           (from + found.0, omega (arith, found.1), λ e. omega (arith, e), rw (← get_or-drop from list found.0 0) found.2),
       λ outside. ⊎_elim
           (λ (before : outside.0 < gap).
-          absurd (false≢true (sym c.if-has_close.false ∙ c.has_close.ensures.1 (outside.0, omega (arith, before, short), rw (get_or-take gap list outside.0 0 before) outside.3))))
+          absurd (false≢true (sym c.if-has_close.false
+          ∙ c.has_close.ensures.1 (
+            outside.0,
+            omega (arith, before, short),
+            rw (get_or-take gap list outside.0 0 before) outside.3,
+          ))))
           (λ (after : gap ≤ outside.0).
           let back : from + (outside.0 - from) ≡ outside.0 = omega (arith, after, outside.2) in
           later.1 (outside.0 - from, omega (arith, back, outside.1), rw (get_or-drop from list (outside.0 - from) 0, back) outside.3))

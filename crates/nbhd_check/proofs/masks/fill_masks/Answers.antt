@@ -10,10 +10,12 @@ for_each_chunk_mut-requires-clause-accepts g c κs κs_f start part chunk =
 
 -- a mask of a part that begins with this group covers the channels of its group
 covers : (entries part : List ℕ) (len distance start offset group place mask : ℕ) → start + offset ≡ group
-    → AreMasks (drop (start * len) entries) len distance part → offset < length part → place < len → get_or part offset 0 ≡ mask
+    → AreMasks (drop (start * len) entries) len distance part → offset < length part → place < len
+    → get_or part offset 0 ≡ mask
     → Covers mask distance (get_or entries (group * len + place) 0)
 covers entries part len distance start offset group place mask sum are inside lt is =
-    let at : start * len + (offset * len + place) ≡ group * len + place = omega (arith, add-mul start offset len, ap (λ n. n * len) sum) in
+    let at : start * len + (offset * len + place) ≡ group * len + place =
+    omega (arith, add-mul start offset len, ap (λ n. n * len) sum) in
     let read : get_or (drop (start * len) entries) (offset * len + place) 0 ≡ get_or entries (group * len + place) 0 =
     get_or-drop (start * len) entries (offset * len + place) 0 ∙ ap (λ n. get_or entries n 0) at in
     subst (λ m. Covers m distance (get_or entries (group * len + place) 0)) is

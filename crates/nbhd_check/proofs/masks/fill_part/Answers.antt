@@ -1,4 +1,5 @@
-use Rattle.std.proofs.Common.{◌≡◌, ℕ, ◌+◌, ◌-◌, ◌*◌, ◌<◌, ◌≤◌, length, get_or, set, take, drop, subst, sym, ap, ◌∙◌, arith, ⊎_elim, length-drop, length-set}
+use Rattle.std.proofs.Common.{◌≡◌, ℕ, ◌+◌, ◌-◌, ◌*◌, ◌<◌, ◌≤◌, length, get_or, set, take, drop, subst, sym, ap, ◌∙◌}
+use Rattle.std.proofs.Common.{arith, ⊎_elim, length-drop, length-set}
 use Rattle.std.proofs.Math.Nat.{mul-le-mul_right}
 use Rattle.std.proofs.lemmas.Bool.{cases_lt}
 use Rattle.std.proofs.lemmas.List.{get_or-take, get_or-drop, get_or-set_same, get_or-set_other, length-take-le}
@@ -8,9 +9,11 @@ use Rattle.nbhd_check.proofs.masks.fill_part.Goals.{In-loop-group}
 use Rattle.nbhd_check.proofs.masks.fill_part.Goals as goal
 
 -- the channels of the group are among the entries
-within : (c : In-loop-group) → c.loop-group.group * c.args.grouping.len + c.args.grouping.len ≤ length c.args.entries.now
+within : (c : In-loop-group)
+    → c.loop-group.group * c.args.grouping.len + c.args.grouping.len ≤ length c.args.entries.now
 within c =
-    let more : c.loop-group.group + 1 ≤ length c.args.masks.now = omega (arith, c.loop-group-test.true, c.loop-group.auto.group-end) in
+    let more : c.loop-group.group + 1 ≤ length c.args.masks.now =
+    omega (arith, c.loop-group-test.true, c.loop-group.auto.group-end) in
     omega (arith, mul-le-mul_right c.args.grouping.len more, row_more c.loop-group.group c.args.grouping.len, c.requires.room)
 
 pub overflow_mul-start : goal.overflow_mul-start
@@ -40,14 +43,20 @@ loop-group-preserved c =
       length-set masks own mask ∙ room,
       λ group place lt in_len. ⊎_elim
           (λ (before : group < own).
-          let other : get_or (set masks own mask) group 0 ≡ get_or masks group 0 = get_or-set_other masks own group mask 0 (λ e. omega (arith, before, e)) in
-          subst (λ m. Covers m c.args.grouping.distance (get_or entries (group * len + place) 0)) (sym other) (c.loop-group.invariant.1 group place before in_len))
+          let other : get_or (set masks own mask) group 0 ≡ get_or masks group 0 =
+          get_or-set_other masks own group mask 0 (λ e. omega (arith, before, e)) in
+          subst (λ m. Covers m c.args.grouping.distance (get_or entries (group * len + place) 0)) (sym other)
+          (c.loop-group.invariant.1 group place before in_len))
           (λ (here : own ≤ group).
           let same : group ≡ own = omega (arith, here, lt) in
           let in_list : place < start + len - start = omega (arith, in_len) in
           let read : get_or (take (start + len - start) list) place 0 ≡ get_or entries (group * len + place) 0 =
-          get_or-take (start + len - start) list place 0 in_list ∙ get_or-drop start entries place 0 ∙ ap (λ g. get_or entries (g * len + place) 0) (sym same) in
-          let new : get_or (set masks own mask) group 0 ≡ mask = ap (λ g. get_or (set masks own mask) g 0) same ∙ get_or-set_same masks own mask 0 (omega (arith, room, c.loop-group-test.true, c.loop-group.auto.group-end)) in
+          get_or-take (start + len - start) list place 0 in_list ∙ get_or-drop start entries place 0
+          ∙ ap (λ g. get_or entries (g * len + place) 0) (sym same) in
+          let new : get_or (set masks own mask) group 0 ≡ mask =
+          ap (λ g. get_or (set masks own mask) g 0) same
+          ∙ get_or-set_same masks own mask 0
+          (omega (arith, room, c.loop-group-test.true, c.loop-group.auto.group-end)) in
           subst (λ m. Covers m c.args.grouping.distance (get_or entries (group * len + place) 0)) (sym new)
           (subst (λ v. Covers mask c.args.grouping.distance v) read (c.mask_of.ensures place (omega (arith, long, in_list)))))
           (cases_lt group own),

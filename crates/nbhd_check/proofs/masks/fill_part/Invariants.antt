@@ -6,4 +6,5 @@ use Rattle.nbhd_check.proofs.masks.fill_part.Given as goal
 abbrev pub invariant-loop-group : goal.invariant-loop-group
 invariant-loop-group l =
     (length l.masks ≡ length l.initial.masks)
-    × ((group place : ℕ) → group < l.group → place < l.len → Covers (get_or l.masks group 0) l.distance (get_or l.entries (group * l.len + place) 0))
+    × ((group place : ℕ) → group < l.group → place < l.len
+    → Covers (get_or l.masks group 0) l.distance (get_or l.entries (group * l.len + place) 0))

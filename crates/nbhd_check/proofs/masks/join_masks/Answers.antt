@@ -1,4 +1,5 @@
-use Rattle.std.proofs.Common.{◌≡◌, ℕ, ◌+◌, ◌-◌, ◌*◌, ◌<◌, ◌≤◌, length, get_or, set, take, drop, subst, sym, ap, ◌∙◌, arith, ⊎_elim, length-drop, length-set}
+use Rattle.std.proofs.Common.{◌≡◌, ℕ, ◌+◌, ◌-◌, ◌*◌, ◌<◌, ◌≤◌, length, get_or, set, take, drop, subst, sym, ap, ◌∙◌}
+use Rattle.std.proofs.Common.{arith, ⊎_elim, length-drop, length-set}
 use Rattle.std.proofs.Math.Nat.{mul-le-mul_right}
 use Rattle.std.proofs.lemmas.Bool.{cases_lt}
 use Rattle.std.proofs.lemmas.List.{get_or-take, get_or-drop, get_or-set_same, get_or-set_other, length-take-le}
@@ -10,7 +11,8 @@ use Rattle.nbhd_check.proofs.masks.join_masks.Goals as goal
 -- the masks of the groups are among all masks
 within : (c : In-loop-group) → c.loop-group.group * c.args.count + c.args.count ≤ length c.args.masks.now
 within c =
-    let more : c.loop-group.group + 1 ≤ length c.args.joined.now = omega (arith, c.loop-group-test.true, c.loop-group.auto.group-end) in
+    let more : c.loop-group.group + 1 ≤ length c.args.joined.now =
+    omega (arith, c.loop-group-test.true, c.loop-group.auto.group-end) in
     omega (arith, mul-le-mul_right c.args.count more, row_more c.loop-group.group c.args.count, c.requires)
 
 pub overflow_mul-start : goal.overflow_mul-start
@@ -40,14 +42,20 @@ loop-group-preserved c =
       length-set joined own mask ∙ room,
       λ group place lt in_count. ⊎_elim
           (λ (before : group < own).
-          let other : get_or (set joined own mask) group 0 ≡ get_or joined group 0 = get_or-set_other joined own group mask 0 (λ e. omega (arith, before, e)) in
-          subst (λ m. HasBitsOf m (get_or masks (group * count + place) 0)) (sym other) (c.loop-group.invariant.1 group place before in_count))
+          let other : get_or (set joined own mask) group 0 ≡ get_or joined group 0 =
+          get_or-set_other joined own group mask 0 (λ e. omega (arith, before, e)) in
+          subst (λ m. HasBitsOf m (get_or masks (group * count + place) 0)) (sym other)
+          (c.loop-group.invariant.1 group place before in_count))
           (λ (here : own ≤ group).
           let same : group ≡ own = omega (arith, here, lt) in
           let in_list : place < start + count - start = omega (arith, in_count) in
           let read : get_or (take (start + count - start) list) place 0 ≡ get_or masks (group * count + place) 0 =
-          get_or-take (start + count - start) list place 0 in_list ∙ get_or-drop start masks place 0 ∙ ap (λ g. get_or masks (g * count + place) 0) (sym same) in
-          let new : get_or (set joined own mask) group 0 ≡ mask = ap (λ g. get_or (set joined own mask) g 0) same ∙ get_or-set_same joined own mask 0 (omega (arith, room, c.loop-group-test.true, c.loop-group.auto.group-end)) in
+          get_or-take (start + count - start) list place 0 in_list ∙ get_or-drop start masks place 0
+          ∙ ap (λ g. get_or masks (g * count + place) 0) (sym same) in
+          let new : get_or (set joined own mask) group 0 ≡ mask =
+          ap (λ g. get_or (set joined own mask) g 0) same
+          ∙ get_or-set_same joined own mask 0
+          (omega (arith, room, c.loop-group-test.true, c.loop-group.auto.group-end)) in
           subst (λ m. HasBitsOf m (get_or masks (group * count + place) 0)) (sym new)
           (subst (HasBitsOf mask) read (c.union_of.ensures place (omega (arith, long, in_list)))))
           (cases_lt group own),

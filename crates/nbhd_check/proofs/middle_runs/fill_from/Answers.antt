@@ -14,7 +14,8 @@ pub next_run-requires-clause-window : goal.next_run-requires-clause-window
 next_run-requires-clause-window c =
     let t = c.args.table.now in
     let item = c.loop-place.invariant.1 (omega (arith, c.loop-place-test.true, c.loop-place.auto.place-end)) in
-    window_of_shape t c.rounds.result c.shape-shape.result.ids c.loop-place.window (c.rounds.ensures ∙ c.shape-shape.ensures.rounds) c.shape-shape.ensures.ids
+    window_of_shape t c.rounds.result c.shape-shape.result.ids c.loop-place.window (c.rounds.ensures
+    ∙ c.shape-shape.ensures.rounds) c.shape-shape.ensures.ids
     (windows_all (2 * t.rounds + 1) t.ids _ c.loop-place.window item)
 
 pub loop-place-preserved : goal.loop-place-preserved
@@ -30,7 +31,8 @@ loop-place-preserved c =
       length-set l.part l.place c.middle_run.result ∙ l.invariant.0,
       λ lt.
           let next : run + 1 ≡ c.args.start + (l.place + 1) = omega arith in
-          let all : (run + 1 + 1) * wide t ≤ (c.args.start + length c.args.part.now) * wide t = mul-le-mul_right (wide t) (omega arith) in
+          let all : (run + 1 + 1) * wide t ≤ (c.args.start + length c.args.part.now) * wide t =
+          mul-le-mul_right (wide t) (omega arith) in
           subst (λ n. slice_get (windows_of t) (n * wide t) ≡ Some c.next_run.new.window) next
           (next_first t run l.window item c.next_run.result c.next_run.new.window step
           (omega (arith, all, row_more (run + 1) (wide t), c.requires.room, some))),

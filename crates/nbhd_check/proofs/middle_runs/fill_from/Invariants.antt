@@ -9,5 +9,7 @@ use Rattle.nbhd_check.proofs.middle_runs.fill_from.Given as goal
 abbrev pub invariant-loop-place : goal.invariant-loop-place
 invariant-loop-place l =
     (length l.part ≡ length l.initial.part)
-    × (l.place < length l.initial.part → slice_get (windows_of l.table) ((l.start + l.place) * wide l.table) ≡ Some l.window)
-    × ((i : ℕ) (middle : MiddleRun) → i < l.place → slice_get l.part i ≡ Some middle → IsMiddleRun l.table (l.start + i) middle)
+    × (l.place < length l.initial.part
+    → slice_get (windows_of l.table) ((l.start + l.place) * wide l.table) ≡ Some l.window)
+    × ((i : ℕ) (middle : MiddleRun) → i < l.place → slice_get l.part i ≡ Some middle
+    → IsMiddleRun l.table (l.start + i) middle)

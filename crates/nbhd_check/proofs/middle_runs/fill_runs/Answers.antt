@@ -13,5 +13,6 @@ pub returns-clause-runs : goal.returns-clause-runs
 returns-clause-runs g c i middle item =
     let lt = slice_get_within _ i middle item in
     let call = (c.for_each_chunk_mut.ensures.by_index i middle (omega (arith, lt))).1 in
-    known_part c.args.table.now call.start call.offset (0 + i) call.after_call.now middle call.call.1 (omega (arith, call.offset_in_chunk, call.call.0))
+    known_part c.args.table.now call.start call.offset (0 + i) call.after_call.now middle call.call.1
+    (omega (arith, call.offset_in_chunk, call.call.0))
     (omega (arith, call.start_plus_offset)) (call.new_element ∙ get_or_from_slice_get _ i middle middle item)

@@ -1,4 +1,5 @@
-use Rattle.std.proofs.Common.{◌≡◌, ℕ, ◌+◌, ◌-◌, ◌*◌, length, take, drop, slice_get, Some, subst, sym, ap, ◌∙◌, arith, length-drop}
+use Rattle.std.proofs.Common.{◌≡◌, ℕ, ◌+◌, ◌-◌, ◌*◌, length, take, drop, slice_get, Some, subst, sym, ap, ◌∙◌}
+use Rattle.std.proofs.Common.{arith, length-drop}
 use Rattle.std.proofs.Math.Nat.{mul-le-mul}
 use Rattle.std.proofs.lemmas.List.{get_or-take, length-take-le}
 use Rattle.win_index.specs.Windows.{unused, windows, IsWindow}
@@ -22,8 +23,10 @@ window_number-number-requires-clause-window c =
     let rounds_is : c.rounds-level.result ≡ t.rounds = c.rounds-level.ensures ∙ c.shape-shape.ensures.rounds in
     let rest = back_window (2 * t.rounds) t.ids window is in
     let part = window_take (2 * t.rounds) t.ids (2 * c.rounds-level.result - 1) (drop 1 window) (omega arith) rest in
-    let len : 2 * c.rounds-level.result - 1 ≡ 2 * (c.rounds-level.result - 1) + 1 = omega (arith, rounds_is, c.requires.some) in
-    subst (λ m. IsWindow (2 * (c.rounds-level.result - 1) + 1) m (take (2 * c.rounds-level.result - 1) (drop 1 window))) (sym c.shape-shape.ensures.ids)
+    let len : 2 * c.rounds-level.result - 1 ≡ 2 * (c.rounds-level.result - 1) + 1 =
+    omega (arith, rounds_is, c.requires.some) in
+    subst (λ m. IsWindow (2 * (c.rounds-level.result - 1) + 1) m (take (2 * c.rounds-level.result - 1) (drop 1 window)))
+    (sym c.shape-shape.ensures.ids)
     (subst (λ k. IsWindow k t.ids (take (2 * c.rounds-level.result - 1) (drop 1 window))) len part)
 
 pub place_among_unused-requires : goal.place_among_unused-requires
@@ -39,21 +42,25 @@ returns-clause-runs c =
     let size = is.size in
     let inside = own.inside in
     let number = own.number_is in
-    let same = one_run (wide t) own.number (place_of_last k window) c.args.run (c.args.run * wide t) inside number (omega arith) (omega arith) in
+    let same = one_run (wide t) own.number (place_of_last k window) c.args.run (c.args.run * wide t) inside number
+    (omega arith) (omega arith) in
     let rounds_is : c.rounds-level.result ≡ t.rounds = c.rounds-level.ensures ∙ c.shape-shape.ensures.rounds in
     let ids_is : c.shape-shape.result.ids ≡ t.ids = c.shape-shape.ensures.ids in
     let shared = shared_cut 1 t c.rounds-level.result window rounds_is (omega (arith, c.requires.some)) in
     let short : length (take (2 * c.rounds-level.result - 1) (drop 1 window)) ≡ 2 * (t.rounds - 1) + 1 =
-    length-take-le (2 * c.rounds-level.result - 1) (drop 1 window) (omega (arith, length-drop 1 window)) ∙ omega (arith, rounds_is, c.requires.some) in
+    length-take-le (2 * c.rounds-level.result - 1) (drop 1 window) (omega (arith, length-drop 1 window))
+    ∙ omega (arith, rounds_is, c.requires.some) in
     let n : ℕ = c.window_number-number.result in
     record {
       some = c.requires.some;
       front = take k window;
       front_at = ap (slice_get (windows k t.ids)) (sym same) ∙ own.front_at;
       number = n;
-      number_at = (λ q. slice_get (windows (2 * (sym rounds_is q - 1) + 1) (sym ids_is q)) n) ∙ c.window_number-number.ensures.item ∙ ap Some shared;
+      number_at = (λ q. slice_get (windows (2 * (sym rounds_is q - 1) + 1) (sym ids_is q)) n)
+          ∙ c.window_number-number.ensures.item ∙ ap Some shared;
       first_is = λ q. n * ((c.ids.ensures ∙ ids_is) q - short q);
-      gap_is = c.place_among_unused.ensures ∙ (λ q. length (unused (sym (get_or-take k window 0 0 (omega (arith, c.requires.some))) q) (shared q)));
+      gap_is = c.place_among_unused.ensures
+          ∙ (λ q. length (unused (sym (get_or-take k window 0 0 (omega (arith, c.requires.some))) q) (shared q)));
     }
 
 pub overflow_mul-result : goal.overflow_mul-result

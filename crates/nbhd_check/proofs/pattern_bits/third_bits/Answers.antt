@@ -9,7 +9,8 @@ pub loop-pattern-preserved : goal.loop-pattern-preserved
 loop-pattern-preserved c n a b third p lt item at_a at_b m =
     ⊎_elim (λ (less : n < c.loop-pattern.pattern-index). of_first _ _ _ (c.loop-pattern.invariant n a b third p less item at_a at_b m))
     (λ (own : c.loop-pattern.pattern-index ≤ n).
-    let same = match_at c.args.problem.now n c.loop-pattern.pattern-index p _ (Some a) (Some b) (Some third) (omega (arith, own, lt)) item m in
+    let same = match_at c.args.problem.now n c.loop-pattern.pattern-index p _ (Some a) (Some b) (Some third)
+    (omega (arith, own, lt)) item m in
     of_second _ _ _ (c.bits_after-bits.ensures a b third at_a at_b same.0 same.1 same.2))
     (cases_lt n c.loop-pattern.pattern-index)
 

@@ -11,5 +11,6 @@ loop-channel-preserved c a lt has bit is =
     (λ (here : own ≤ a % 64).
     let same : a % 64 ≡ own = omega (arith, lt, here) in
     let cell : a % 64 * 64 + c.args.second % 64 ≡ 64 * own + c.args.second % 64 = omega (arith, same) in
-    of_second _ _ _ (ap (λ n. bit_at n bit) (c.word_if-thirds.ensures a same has) ∙ ap (λ k. bit_at (get_or c.args.bits.now k 0) bit) (sym cell) ∙ is))
+    of_second _ _ _ (ap (λ n. bit_at n bit) (c.word_if-thirds.ensures a same has)
+    ∙ ap (λ k. bit_at (get_or c.args.bits.now k 0) bit) (sym cell) ∙ is))
     (cases_lt (a % 64) own)

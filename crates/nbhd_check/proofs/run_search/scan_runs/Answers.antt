@@ -14,7 +14,8 @@ next_run-requires-clause-window g c =
     let t = g.S.RunSearch.searched c.args.search.now in
     let table_is = c.table-table.ensures in
     let item = c.loop-run.invariant.0 c.loop-run-test.true in
-    window_of_shape t c.rounds.result c.shape-shape.result.ids c.loop-run.window (c.rounds.ensures ∙ c.shape-shape.ensures.rounds ∙ ap (λ x. x.rounds) table_is)
+    window_of_shape t c.rounds.result c.shape-shape.result.ids c.loop-run.window (c.rounds.ensures
+    ∙ c.shape-shape.ensures.rounds ∙ ap (λ x. x.rounds) table_is)
     (c.shape-shape.ensures.ids ∙ ap (λ x. x.ids) table_is)
     (windows_all (2 * t.rounds + 1) t.ids _ c.loop-run.window item)
 
@@ -26,7 +27,8 @@ loop-run-preserved g c =
     let more = row_more run (wide t) in
     let item = c.loop-run.invariant.0 c.loop-run-test.true in
     let step = step_of_run t c.rounds.result c.shape-shape.result.ids c.next_run.result c.loop-run.window c.next_run.new.window
-    (c.rounds.ensures ∙ c.shape-shape.ensures.rounds ∙ ap (λ x. x.rounds) table_is) (c.shape-shape.ensures.ids ∙ ap (λ x. x.ids) table_is) c.next_run.ensures in
+    (c.rounds.ensures ∙ c.shape-shape.ensures.rounds ∙ ap (λ x. x.rounds) table_is) (c.shape-shape.ensures.ids
+    ∙ ap (λ x. x.ids) table_is) c.next_run.ensures in
     let some : 1 ≤ wide t = omega (arith, c.windows_per_run-each.ensures.some, c.windows_per_run-each.ensures.value, ap wide table_is) in (
       λ lt.
           let all : (run + 1 + 1) * wide t ≤ c.args.high * wide t = mul-le-mul_right (wide t) (omega arith) in

@@ -7,4 +7,5 @@ use Rattle.nbhd_check.proofs.run_search.scan_runs.Given as goal
 abbrev pub invariant-loop-run : goal.invariant-loop-run
 invariant-loop-run g l =
     (l.run < l.high → slice_get (windows_of (g.S.RunSearch.searched l.search)) (l.run * wide (g.S.RunSearch.searched l.search)) ≡ Some l.window)
-    × AreFree (g.S.RunSearch.searched l.search) (g.S.RunSearch.Bad l.search) (l.low * wide (g.S.RunSearch.searched l.search)) (l.run * wide (g.S.RunSearch.searched l.search))
+    × AreFree (g.S.RunSearch.searched l.search) (g.S.RunSearch.Bad l.search)
+    (l.low * wide (g.S.RunSearch.searched l.search)) (l.run * wide (g.S.RunSearch.searched l.search))

@@ -10,5 +10,6 @@ returns-in-Some-clause-answer g c =
     let w = c.in-Some.witness in
     let witness = rw c.in-Some.is at c.in_ok-witness.ensures.witness in
     broken w.ring.items w.place w.channels w.pattern (rw c.patterns.ensures at witness)
-    (subst (λ (count : ℕ). value_of c.broken_answer.result ≡ broken_of c.args.problem.now count w.ring.items w.place w.channels w.pattern)
+    (subst (λ (count : ℕ). value_of c.broken_answer.result
+    ≡ broken_of c.args.problem.now count w.ring.items w.place w.channels w.pattern)
     c.channels.ensures.value c.broken_answer.ensures)

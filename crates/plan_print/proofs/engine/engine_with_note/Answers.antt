@@ -15,7 +15,9 @@ pub returns : goal.returns
 returns g c =
     let input : List ℕ = c.in_ok-input.input.items in
     let report = value_of c.in_ok-finding.finding in
-    let read : GivesInput (g.R.Read.remaining (device_of c.args.reader.now)) (g.R.Read.remaining (device_of c.read_input.new.reader)) (max_read c.args.request.task) input = search rules in
+    let read : GivesInput (g.R.Read.remaining (device_of c.args.reader.now))
+    (g.R.Read.remaining (device_of c.read_input.new.reader)) (max_read c.args.request.task) input
+    = search rules in
     record {
       report = record {
         report = record {
@@ -52,7 +54,9 @@ pub returns-in_err-note : goal.returns-in_err-note
 returns-in_err-note g c =
     let input : List ℕ = c.in_ok-input.input.items in
     let report = value_of c.in_ok-finding.finding in
-    let read : GivesInput (g.R.Read.remaining (device_of c.args.reader.now)) (g.R.Read.remaining (device_of c.read_input.new.reader)) (max_read c.args.request.task) input = search rules in
+    let read : GivesInput (g.R.Read.remaining (device_of c.args.reader.now))
+    (g.R.Read.remaining (device_of c.read_input.new.reader)) (max_read c.args.request.task) input
+    = search rules in
     let is = subst (λ (input : List ℕ). IsReport c.args.request.task input report) c.deref.ensures.value c.in_ok-finding.ensures.report in
     let streams = streams_of g.R.Read.remaining g.W.Write.contents c.args.reader.now c.read_input.new.reader c.args.writer.now c.write.new.writer in
     let fault = c.in_err-note.field-0.0 in

@@ -7,13 +7,15 @@ use Rattle.reports.specs.Findings as value
 use Rattle.plan_print.specs.Notes.{IsNoteOn, IsToldIf}
 use Rattle.plan_print.proofs.note.answer_note.Goals as goal
 
-as_told : (is : List ℕ → Type 0) (r : Result (String Global) OutOfMemory) → IfOk r (λ note. is (string_bytes note)) → IsToldIf true is (Some r)
+as_told : (is : List ℕ → Type 0) (r : Result (String Global) OutOfMemory) → IfOk r (λ note. is (string_bytes note))
+    → IsToldIf true is (Some r)
 as_told is (Ok note) told = told
 as_told is (Err _) told = tt
 
 over_none : (input : List ℕ) (n nodes ids : ℕ) (note : Option (Result (String Global) OutOfMemory)) → n ≡ 0
     → IsToldIf true (λ text. text ≡ no_tuples_note nodes ids) note → IsNoteOn input (value.yes n nodes ids) note
-over_none input n nodes ids note none told = subst (λ (k : ℕ). IsNoteOn input (value.yes k nodes ids) note) (sym none) told
+over_none input n nodes ids note none told =
+    subst (λ (k : ℕ). IsNoteOn input (value.yes k nodes ids) note) (sym none) told
 
 -- The yes is over no tuples.
 pub returns-else-tuples-gt0 : goal.returns-else-tuples-gt0

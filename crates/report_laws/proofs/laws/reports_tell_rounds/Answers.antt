@@ -1,4 +1,5 @@
-use Rattle.report_laws.proofs.ToldRounds.{judge_solves, judge_tells, run_tells, trace_tells, trace_ends, explain_tells, explain_shows, plan_tells, table_tells}
+use Rattle.report_laws.proofs.ToldRounds.{judge_solves, judge_tells, run_tells, trace_tells, trace_ends, explain_tells}
+use Rattle.report_laws.proofs.ToldRounds.{explain_shows, plan_tells, table_tells}
 use Rattle.report_laws.proofs.laws.reports_tell_rounds.Goals as goal
 
 pub returns : goal.returns

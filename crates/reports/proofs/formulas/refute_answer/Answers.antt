@@ -10,4 +10,11 @@ pub returns : goal.returns
 returns c =
     let known : c.in-Err.fault ≢ refute.OutOfMemory = search rules in
     let fault = subst (λ (p : Problem). IsFault p c.args.input.now c.in-Err.fault) c.requires.formula c.in-Err.ensures.fault in
-    record { report = answered (c.requires.has, told (of_refutation c.in-Err.fault) (record { what = c.in-Err.fault; known = known; first = fault; is = refl }) refl); memory = tt }
+    record {
+      report = answered (
+        c.requires.has,
+        told (of_refutation c.in-Err.fault)
+            (record { what = c.in-Err.fault; known = known; first = fault; is = refl }) refl,
+      );
+      memory = tt;
+    }

@@ -6,5 +6,6 @@ use Rattle.reports.proofs.rings.trace_answer.Goals as goal
 -- The list is not a ring.
 pub returns-in-Err : goal.returns-in-Err
 returns-in-Err c =
-    let none : IsNoRing c.args.plan.ids (length c.args.plan.program.steps) c.args.ids.items (fault_of c.in-Err.fault) = search rules in
+    let none : IsNoRing c.args.plan.ids (length c.args.plan.program.steps) c.args.ids.items
+    (fault_of c.in-Err.fault) = search rules in
     told (fault_of c.in-Err.fault) none refl

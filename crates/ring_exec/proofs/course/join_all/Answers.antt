@@ -11,8 +11,10 @@ loop-thread-preserved g c =
     let index : IfOk c.join.result (λ segment. segment.index ≡ vec_len c.pop.new.self) =
     subst (λ n. IfOk c.join.result (λ segment. segment.index ≡ n)) (omega (arith, split.1, c.pop.new.self.ok.0)) c.join.ensures in
     record {
-      more = one_joined c.args.joined c.loop-thread.joined c.add.new.self (vec_len c.args.threads) (vec_len c.pop.new.self) c.join.result c.add.ensures.added index
-          (subst (λ n. c.loop-thread.joined.fault ≡ None → AreJoined c.args.joined (vec_len c.args.threads) n c.loop-thread.joined) (sym left) inv.more);
+      more = one_joined c.args.joined c.loop-thread.joined c.add.new.self (vec_len c.args.threads)
+          (vec_len c.pop.new.self) c.join.result c.add.ensures.added index
+          (subst (λ n. c.loop-thread.joined.fault ≡ None
+          → AreJoined c.args.joined (vec_len c.args.threads) n c.loop-thread.joined) (sym left) inv.more);
       in_order = split.0;
       refused = search rules;
       room = search rules;

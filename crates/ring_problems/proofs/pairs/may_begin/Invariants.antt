@@ -6,4 +6,5 @@ use Rattle.ring_problems.proofs.pairs.may_begin.Given as goal
 -- no pattern so far begins so
 abbrev pub invariant-loop-pattern : goal.invariant-loop-pattern
 invariant-loop-pattern l =
-    (n : ℕ) (p : Pattern) → n < l.pattern-index → slice_get l.problem n ≡ Some p → Fits p.first l.first → Fits p.second l.second → ⊥
+    (n : ℕ) (p : Pattern) → n < l.pattern-index → slice_get l.problem n ≡ Some p → Fits p.first l.first
+    → Fits p.second l.second → ⊥

@@ -16,4 +16,5 @@ overflow_mul-result c =
 pub returns : goal.returns
 returns c =
     let shape = c.args.shape in
-    (λ i. c.tuples.ensures.value i * c.tuples_per_pair.ensures i) ∙ sym (tuple_count shape.ids shape.rounds c.args.problem.now)
+    (λ i. c.tuples.ensures.value i * c.tuples_per_pair.ensures i)
+    ∙ sym (tuple_count shape.ids shape.rounds c.args.problem.now)

@@ -14,8 +14,10 @@ returns-then-is_long-clause-tuple c =
 pub returns-else-is_long-clause-item : goal.returns-else-is_long-clause-item
 returns-else-is_long-clause-item c =
     ap (λ list. slice_get list c.args.number)
-    (short_tuples c.args.shape.ids c.args.shape.rounds c.args.problem.now (sym c.is_long.ensures ∙ c.if-is_long.false)) ∙ c.tuple.ensures.item
+    (short_tuples c.args.shape.ids c.args.shape.rounds c.args.problem.now (sym c.is_long.ensures ∙ c.if-is_long.false))
+    ∙ c.tuple.ensures.item
 
 pub returns-else-is_long-clause-tuple : goal.returns-else-is_long-clause-tuple
 returns-else-is_long-clause-tuple c =
-    short_tuple c.args.shape.ids c.args.shape.rounds c.args.problem.now _ (sym c.is_long.ensures ∙ c.if-is_long.false) c.tuple.ensures.tuple
+    short_tuple c.args.shape.ids c.args.shape.rounds c.args.problem.now _ (sym c.is_long.ensures
+    ∙ c.if-is_long.false) c.tuple.ensures.tuple

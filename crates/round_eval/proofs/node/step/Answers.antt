@@ -19,9 +19,12 @@ unfolding next
 returns c =
     let rounds = c.steps.result.now in
     let one = c.index-steps-round.result in
-    let steps : c.args.plan.now.program.steps ≡ map step_of rounds = sym (c.steps.ensures.value ∙ ap (λ p. p.steps) c.program-program.ensures.value) in
+    let steps : c.args.plan.now.program.steps ≡ map step_of rounds =
+    sym (c.steps.ensures.value ∙ ap (λ p. p.steps) c.program-program.ensures.value) in
     let inside = rw (← c.program-program.ensures.value, ← c.steps.ensures.value, length-map) at c.requires.round in
-    let item = slice_get-get_or (map step_of rounds) c.args.round (step_of one) (rw length-map inside) ∙ ap Some (get_or-map step_of rounds c.args.round one (step_of one) inside) in
-    let here : slice_get c.args.plan.now.program.steps c.args.round ≡ Some (step_of (get_or rounds c.args.round one)) = rw steps item in
+    let item = slice_get-get_or (map step_of rounds) c.args.round (step_of one) (rw length-map inside)
+    ∙ ap Some (get_or-map step_of rounds c.args.round one (step_of one) inside) in
+    let here : slice_get c.args.plan.now.program.steps c.args.round
+    ≡ Some (step_of (get_or rounds c.args.round one)) = rw steps item in
     let read = c.reading_messages.ensures in
     rw here (simp (read.id, read.left, read.right, read.registers, c.deref.ensures.value) at c.assign.ensures)

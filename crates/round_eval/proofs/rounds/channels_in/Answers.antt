@@ -11,5 +11,7 @@ loop-place-preserved c =
     let p = c.args.places.now.program in
     let x = c.args.places.now.places in
     let i : ℕ = c.loop-place.place in
-    let one : c.quantity.result ≡ channel_at p x i = c.quantity.ensures ∙ ap (λ r. channel p (state p x r i)) c.requires in
-    c.in_ok-push.ensures.items ∙ ap₂ (λ l v. l ++ v ∷ []) c.loop-place.invariant one ∙ sym (map-range_with_len_more (channel_at p x) 0 i i (omega arith))
+    let one : c.quantity.result ≡ channel_at p x i =
+    c.quantity.ensures ∙ ap (λ r. channel p (state p x r i)) c.requires in
+    c.in_ok-push.ensures.items ∙ ap₂ (λ l v. l ++ v ∷ []) c.loop-place.invariant one
+    ∙ sym (map-range_with_len_more (channel_at p x) 0 i i (omega arith))

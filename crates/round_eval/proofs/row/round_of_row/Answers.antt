@@ -1,4 +1,5 @@
-use Rattle.std.proofs.Common.{◌≡◌, ℕ, ◌+◌, ◌-◌, ◌<◌, [], ◌∷◌, ◌++◌, length, drop, get_or, refl, sym, ◌∙◌, ap, append_assoc, arith, rules}
+use Rattle.std.proofs.Common.{◌≡◌, ℕ, ◌+◌, ◌-◌, ◌<◌, [], ◌∷◌, ◌++◌, length, drop, get_or, refl, sym, ◌∙◌, ap}
+use Rattle.std.proofs.Common.{append_assoc, arith, rules}
 use Rattle.round_eval.specs.Rows.{row_after, rows}
 use Rattle.round_eval.proofs.RowLemmas.{length-rows, rows_written, row_from, row_from_last}
 use Rattle.round_eval.proofs.row.round_of_row.Goals as goal
@@ -19,7 +20,8 @@ loop-node-preserved c =
     let written = rows_written w i (i + 1) c.loop-node.out c.step.new.out _ refl (search rules) (search rules) in
     let done = rows w i c.loop-node.out in
     ap (λ u. u ++ row_after p r c.sent_to_right-left.result (drop (i + 1) all) c.args.from_right) written
-    ∙ append_assoc done (c.step.new.out ∷ []) (row_after p r c.sent_to_right-left.result (drop (i + 1) all) c.args.from_right)
+    ∙ append_assoc done (c.step.new.out ∷ [])
+    (row_after p r c.sent_to_right-left.result (drop (i + 1) all) c.args.from_right)
     ∙ ap (λ u. done ++ u) (sym from)
     ∙ c.loop-node.invariant
 
@@ -34,7 +36,9 @@ returns c =
     let own = ap (λ n. get_or all n []) (sym last) ∙ c.row_at-own-2.ensures.value c.args.nodes (omega arith) in
     let whole : i + 1 ≡ c.args.nodes = omega arith in
     let end : i + 1 ≡ length all = whole ∙ sym (length-rows w c.args.nodes states) in
-    let from = rw (own, ← c.step-2.ensures) at (row_from_last p c.args.round c.loop-node.left c.args.from_right i all end) in
-    let written = rows_written w (c.args.nodes - 1) c.args.nodes c.loop-node.out c.step-2.new.out _ (omega arith) (search rules) (search rules) in
+    let from = rw (own, ← c.step-2.ensures) at
+    (row_from_last p c.args.round c.loop-node.left c.args.from_right i all end) in
+    let written = rows_written w (c.args.nodes - 1) c.args.nodes c.loop-node.out c.step-2.new.out _ (omega arith)
+    (search rules) (search rules) in
     rw (← c.width_of-width.ensures.value)
     (written ∙ (λ j. rows w (last j) c.loop-node.out ++ sym from j) ∙ c.loop-node.invariant)

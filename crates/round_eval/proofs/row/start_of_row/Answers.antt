@@ -10,6 +10,8 @@ loop-place-preserved c =
     let i : ℕ = c.loop-place.place in
     let w : ℕ = c.width_of-width.result in
     let start = rounds.start c.args.plan.now.program in
-    let written = rows_written w i (i + 1) c.loop-place.states c.start_state.new.out _ refl (search rules) (search rules) in
-    let more = ap (map start) (take_more ids i 0 c.loop-place-test.true) ∙ map-append start (take i ids) (get_or ids i 0 ∷ []) in
+    let written = rows_written w i (i + 1) c.loop-place.states c.start_state.new.out _ refl (search rules)
+    (search rules) in
+    let more = ap (map start) (take_more ids i 0 c.loop-place-test.true)
+    ∙ map-append start (take i ids) (get_or ids i 0 ∷ []) in
     written ∙ (λ j. c.loop-place.invariant j ++ c.start_state.ensures j ∷ []) ∙ sym more

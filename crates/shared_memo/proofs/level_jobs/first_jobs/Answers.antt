@@ -19,7 +19,8 @@ loop-level-preserved c =
     record {
       first = omega (arith, length_jobs_below m k, inv.first, count);
       few = omega (arith, inv.few, c.blocks-first.ensures.few);
-      numbers = rw (pushed, inv.numbers, inv.first) (sym (map-range_with_len_more (λ level. length (jobs_below m level)) 0 k k (omega arith)));
+      numbers = rw (pushed, inv.numbers, inv.first)
+          (sym (map-range_with_len_more (λ level. length (jobs_below m level)) 0 k k (omega arith)));
     }
 
 pub returns : goal.returns
@@ -28,9 +29,12 @@ returns c =
     let m = c.args.plan.now.ids in
     let first : ℕ → ℕ = λ level. length (jobs_below m level) in
     let t = length c.args.plan.now.program.steps in
-    let levels : c.loop-level.level ≡ t + 1 = omega (arith, c.rounds-level-end.ensures, c.shape-shape.ensures.rounds) in (
+    let levels : c.loop-level.level ≡ t + 1 =
+    omega (arith, c.rounds-level-end.ensures, c.shape-shape.ensures.rounds) in (
       ap length inv.numbers ∙ length-map-range_with_len first 0 c.loop-level.level ∙ levels,
       λ level number key.
-          let at = get_or-map-range_with_len first 0 c.loop-level.level level level 0 (omega (arith, key.0)) (omega arith) in
-          job_number_at m t level number _ key.0 key.1 (ap (λ (l : List ℕ). slice_index l level + number) inv.numbers ∙ ap (λ n. n + number) at),
+          let at = get_or-map-range_with_len first 0 c.loop-level.level level level 0 (omega (arith, key.0))
+          (omega arith) in
+          job_number_at m t level number _ key.0 key.1 (ap (λ (l : List ℕ). slice_index l level + number) inv.numbers
+          ∙ ap (λ n. n + number) at),
     )

@@ -8,5 +8,6 @@ loop-number-preserved c = record {
   row = search rules;
   count = search rules;
   room = search rules;
-  each = rw c.push_reserved.ensures.items (each_snoc _ c.loop-number.blocks.items _ c.loop-number.invariant.each (search rules));
+  each = rw c.push_reserved.ensures.items
+      (each_snoc _ c.loop-number.blocks.items _ c.loop-number.invariant.each (search rules));
 }

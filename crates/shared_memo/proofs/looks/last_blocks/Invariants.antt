@@ -13,7 +13,8 @@ abbrev pub invariant-loop-number : goal.invariant-loop-number
 invariant-loop-number l =
     record {
       learned : HasLearned l.memo l.fn.pass l.pass;
-      row : (number : ℕ) → number < l.number → is_some (known l.pass (length l.memo.plan.now.program.steps) number) ≡ true;
+      row : (number : ℕ) → number < l.number
+          → is_some (known l.pass (length l.memo.plan.now.program.steps) number) ≡ true;
       count : length l.blocks.items ≡ l.number;
       room : block_count l.memo.plan.now.ids (length l.memo.plan.now.program.steps) ≤ vec_capacity l.blocks;
       each : (n : ℕ) (b : Bor MadeBlock) → slice_get l.blocks.items n ≡ Some b

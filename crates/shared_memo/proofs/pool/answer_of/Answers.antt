@@ -7,7 +7,8 @@ use Rattle.shared_memo.proofs.pool.answer_of.Goals as goal
 pub returns-in-Err : goal.returns-in-Err
 returns-in-Err g c =
     let inv = c.loop-outcome.invariant.1 in
-    taken_fault c.args.outcomes.items inv.0 _ c.in-Some.outcome c.loop-outcome.last _ c.requires (rw c.in-Some.ensures.steps.0 at inv.1) (search rules)
+    taken_fault c.args.outcomes.items inv.0 _ c.in-Some.outcome c.loop-outcome.last _ c.requires
+    (rw c.in-Some.ensures.steps.0 at inv.1) (search rules)
 
 pub loop-outcome-preserved : goal.loop-outcome-preserved
 loop-outcome-preserved g c =

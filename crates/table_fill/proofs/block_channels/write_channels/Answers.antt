@@ -21,14 +21,16 @@ returns-clause-channels c =
     let held = rw last at c.requires.states.each in
     let wrote = rw (← keyed.0) at c.channel_columns.ensures in
     let new = c.channel_columns.new.out in
-    let size : length (take (block_len m t b) new) ≡ block_len m t b = length-take-le (block_len m t b) new (omega (arith, c.channel_columns.auto.out, c.requires.room.1)) in
+    let size : length (take (block_len m t b) new) ≡ block_len m t b =
+    length-take-le (block_len m t b) new (omega (arith, c.channel_columns.auto.out, c.requires.room.1)) in
     rw (← keyed.0) (record {
       size = omega (arith, size);
       each = λ i lt.
           let inside : i < block_len m t b = omega (arith, lt, size) in
           let is = numbered_is_window m t (BLOCK_WINDOWS * b + i) (omega (arith, inside)) in
           let bound = c.windows_are_within.ensures p m t (window_numbered m t (BLOCK_WINDOWS * b + i)) is in
-          let state : get_or states i [] ≡ middle_state p t (window_numbered m t (BLOCK_WINDOWS * b + i)) = held i inside in
+          let state : get_or states i []
+          ≡ middle_state p t (window_numbered m t (BLOCK_WINDOWS * b + i)) = held i inside in
           let few : i < length states = omega (arith, inside, c.requires.states.wide.0) in
           rw (get_or-take (block_len m t b) new i 0 inside) (
             ap (λ cs. get_or cs i 0) wrote.channels ∙ get_or-map (channel p) states i [] 0 few ∙ ap (channel p) state,

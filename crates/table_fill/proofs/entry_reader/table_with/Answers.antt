@@ -14,6 +14,8 @@ returns c =
     let same : entries ≡ map (window_channel p) ws =
     ext_get_or 0 entries (map (window_channel p) ws) (size ∙ sym (length-map ws (window_channel p))) (λ i lt.
     let from_first : 0 + i ≡ i = omega arith in
-    (rw from_first at (c.requires.each i lt).0) ∙ sym (get_or-map (window_channel p) ws i [] 0 (omega (arith, lt, size)))) in
+    (rw from_first at (c.requires.each i lt).0)
+    ∙ sym (get_or-map (window_channel p) ws i [] 0 (omega (arith, lt, size)))) in
     let is = c.plan-plan.ensures in
-    c.new.ensures ∙ table_with p c.args.code.now.ids _ (rw is at c.shape.ensures.ids) (rw is at c.shape.ensures.rounds) (rw (c.program.ensures.value, is) at c.channels.ensures.value) same
+    c.new.ensures ∙ table_with p c.args.code.now.ids _ (rw is at c.shape.ensures.ids) (rw is at c.shape.ensures.rounds)
+    (rw (c.program.ensures.value, is) at c.channels.ensures.value) same

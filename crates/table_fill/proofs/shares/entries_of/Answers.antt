@@ -25,7 +25,8 @@ are_read plan old new are read size = (
 
 pub read_shares-requires-clause-ready : goal.read_shares-requires-clause-ready
 read_shares-requires-clause-ready g c κs within =
-    rw c.deref_mut.ensures.value (λ k d lt. (c.requires.shares.each k _ (slice_get-get_or c.args.shares.items k d lt)).ready)
+    rw c.deref_mut.ensures.value
+    (λ k d lt. (c.requires.shares.each k _ (slice_get-get_or c.args.shares.items k d lt)).ready)
 
 pub joined-requires-clause-read : goal.joined-requires-clause-read
 joined-requires-clause-read g c =

@@ -12,5 +12,6 @@ invariant-loop-share l =
       first_is : l.first ≡ min (share_blocks l.code l.count * l._share) (blocks_of l.code);
       count : length l.shares.items ≡ l._share;
       room : l.count ≤ vec_capacity l.shares;
-      each : (k : ℕ) (s : Share) → slice_get l.shares.items k ≡ Some s → IsShareAt l.code (share_blocks l.code l.count) k s;
+      each : (k : ℕ) (s : Share) → slice_get l.shares.items k ≡ Some s
+          → IsShareAt l.code (share_blocks l.code l.count) k s;
     }

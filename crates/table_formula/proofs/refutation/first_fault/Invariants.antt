@@ -8,7 +8,8 @@ abbrev pub invariant-reads : goal.invariant-reads
 invariant-reads l = record {
   problem : problem_of l.checker ≡ problem_of l.initial.checker;
   fault : first_fault (problem_of l.initial.checker) (derivation_of l.checker) (lines_read l.lines) (lines_left l.lines)
-      ≡ first_fault (problem_of l.initial.checker) (derivation_of l.initial.checker) (lines_read l.initial.lines) (lines_left l.initial.lines);
+      ≡ first_fault (problem_of l.initial.checker) (derivation_of l.initial.checker) (lines_read l.initial.lines)
+      (lines_left l.initial.lines);
 }
 
 abbrev pub decreases-reads : goal.decreases-reads

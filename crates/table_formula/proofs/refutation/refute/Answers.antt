@@ -17,7 +17,8 @@ returns-in-None-clause-impossible c =
     let formula = c.args.formula.now in
     let text = c.args.text.now in
     let start = from_start formula _ text _ _ _ c.in_ok-checker.ensures.problem c.in_ok-checker.ensures.derivation c.new-lines.ensures.read c.new-lines.ensures.left in
-    let told : fault_in formula text ≡ None = sym start ∙ sym c.in_ok-first_fault.ensures.found ∙ ap error_of c.in-None.is in
+    let told : fault_in formula text ≡ None =
+    sym start ∙ sym c.in_ok-first_fault.ensures.found ∙ ap error_of c.in-None.is in
     c.refutations_are_sound.ensures formula text (right_told formula text (omega arith) told)
 
 pub returns-clause-fault : goal.returns-clause-fault
@@ -26,5 +27,6 @@ returns-clause-fault c =
     let text = c.args.text.now in
     let fault = At c.in-Some.field-0.line c.in-Some.field-0.fault in
     let start = from_start formula _ text _ _ _ c.in_ok-checker.ensures.problem c.in_ok-checker.ensures.derivation c.new-lines.ensures.read c.new-lines.ensures.left in
-    let told : fault_in formula text ≡ Some fault = sym start ∙ sym c.in_ok-first_fault.ensures.found ∙ ap error_of c.in-Some.is in
+    let told : fault_in formula text ≡ Some fault =
+    sym start ∙ sym c.in_ok-first_fault.ensures.found ∙ ap error_of c.in-Some.is in
     fault_told formula text fault (omega arith) told

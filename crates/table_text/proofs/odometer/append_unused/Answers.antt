@@ -1,8 +1,10 @@
-use Rattle.std.proofs.Common.{◌≡◌, ◌≤◌, false, length, length-append, length-set, [], ◌∷◌, ◌++◌, take, take_all, sym, ap, ◌∙◌, arith}
+use Rattle.std.proofs.Common.{◌≡◌, ◌≤◌, false, length, length-append, length-set, [], ◌∷◌, ◌++◌, take, take_all, sym}
+use Rattle.std.proofs.Common.{ap, ◌∙◌, arith}
 use Rattle.win_index.specs.Windows.{is_used, unused}
 use Rattle.win_index.proofs.Windows.{unused_left}
 use Rattle.table_text.proofs.Orders.{first_filled, filled_more, order_of, unused_fit, unused_more, unused_same}
-use Rattle.table_text.proofs.odometer.append_unused.Goals.{Then-not-contains, Joined-not-contains, then-not-contains, else-not-contains}
+use Rattle.table_text.proofs.odometer.append_unused.Goals.{Then-not-contains, Joined-not-contains}
+use Rattle.table_text.proofs.odometer.append_unused.Goals.{then-not-contains, else-not-contains}
 use Rattle.table_text.proofs.odometer.append_unused.Goals as goal
 
 -- the window lacks this number, and there is a cell for it

@@ -8,5 +8,6 @@ invariant-loop-id l =
     record {
       size : length l.order ≡ length l.initial.order;
       filled : l.filled ≡ l.fn.front + length (unused l.id-counter (take l.fn.front l.initial.order));
-      front : take l.filled l.order ≡ take l.fn.front l.initial.order ++ unused l.id-counter (take l.fn.front l.initial.order);
+      front : take l.filled l.order ≡ take l.fn.front l.initial.order
+          ++ unused l.id-counter (take l.fn.front l.initial.order);
     }

@@ -20,7 +20,8 @@ few c =
       window_within _ _ c.args.window.now window,
       c.requires.window.1,
       c.place_among_unused-place.ensures,
-      unused_below (take index c.args.window.now) (get_or c.args.window.now index 0) (distinct_take index c.args.window.now window.distinct),
+      unused_below (take index c.args.window.now) (get_or c.args.window.now index 0)
+          (distinct_take index c.args.window.now window.distinct),
       window.below index 0 c.loop-index-test.true,
     )
 

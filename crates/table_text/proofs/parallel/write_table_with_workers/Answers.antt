@@ -28,7 +28,8 @@ returns-in_default g c =
 pub returns-in-Ok-write_rest : goal.returns-in-Ok-write_rest
 returns-in-Ok-write_rest g c =
     let t = c.args.table.now in
-    let text = (λ i. (c.as_bytes.ensures.value ∙ c.in_ok-text.ensures.head) i ++ same_rest t _ c.new-lines.ensures.table i)
+    let text = (λ i. (c.as_bytes.ensures.value ∙ c.in_ok-text.ensures.head) i
+    ++ same_rest t _ c.new-lines.ensures.table i)
     ∙ whole_text t c.args.separation in
     record {
       ok = subst (Appends _ _) text (Appends-trans _ _ _ _ _ c.in-Ok.ensures.ok c.in-Ok-write_rest.ensures.ok);
@@ -40,11 +41,13 @@ returns-in-Ok-write_rest g c =
 pub returns : goal.returns
 returns g c =
     let t = c.args.table.now in
-    let text = (λ i. (c.as_bytes.ensures.value ∙ c.in_ok-text.ensures.head) i ++ same_rest t _ c.new-lines.ensures.table i)
+    let text = (λ i. (c.as_bytes.ensures.value ∙ c.in_ok-text.ensures.head) i
+    ++ same_rest t _ c.new-lines.ensures.table i)
     ∙ whole_text t c.args.separation in
     record {
       ok = tt;
-      front = λ _. tells_front _ _ _ _ _ _ [] (_, c.in-Ok.ensures.ok, refl) c.in-Err.ensures.front (append-nil _ ∙ text);
+      front = λ _. tells_front _ _ _ _ _ _ [] (_, c.in-Ok.ensures.ok, refl) c.in-Err.ensures.front
+          (append-nil _ ∙ text);
       no_memory = search rules;
       failed_is = search rules;
     }

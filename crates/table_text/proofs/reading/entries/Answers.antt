@@ -37,7 +37,8 @@ lines-init c =
       count = ap (λ t. length t.entries) made;
       shows = c.at-odometer.ensures;
       read =
-          c.requires.head.lines ∙ ap (λ t. lines_then (written c.args.version t c.args.header.separation) c.args.start.now)
+          c.requires.head.lines ∙ ap
+          (λ t. lines_then (written c.args.version t c.args.header.separation) c.args.start.now)
           (sym made);
     }
 

@@ -1,4 +1,5 @@
-use Rattle.std.proofs.Common.{◌≡◌, ℕ, ◌+◌, ◌*◌, ◌≤◌, List, Option, [], ◌++◌, length, take, refl, sym, ap, ◌∙◌, subst, arith, rules, add-one}
+use Rattle.std.proofs.Common.{◌≡◌, ℕ, ◌+◌, ◌*◌, ◌≤◌, List, Option, [], ◌++◌, length, take, refl, sym, ap, ◌∙◌, subst}
+use Rattle.std.proofs.Common.{arith, rules, add-one}
 use Rattle.std.proofs.Math.Nat.{suc-mul}
 use Rattle.std.proofs.lemmas.List.{take_all}
 use Rattle.std.proofs.KnownBytes.{Appends-nil}
@@ -65,7 +66,8 @@ loop-section-preserved g c =
     let first : ℕ = c.loop-section.section * lines.size in
     let moved = tells_moved _ _ _ c.loop-section.chunk _ _ c.loop-section.invariant.told c.in_ok-make_room.ensures.sent.ok in
     let stored : c.store_next.new.chunk ≡ c.make_room.new.self ++ lines_from t first lines.size =
-    c.store_next.ensures.lines ∙ ap (λ u. c.make_room.new.self ++ lines_from u first lines.size) c.new-lines.ensures.table in
+    c.store_next.ensures.lines
+    ∙ ap (λ u. c.make_room.new.self ++ lines_from u first lines.size) c.new-lines.ensures.table in
     let more = tells_more _ _ _ c.store_next.new.chunk (lines_from t first lines.size) _ moved stored in
     let enough = le_same (full c.args.table.now c.new-lines.result c.new-lines.ensures.table) in
     let next : first + lines.size ≡ (c.loop-section.section + 1) * lines.size =
@@ -102,7 +104,8 @@ module _ (g : Over) (c : After-send g) where
       let t = c.args.table.now in
       let all = sections_all c.loop-section.section c.new-lines.result.size c.count-count.result c.new-lines.result.some
       (rw c.div_ceil-section-end.ensures at c.loop-section-test.false) in
-      let lines = all_told t c.args.separation _ _ c.loop-section.chunk (c.loop-section.section * c.new-lines.result.size)
+      let lines = all_told t c.args.separation _ _ c.loop-section.chunk
+      (c.loop-section.section * c.new-lines.result.size)
       (omega (
         arith,
         all,

@@ -20,19 +20,25 @@ loop-run-init g c =
     let w = c.args.window.now in
     let first = c.requires.window in
     let zero : BLOCK_WINDOWS * upper.number + 0 ≡ BLOCK_WINDOWS * upper.number = omega arith in
-    let own : window_in upper 0 ≡ w = ap (window_numbered m (low + 1)) zero ∙ window_at m (low + 1) (BLOCK_WINDOWS * upper.number) w first.here in
+    let own : window_in upper 0 ≡ w =
+    ap (window_numbered m (low + 1)) zero ∙ window_at m (low + 1) (BLOCK_WINDOWS * upper.number) w first.here in
     let long : 2 * (low + 1) + 1 ≡ 2 * low + 3 = omega arith in
     record {
       asked = record { same_plan = refl; same_fixed = refl; grows = record { kept = λ level n block known. known } };
       here = record {
         is = record {
           inside = omega (arith, upper.inside);
-          here = subst (λ n. slice_get (windows (2 * (low + 1) + 1) m) n ≡ Some w) (sym zero) first.here ∙ ap Some (sym own);
+          here = subst (λ n. slice_get (windows (2 * (low + 1) + 1) m) n ≡ Some w) (sym zero) first.here
+              ∙ ap Some (sym own);
           window = rw own (subst (λ k. IsWindow k m w) long first.window);
         };
         has = rw (own, ← c.shape-shape.ensures.ids) c.run_prefixes_from-prefixes.ensures.prefix;
       };
-      lists = (c.run_prefixes_from-prefixes.ensures.ids ∙ c.shape-shape.ensures.ids, c.run_prefixes_from-prefixes.ensures.len);
+      lists = (
+        c.run_prefixes_from-prefixes.ensures.ids
+            ∙ c.shape-shape.ensures.ids,
+        c.run_prefixes_from-prefixes.ensures.len,
+      );
       placed = record {
         place_is = rw own (sym c.place_in_run-place.ensures.value);
         inside = rw (own, ← c.shape-shape.ensures.ids) c.place_in_run-place.ensures.inside;
@@ -43,11 +49,13 @@ loop-run-init g c =
     }
 
 pub returns-in_err-run-clause-gathered : goal.returns-in_err-run-clause-gathered
-returns-in_err-run-clause-gathered g c = missing_later _ c.from_residual.ensures.1 c.loop-run.invariant.asked c.in_err-run.ensures
+returns-in_err-run-clause-gathered g c =
+    missing_later _ c.from_residual.ensures.1 c.loop-run.invariant.asked c.in_err-run.ensures
 
 pub returns-in_err-after-clause-gathered : goal.returns-in_err-after-clause-gathered
 returns-in_err-after-clause-gathered g c =
-    missing_later _ c.from_residual-in_err-after.ensures.1 (asked_both c.loop-run.invariant.asked c.in_ok-run.ensures.asked) c.in_err-after.ensures
+    missing_later _ c.from_residual-in_err-after.ensures.1
+    (asked_both c.loop-run.invariant.asked c.in_ok-run.ensures.asked) c.in_err-after.ensures
 
 pub gather_run-requires : goal.gather_run-requires
 gather_run-requires g c κs =
@@ -79,7 +87,8 @@ gather_run-requires g c κs =
             ap length c.deref_mut.ensures.value ∙ before.ready.from_right_wide,
             record {
               lasts = rw c.deref_mut.ensures.value before.gathered.taken.lasts;
-              known = λ lower j one lt n is. still_known old new lower (n / BLOCK_WINDOWS) grows (before.gathered.taken.known lower j one lt n is);
+              known = λ lower j one lt n is. still_known old new lower (n / BLOCK_WINDOWS) grows
+                  (before.gathered.taken.known lower j one lt n is);
             },
           ),
         ),
@@ -90,14 +99,16 @@ gather_run-requires g c κs =
 module _ (g : Over) (c : After-take_fronts g) where
   gathered : AreGathered (g.S.Source.entries c.gather_run.new.source) c.args.upper c.in_ok-after.after c.take_fronts.new.scratch
   gathered =
-      let whole = with_items_is c.loop-run.scratch.from_right c.gather_run.new.sent (c.gather_run.auto.sent ∙ c.deref_mut.ensures.len) in
+      let whole = with_items_is c.loop-run.scratch.from_right c.gather_run.new.sent (c.gather_run.auto.sent
+      ∙ c.deref_mut.ensures.len) in
       record { fronts = c.take_fronts.ensures.held.0; taken = rw (c.take_fronts.ensures.held.1, whole) c.in_ok-after.ensures.found.taken.taken }
 
 pub returns-then-after-len-clause-gathered : goal.returns-then-after-len-clause-gathered
 returns-then-after-len-clause-gathered g c =
     let upper = c.args.upper in
     let len = c.args.upper.len_is in
-    let done : c.in_ok-after.after ≡ block_len upper.plan.now.ids (upper.below + 1) upper.number = omega (arith, len, c.if-after-len.true) in
+    let done : c.in_ok-after.after ≡ block_len upper.plan.now.ids (upper.below + 1) upper.number =
+    omega (arith, len, c.if-after-len.true) in
     let all = gathered g (goal.at.returns-then-after-len-clause-gathered g c).After-take_fronts in
     record {
       asked = asked_both (asked_both c.loop-run.invariant.asked c.in_ok-run.ensures.asked) c.in_ok-after.ensures.asked;
@@ -111,8 +122,10 @@ unreachable-requires g c =
     let run = c.in_ok-after.ensures.found in
     let len = c.args.upper.len_is in
     let within : c.in_ok-after.after < block_len upper.plan.now.ids (upper.below + 1) upper.number = omega (arith, len, run.within, c.if-after-len.false) in
-    some_run_follows upper c.loop-run.index c.in_ok-after.after c.loop-run.prefixes.prefix (omega (arith, run.later)) within (run.ended within)
-    c.loop-run.invariant.here.has (rw (c.loop-run.invariant.lists.1, c.loop-run.invariant.lists.0) at c.in_default.ensures.last)
+    some_run_follows upper c.loop-run.index c.in_ok-after.after c.loop-run.prefixes.prefix
+    (omega (arith, run.later)) within (run.ended within)
+    c.loop-run.invariant.here.has
+    (rw (c.loop-run.invariant.lists.1, c.loop-run.invariant.lists.0) at c.in_default.ensures.last)
 
 pub loop-run-preserved : goal.loop-run-preserved
 loop-run-preserved g c =
@@ -126,10 +139,14 @@ loop-run-preserved g c =
     let went = c.in_ok-after.ensures in
     let run = went.found in
     let len = c.args.upper.len_is in
-    let within : after < block_len plan.ids (low + 1) upper.number = omega (arith, len, run.within, c.if-after-len.false) in
-    let next = next_run upper c.loop-run.index after c.loop-run.prefixes.prefix (omega (arith, run.later)) within (run.ended within)
+    let within : after < block_len plan.ids (low + 1) upper.number =
+    omega (arith, len, run.within, c.if-after-len.false) in
+    let next = next_run upper c.loop-run.index after c.loop-run.prefixes.prefix (omega (arith, run.later)) within
+    (run.ended within)
     before.here.has c.in-Some.next.prefix (rw (before.lists.1, before.lists.0) at c.in-Some.ensures.next) in
-    let places = rw c.shape-shape.ensures.ids at (c.prefix_places.ensures (window_in upper after) (rw c.shape-shape.ensures.ids next.at'.is.window) (rw (c.shape-shape.ensures.ids, c.prefix-in-loop-run.ensures) next.at'.has)) in
+    let places = rw c.shape-shape.ensures.ids at
+    (c.prefix_places.ensures (window_in upper after) (rw c.shape-shape.ensures.ids next.at'.is.window)
+    (rw (c.shape-shape.ensures.ids, c.prefix-in-loop-run.ensures) next.at'.has)) in
     record {
       asked = asked_both (asked_both before.asked asked.asked) went.asked;
       here = next.at';

@@ -17,7 +17,8 @@ use Rattle.win_index.proofs.Windows.{number_of_is}
 module _ (g : Over) (c : After-put_lasts g) where
   -- its windows are in the run, each one position after the one before it
   series : (i : ℕ) → i < c.series-count.result → (w : List ℕ)
-      × InRun c.args.upper (window_in c.args.upper c.args.reached.index) c.args.reached.run (c.loop-block.place + i) (c.loop-block.at + i) w
+      × InRun c.args.upper (window_in c.args.upper c.args.reached.index) c.args.reached.run (c.loop-block.place + i)
+      (c.loop-block.at + i) w
   series =
       let here = c.loop-block.invariant.here in
       let entries = g.S.Source.entries in
@@ -31,8 +32,10 @@ module _ (g : Over) (c : After-put_lasts g) where
       let entries = g.S.Source.entries in
       let answer = c.in_ok-block.ensures in
       let is = answer.found.block in
-      let few : c.in_ok-block.index + c.series-count.result ≤ BLOCK_WINDOWS = omega (arith, c.series-count.ensures.few, c.min.ensures, answer.found.inside, c.len.ensures) in
-      taken_more c.args.upper (entries c.args.source.now) (entries c.part_block.new.source) (window_in c.args.upper c.args.reached.index) c.args.reached.run
+      let few : c.in_ok-block.index + c.series-count.result ≤ BLOCK_WINDOWS =
+      omega (arith, c.series-count.ensures.few, c.min.ensures, answer.found.inside, c.len.ensures) in
+      taken_more c.args.upper (entries c.args.source.now) (entries c.part_block.new.source)
+      (window_in c.args.upper c.args.reached.index) c.args.reached.run
       (asked_both c.loop-block.invariant.asked answer.asked).grows c.requires.reached.run (entries c.loop-block.source) c.args.reached.index c.loop-block.place
       c.loop-block.at c.in_ok-block.block.now.number c.in_ok-block.index c.series-count.result c.loop-block.sent c.put_lasts.new.cells answer.asked.grows
       c.loop-block.invariant.taken (rw (is.number_is, is.known) refl) (omega (arith, answer.found.place, is.number_is)) few c.put_lasts.ensures series
@@ -42,9 +45,11 @@ module _ (g : Over) (c : After-put_lasts g) where
       (c.loop-block.place + (c.series-count.result - 1)) (c.loop-block.at + (c.series-count.result - 1)) w
   last = series (c.series-count.result - 1) (omega (arith, c.series-count.ensures.some))
 
-  last_place : IsAtPlace (2 * c.args.upper.below + 1) c.args.upper.plan.now.ids c.args.reached.run.places last.0 (c.loop-block.at + c.series-count.result - 1)
+  last_place : IsAtPlace (2 * c.args.upper.below + 1) c.args.upper.plan.now.ids c.args.reached.run.places last.0
+      (c.loop-block.at + c.series-count.result - 1)
   last_place =
-      let place : c.loop-block.at + (c.series-count.result - 1) ≡ c.loop-block.at + c.series-count.result - 1 = omega (arith, c.series-count.ensures.some) in
+      let place : c.loop-block.at + (c.series-count.result - 1)
+      ≡ c.loop-block.at + c.series-count.result - 1 = omega (arith, c.series-count.ensures.some) in
       rw place at last.1.is
 
 pub returns-in_err-block : goal.returns-in_err-block
@@ -70,7 +75,8 @@ returns-in_default g c =
     let d = (goal.at.returns-in_default g c).After-put_lasts in
     let some = c.series-count.ensures.some in
     let end = last g d in
-    let greatest = c.in_default.ensures.last (2 * c.args.upper.below + 1) c.args.upper.plan.now.ids end.0 (omega arith) (last_place g d) in
+    let greatest = c.in_default.ensures.last (2 * c.args.upper.below + 1) c.args.upper.plan.now.ids end.0 (omega arith)
+    (last_place g d) in
     record {
       asked = asked_both c.loop-block.invariant.asked c.in_ok-block.ensures.asked;
       found = record {
@@ -85,11 +91,13 @@ returns-in_default g c =
 
 -- the last part of the window that is reached
 module _ (g : Over) (c : At-loop-block g) where
-  last_at : slice_get (windows (2 * c.args.upper.below + 1) c.args.upper.plan.now.ids) (c.args.reached.run.start + c.loop-block.at) ≡ Some (part c.loop-block.invariant.here.0 c.args.upper.below 2)
+  last_at : slice_get (windows (2 * c.args.upper.below + 1) c.args.upper.plan.now.ids)
+      (c.args.reached.run.start + c.loop-block.at) ≡ Some (part c.loop-block.invariant.here.0 c.args.upper.below 2)
   last_at =
       let before = c.loop-block.invariant in
       let entries = g.S.Source.entries in
-      last_part c.args.upper (entries c.args.source.now) (entries c.loop-block.source) (window_in c.args.upper c.args.reached.index) c.args.reached.run
+      last_part c.args.upper (entries c.args.source.now) (entries c.loop-block.source)
+      (window_in c.args.upper c.args.reached.index) c.args.reached.run
       before.asked.grows c.requires.reached.run c.loop-block.place c.loop-block.at before.here.0 before.here.1
 
   last_inside : c.args.reached.run.start + c.loop-block.at < length (windows (2 * c.args.upper.below + 1) c.args.upper.plan.now.ids)

@@ -8,6 +8,8 @@ abbrev pub invariant-loop-place : goal.invariant-loop-place
 invariant-loop-place l =
     record {
       window : IsWindow 1 l.shape.ids l.window;
-      here : l.place < block_len l.shape.ids 0 l.number → slice_get (windows 1 l.shape.ids) (BLOCK_WINDOWS * l.number + l.place) ≡ Some l.window;
-      written : (i : ℕ) → i < l.place → window_numbered l.shape.ids 0 (BLOCK_WINDOWS * l.number + i) ≡ get_or l.ids i 0 ∷ [];
+      here : l.place < block_len l.shape.ids 0 l.number
+          → slice_get (windows 1 l.shape.ids) (BLOCK_WINDOWS * l.number + l.place) ≡ Some l.window;
+      written : (i : ℕ) → i < l.place
+          → window_numbered l.shape.ids 0 (BLOCK_WINDOWS * l.number + i) ≡ get_or l.ids i 0 ∷ [];
     }

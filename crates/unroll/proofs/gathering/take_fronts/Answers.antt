@@ -7,7 +7,8 @@ pub returns-then-not-upper-clause-held : goal.returns-then-not-upper-clause-held
 returns-then-not-upper-clause-held c =
     let count = c.args.end - c.args.from in
     let sum : c.args.from + (c.args.end - c.args.from) ≡ c.args.end = omega (arith, c.requires.fronts.order) in
-    let whole = with_items_is c.args.scratch.now.from_left c.fill_some.new.cells (c.fill_some.auto.cells ∙ c.deref_mut.ensures.len) in (
+    let whole = with_items_is c.args.scratch.now.from_left c.fill_some.new.cells (c.fill_some.auto.cells
+    ∙ c.deref_mut.ensures.len) in (
       columns_more c.args.upper c.args.run c.args.from count c.args.end sum c.args.scratch.now _ c.requires.held c.requires.fronts.each c.if-not-upper.true
           (rw whole (rw c.deref_mut.ensures.value at c.fill_some.ensures)) c.fill_states.ensures.size.0
           (omega (arith, sum, c.requires.fronts.few, c.requires.ready.own_wide.0)) c.fill_states.ensures.states,

@@ -20,8 +20,10 @@ module _ (g : Over) (c : In_ok-gather g) where
   above = omega (arith, c.new-upper.ensures.1, c.if-level-eq0.false)
 
   written :
-      (made : List (List ℕ)) → let upper = c.new-upper.result in HoldBlock upper.plan.now (upper.below + 1) upper.number made
-      → HoldBlock c.args.code.now c.args.level c.args.number made × KnowsAllBelow (g.S.Source.entries c.gather.new.source) c.args.code.now.ids c.args.level c.args.number
+      (made : List (List ℕ)) → let upper =
+      c.new-upper.result in HoldBlock upper.plan.now (upper.below + 1) upper.number made
+      → HoldBlock c.args.code.now c.args.level c.args.number made
+      × KnowsAllBelow (g.S.Source.entries c.gather.new.source) c.args.code.now.ids c.args.level c.args.number
   written made holds =
       let block = c.new-upper.ensures in
       let plan = block.0 ∙ c.plan-plan.ensures in

@@ -15,13 +15,25 @@ loop-round-preserved c =
     let i = c.loop-round.round in
     let steps = c.steps-step-items.result.now in
     let step = c.step-item.result in
-    let item = ap (option_map step_of) (slice_get_read steps (length steps) i step refl c.loop-round-test.true c.step-item.is) in
-    let here = rw (c.steps-step-items.ensures.value, c.program-program.ensures.value) at (slice_get-map step_of steps i ∙ item) in
+    let item = ap (option_map step_of)
+    (slice_get_read steps (length steps) i step refl c.loop-round-test.true c.step-item.is) in
+    let here = rw (c.steps-step-items.ensures.value, c.program-program.ensures.value) at
+    (slice_get-map step_of steps i ∙ item) in
     let long = ap length c.steps-step-items.ensures.value in
-    let within : i < length uses = omega (arith, c.loop-round-test.true, long, length-map steps step_of, c.steps-step-items.ensures.limits.rounds, c.loop-round.invariant.size) in
+    let within : i < length uses =
+    omega (
+      arith,
+      c.loop-round-test.true,
+      long,
+      length-map steps step_of,
+      c.steps-step-items.ensures.limits.rounds,
+      c.loop-round.invariant.size,
+    ) in
     record {
       size = length-set uses i c.any_uses_right.result ∙ c.loop-round.invariant.size;
       read = below_more (λ k. get_or (slice_set uses i c.any_uses_right.result) k true ≡ round_reads_right p k) i
-          (λ k lt. get_or-set_other uses i k c.any_uses_right.result true (omega (arith, lt)) ∙ c.loop-round.invariant.read k lt)
-          (get_or-set_same uses i c.any_uses_right.result true within ∙ rw c.deref.ensures.value at c.any_uses_right.ensures ∙ round_reads p i step here);
+          (λ k lt. get_or-set_other uses i k c.any_uses_right.result true (omega (arith, lt))
+          ∙ c.loop-round.invariant.read k lt)
+          (get_or-set_same uses i c.any_uses_right.result true within
+          ∙ rw c.deref.ensures.value at c.any_uses_right.ensures ∙ round_reads p i step here);
     }

@@ -13,8 +13,11 @@ module _ (g : Over) (c : After-first_part_number-number g) where
   first_at =
       let m = c.args.upper.plan.now.ids in
       let low = c.args.upper.below in
-      let here : slice_get (windows (2 * low + 3) m) (c.first_number.result + c.args.index) ≡ Some (window_in c.args.upper c.args.index) = grind (arith, c.first_number.ensures, c.requires.here.here) in
-      rw c.shape-shape.ensures.ids at (c.first_part_number-number.ensures (window_in c.args.upper c.args.index) (rw c.shape-shape.ensures.ids here))
+      let here : slice_get (windows (2 * low + 3) m) (c.first_number.result + c.args.index)
+      ≡ Some (window_in c.args.upper c.args.index) = grind (arith, c.first_number.ensures, c.requires.here.here) in
+      rw c.shape-shape.ensures.ids at
+      (c.first_part_number-number.ensures (window_in c.args.upper c.args.index)
+      (rw c.shape-shape.ensures.ids here))
 
 pub part_block-requires : goal.part_block-requires
 part_block-requires g c κs =

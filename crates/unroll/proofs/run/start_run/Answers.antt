@@ -8,7 +8,8 @@ use Rattle.unroll.proofs.SameRun.{first_grows}
 use Rattle.unroll.proofs.run.start_run.Goals as goal
 
 pub returns-in_err-middle : goal.returns-in_err-middle
-returns-in_err-middle g c = missing_later _ c.from_residual-in_err-middle.ensures.1 c.in_ok-first.ensures.asked c.in_err-middle.ensures
+returns-in_err-middle g c =
+    missing_later _ c.from_residual-in_err-middle.ensures.1 c.in_ok-first.ensures.asked c.in_err-middle.ensures
 
 pub part_block-requires : goal.part_block-requires
 part_block-requires g c κs =
@@ -35,8 +36,11 @@ returns g c =
     record {
       asked = asked_both c.in_ok-first.ensures.asked c.in_ok-middle.ensures.asked;
       found = record {
-        start_is = rw (c.shape-shape.ensures.ids, rest_of_prefix low w) at (c.last_run_start.ensures (take (2 * low + 2) w) (rw c.shape-shape.ensures.ids here.has));
-        places_are = rw c.shape-shape.ensures.ids at (c.prefix_places.ensures w (rw c.shape-shape.ensures.ids here.is.window) (rw c.shape-shape.ensures.ids here.has));
+        start_is = rw (c.shape-shape.ensures.ids, rest_of_prefix low w) at
+            (c.last_run_start.ensures (take (2 * low + 2) w) (rw c.shape-shape.ensures.ids here.has));
+        places_are = rw c.shape-shape.ensures.ids at
+            (c.prefix_places.ensures w (rw c.shape-shape.ensures.ids here.is.window)
+            (rw c.shape-shape.ensures.ids here.has));
         first_is = record {
           number_is = c.in_ok-first.ensures.found.number_is;
           first_is = first_grows plan (entries c.first_part.new.source) (entries c.part_block.new.source) low c.in_ok-middle.ensures.asked.grows c.in_ok-first.first c.in_ok-first.ensures.found.first_is;

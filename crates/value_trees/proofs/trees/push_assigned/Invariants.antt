@@ -7,5 +7,6 @@ use Rattle.value_trees.proofs.trees.push_assigned.Given as goal
 -- the assignments that are left complete the trees
 abbrev pub invariant-registers : goal.invariant-registers
 invariant-registers l =
-    map tree_value l.trees.items ++ assigned_trees l.round (env_of l.env) l.register (drop l.register (map term_of l.expressions))
+    map tree_value l.trees.items
+    ++ assigned_trees l.round (env_of l.env) l.register (drop l.register (map term_of l.expressions))
     ≡ map tree_value l.initial.trees.items ++ assigned_trees l.round (env_of l.env) 0 (map term_of l.expressions)

@@ -7,6 +7,9 @@ use Rattle.value_trees.proofs.trees.push_rounds.Given as goal
 abbrev pub invariant-rounds : goal.invariant-rounds
 invariant-rounds l = record {
   done : l.places ≡ record l.fn.places { round = l.done };
-  trees : map tree_value l.trees.items ++ trees_of_rounds l.fn.places.program l.fn.places.places l.explained.place l.done (drop l.done (map step_of l.rounds))
-      ≡ map tree_value l.initial.trees.items ++ trees_of_rounds l.fn.places.program l.fn.places.places l.explained.place 0 (map step_of l.rounds);
+  trees : map tree_value l.trees.items
+      ++ trees_of_rounds l.fn.places.program l.fn.places.places l.explained.place l.done
+      (drop l.done (map step_of l.rounds))
+      ≡ map tree_value l.initial.trees.items
+      ++ trees_of_rounds l.fn.places.program l.fn.places.places l.explained.place 0 (map step_of l.rounds);
 }

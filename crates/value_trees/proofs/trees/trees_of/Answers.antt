@@ -20,10 +20,13 @@ returns c =
     let id = at_place x i c.id.result c.id.ensures in
     let knows = c.knowing-known.ensures ∙ ap knowing_id (sym id) in
     let starts = c.start.ensures.value ∙ ap (λ (t : ProgramTree). t.start) program in
-    let first = c.in_ok-push_assigned.ensures ∙ (λ k. map tree_value (c.new-trees.ensures.items k) ++ assigned_trees 0 (knows k) 0 (starts k)) in
+    let first = c.in_ok-push_assigned.ensures
+    ∙ (λ k. map tree_value (c.new-trees.ensures.items k) ++ assigned_trees 0 (knows k) 0 (starts k)) in
     let rounds = c.in_ok-push_rounds.ensures.trees
-    ∙ ap (λ (s : RingConfiguration). map tree_value c.push_assigned.new.trees.items ++ trees_of_rounds s.program s.places i 0 s.program.steps) held in
-    let after = c.in_ok-push_rounds.ensures.done ∙ ap (λ (s : RingConfiguration). record s { round = length s.program.steps }) held in
+    ∙ ap (λ (s : RingConfiguration). map tree_value c.push_assigned.new.trees.items
+    ++ trees_of_rounds s.program s.places i 0 s.program.steps) held in
+    let after = c.in_ok-push_rounds.ensures.done
+    ∙ ap (λ (s : RingConfiguration). record s { round = length s.program.steps }) held in
     let own = c.held_by.ensures.value ∙ ap (λ (s : RingConfiguration). state s.program s.places s.round i) after in
     let reads = c.environment-last.ensures ∙ ap (λ registers. reading_messages registers 0 0) own in
     let finish = c.finish.ensures.value ∙ ap (λ (t : ProgramTree). t.finish) program in

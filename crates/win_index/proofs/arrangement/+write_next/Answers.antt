@@ -1,6 +1,7 @@
 use Rattle.std.proofs.Common.{◌-◌, take, refl, ap, ◌∙◌, arith}
 use Rattle.win_index.proofs.Sizes.{window_within}
-use Rattle.win_index.proofs.Successors.{last_of_none, shorter_window, next_with_later_front, last_with_last_front, next_is_window, later_lacks}
+use Rattle.win_index.proofs.Successors.{last_of_none, shorter_window, next_with_later_front, last_with_last_front}
+use Rattle.win_index.proofs.Successors.{next_is_window, later_lacks}
 use Rattle.win_index.proofs.arrangement.+write_next.Goals as goal
 
 pub returns-then-len-eq0-clause-replaced : goal.returns-then-len-eq0-clause-replaced
@@ -16,7 +17,8 @@ write_next-requires t c = (
   omega arith,
   (
     omega arith,
-    rw c.if-write_next_last.ensures.none.1 (shorter_window c.args.len c.args.ids (c.args.len - 1) c.args.list.now (omega arith) c.requires.window),
+    rw c.if-write_next_last.ensures.none.1
+        (shorter_window c.args.len c.args.ids (c.args.len - 1) c.args.list.now (omega arith) c.requires.window),
   ),
 )
 
@@ -26,7 +28,8 @@ returns-then-not-write_next-clause-replaced t c =
     record {
       next = tt;
       last = last_with_last_front c.args.len c.args.ids (c.args.len - 1) c.args.list.now (omega arith) (omega arith)
-          c.if-write_next_last.ensures.none.0 (rw c.if-write_next_last.ensures.none.1 at c.if-not-write_next.ensures.replaced.last);
+          c.if-write_next_last.ensures.none.0
+          (rw c.if-write_next_last.ensures.none.1 at c.if-not-write_next.ensures.replaced.last);
       same = ap (take c.args.len) same;
       window = rw same c.requires.window;
     }
@@ -43,7 +46,8 @@ pub returns-clause-replaced : goal.returns-clause-replaced
 returns-clause-replaced t c =
     let next = next_with_later_front c.args.len c.args.ids (c.args.len - 1) c.nth_unused.result c.args.list.now
     c.write_next.new.list (omega arith) (omega arith)
-    (omega arith) c.if-write_next_last.ensures.none.0 (rw c.if-write_next_last.ensures.none.1 at c.if-not-write_next.ensures.replaced.next) c.nth_unused.ensures in
+    (omega arith) c.if-write_next_last.ensures.none.0
+    (rw c.if-write_next_last.ensures.none.1 at c.if-not-write_next.ensures.replaced.next) c.nth_unused.ensures in
     record {
       next = next;
       last = tt;

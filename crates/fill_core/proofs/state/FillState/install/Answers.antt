@@ -1,4 +1,5 @@
-use Rattle.std.proofs.Common.{rules, ◌≡◌, ◌∙◌, ◌<◌, None, Some, Bool, List, Option, length, set, subst, sym, refl, ap, inl, inr, arith}
+use Rattle.std.proofs.Common.{rules, ◌≡◌, ◌∙◌, ◌<◌, None, Some, Bool, List, Option, length, set, subst, sym, refl, ap}
+use Rattle.std.proofs.Common.{inl, inr, arith}
 use Rattle.std.proofs.lemmas.List.{get_or_read}
 use Rattle.std.proofs.lemmas.Option.{MatchOption-at_some, MatchOption-at_none}
 use Rattle.round_eval.specs.BlockStates.{MadeBlock}
@@ -14,7 +15,8 @@ invariant_of-known c =
     let own : Seen world.workers.items c.args.worker c.in-Some-get.hand.now = search (rules, seen) in
     record {
       holds = subst (λ (l : List (Option MadeBlock)). HoldsJobs world.plan.now l) (sym c.deref-2.ensures.value) c.requires.cells;
-      marks = ap (λ (l : List Bool). length l) c.deref-3.ensures.value ∙ sym (ap (λ (v : Worker). length v.knows) own.is) ∙ c.requires.marks c.args.worker own.inside;
+      marks = ap (λ (l : List Bool). length l) c.deref-3.ensures.value
+          ∙ sym (ap (λ (v : Worker). length v.knows) own.is) ∙ c.requires.marks c.args.worker own.inside;
     }
 
 pub make_known-requires-clause-full : goal.make_known-requires-clause-full
@@ -30,7 +32,8 @@ returns-in_default-2 c =
     let world = c.args.self.now in
     let own : Seen world.workers.items c.args.worker c.in-Some-get.hand.now = search (rules, seen) in
     let marks = c.deref-3.ensures.value ∙ ap (λ (v : Worker). v.knows) (sym own.is) in
-    let unknown : ¬ MarksBelow world.plan.now c.deref-3.result.now c.args.level c.args.number = MatchOption-at_none _ _ c.in_default-2.is c.in_ok-block.ensures in
+    let unknown : ¬ MarksBelow world.plan.now c.deref-3.result.now c.args.level c.args.number =
+    MatchOption-at_none _ _ c.in_default-2.is c.in_ok-block.ensures in
     inr (λ job can. unknown (subst (λ (l : List Bool). MarksBelow world.plan.now l c.args.level c.args.number) (sym marks) can.knows_below), refl)
 
 pub returns : goal.returns
@@ -45,8 +48,11 @@ returns c =
     let job_is = rw (c.shape.ensures.ids, c.shape.ensures.rounds) at c.in-Some.ensures.number in
     let inside = rw (c.shape.ensures.ids, c.shape.ensures.rounds) at c.in-Some.ensures.below in
     let found = get_or_read world.cells.items job c.index.result.now (omega (arith, c.requires.cells.size, inside)) c.index.ensures None in
-    let none : c.index.result.now ≡ None = is_none_from c.index.result.now (sym c.is_some.ensures ∙ c.if-is_some.false) in
-    let made : (c.in-Some-2.block ≡ block_by world.plan.now c.args.level c.args.number w) × MarksBelow world.plan.now c.deref-3.result.now c.args.level c.args.number = MatchOption-at_some _ _ c.in-Some-2.block c.in-Some-2.is c.in_ok-block.ensures in
+    let none : c.index.result.now ≡ None =
+    is_none_from c.index.result.now (sym c.is_some.ensures ∙ c.if-is_some.false) in
+    let made : (c.in-Some-2.block ≡ block_by world.plan.now c.args.level c.args.number w)
+    × MarksBelow world.plan.now c.deref-3.result.now c.args.level c.args.number =
+    MatchOption-at_some _ _ c.in-Some-2.block c.in-Some-2.is c.in_ok-block.ensures in
     let taught : worker_of c.learn.new.self ≡ learned job (worker_of c.index_mut-2.result.now) = c.learn.ensures in
     let workers = seen_set world.workers.items w c.index_mut-2.result.now c.learn.new.self (learned job) still taught in
     inl (

@@ -10,5 +10,6 @@ invariant-loop-entry l = record {
   from : l.fn.start ≤ l.end;
   few : l.end ≤ l.fn.start + l.entry-index * ROOM;
   len : length l.bytes ≡ length l.initial.bytes;
-  stored : take l.end l.bytes ≡ take l.fn.start l.initial.bytes ++ flat_map entry_text (take l.entry-index l.self.entries.now);
+  stored : take l.end l.bytes ≡ take l.fn.start l.initial.bytes
+      ++ flat_map entry_text (take l.entry-index l.self.entries.now);
 }

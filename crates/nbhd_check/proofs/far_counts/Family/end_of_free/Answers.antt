@@ -1,7 +1,9 @@
 use Rattle.std.proofs.Common.{◌≡◌, ◌≢◌, ℕ, ◌<◌, ◌≤◌, get_or, sym, ◌∙◌, ap, arith, ⊎_elim}
 use Rattle.std.proofs.lemmas.Bool.{cases_lt}
 use Rattle.std.proofs.lemmas.List.{get_or_default}
-use Rattle.nbhd_check.proofs.far_counts.Family.end_of_free.Goals.{then-low-id+then-id-end, else-low-id, else-low-id-via-then-low-id+else-id-end, else-low-id-via-else-low-id}
+use Rattle.nbhd_check.proofs.far_counts.Family.end_of_free.Goals.{then-low-id+then-id-end, else-low-id}
+use Rattle.nbhd_check.proofs.far_counts.Family.end_of_free.Goals.{else-low-id-via-then-low-id+else-id-end}
+use Rattle.nbhd_check.proofs.far_counts.Family.end_of_free.Goals.{else-low-id-via-else-low-id}
 use Rattle.nbhd_check.proofs.far_counts.Family.end_of_free.Goals as goal
 
 pub loop-place-preserved : goal.loop-place-preserved
@@ -22,7 +24,8 @@ loop-place-preserved c =
         λ lt other. (c.loop-place.place, c.loop-place-test.true, get_or_default ids c.loop-place.place c.if-low-id.end 0 c.loop-place-test.true ∙ sym w.end-is),
       )
       | else-low-id w ↦
-          let close : (x : ℕ) → c.args.low ≤ x → x < c.loop-place.end → id ≢ x = λ x low lt same. elim w.else-low-id.branch [
+          let close : (x : ℕ) → c.args.low ≤ x → x < c.loop-place.end → id ≢ x =
+          λ x low lt same. elim w.else-low-id.branch [
             | else-low-id-via-then-low-id+else-id-end w' ↦ absurd (omega (arith, lt, same, w'.if-id-end.false))
             | else-low-id-via-else-low-id w' ↦ absurd (omega (arith, low, same, w'.if-low-id.false))
           ] in (
@@ -42,5 +45,6 @@ pub returns-clause-free : goal.returns-clause-free
 returns-clause-free c = λ x low lt.
     let own = c.loop-place.invariant in (
       own.1 x low lt,
-      λ has. own.2 has.0 x (omega (arith, has.1, c.loop-place-test.false)) low lt (get_or_default c.args.self.shared.now has.0 0 x has.1 ∙ has.2),
+      λ has. own.2 has.0 x (omega (arith, has.1, c.loop-place-test.false)) low lt
+          (get_or_default c.args.self.shared.now has.0 0 x has.1 ∙ has.2),
     )

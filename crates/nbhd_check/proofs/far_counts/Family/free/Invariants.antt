@@ -6,4 +6,5 @@ use Rattle.nbhd_check.proofs.far_counts.Family.free.Given as goal
 abbrev pub invariant-loop-first : goal.invariant-loop-first
 invariant-loop-first l =
     (l.least ≤ l.fn.least)
-    × AreFarFreeIn l.self.table.now l.self.distance l.least (λ window. (get_or window 0 0 < l.first) × (drop 2 window ≡ l.self.shared.now))
+    × AreFarFreeIn l.self.table.now l.self.distance l.least
+    (λ window. (get_or window 0 0 < l.first) × (drop 2 window ≡ l.self.shared.now))

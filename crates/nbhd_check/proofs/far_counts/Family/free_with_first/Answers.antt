@@ -1,18 +1,21 @@
-use Rattle.std.proofs.Common.{◌≡◌, ◌≢◌, ℕ, ◌+◌, ◌*◌, ◌<◌, ◌≤◌, List, Contains, drop, get_or, slice_get, Some, arith, refl, rules, ⊎_elim}
+use Rattle.std.proofs.Common.{◌≡◌, ◌≢◌, ℕ, ◌+◌, ◌*◌, ◌<◌, ◌≤◌, List, Contains, drop, get_or, slice_get, Some, arith}
+use Rattle.std.proofs.Common.{refl, rules, ⊎_elim}
 use Rattle.std.proofs.lemmas.Bool.{cases_lt}
 use Rattle.channel_tables.specs.Tables.{windows_of}
 use Rattle.win_index.proofs.Windows.{windows_all}
 use Rattle.nbhd_check.specs.Counts.{shared_len}
 use Rattle.nbhd_check.proofs.Ends.{before_window, window_before}
 use Rattle.nbhd_check.proofs.FarFree.{by_pair, first_two}
-use Rattle.nbhd_check.proofs.far_counts.Family.free_with_first.Goals.{Joined-second-end, then-second-end, else-second-end}
+use Rattle.nbhd_check.proofs.far_counts.Family.free_with_first.Goals.{Joined-second-end, then-second-end}
+use Rattle.nbhd_check.proofs.far_counts.Family.free_with_first.Goals.{else-second-end}
 use Rattle.nbhd_check.proofs.far_counts.Family.free_with_first.Goals as goal
 
 pub returns-then-contains-clause-free : goal.returns-then-contains-clause-free
 returns-then-contains-clause-free c = λ number window below item own far.
     let t = c.args.self.table.now in
     let z = c.args.self.shared.now in
-    let list = by_pair t number c.args.first (get_or window 1 0) window z c.args.self.some.0 item (own.0, refl, own.1) in
+    let list = by_pair t number c.args.first (get_or window 1 0) window z c.args.self.some.0 item
+    (own.0, refl, own.1) in
     let is = windows_all (2 * t.rounds + 1) t.ids number window item in
     (before_window _ _ c.args.first (get_or window 1 0) z (rw list at is)).1 (c.contains.ensures.0 c.if-contains.true)
 
@@ -23,13 +26,17 @@ returns-clause-free c = λ number window below item own.
     (own.0, omega (arith, ids.2, c.loop-second-test.false, c.ids-ids.ensures, c.shape.ensures.ids), own.1)
 
 -- no window has the end as its second identifier
-at_end : (c : Joined-second-end) (number : ℕ) (window : List ℕ) → slice_get (windows_of c.args.self.table.now) number ≡ Some window
-    → get_or window 0 0 ≡ c.args.first → drop 2 window ≡ c.args.self.shared.now → get_or window 1 0 ≢ c.end_of_free-end.result
+at_end : (c : Joined-second-end) (number : ℕ) (window : List ℕ)
+    → slice_get (windows_of c.args.self.table.now) number ≡ Some window
+    → get_or window 0 0 ≡ c.args.first → drop 2 window ≡ c.args.self.shared.now
+    → get_or window 1 0 ≢ c.end_of_free-end.result
 at_end c number window item first rest same =
     let t = c.args.self.table.now in
     let z = c.args.self.shared.now in
-    let list = by_pair t number c.args.first c.end_of_free-end.result window z c.args.self.some.0 item (first, same, rest) in
-    let parts = before_window _ _ c.args.first c.end_of_free-end.result z (rw list at (windows_all (2 * t.rounds + 1) t.ids number window item)) in
+    let list = by_pair t number c.args.first c.end_of_free-end.result window z c.args.self.some.0 item
+    (first, same, rest) in
+    let parts = before_window _ _ c.args.first c.end_of_free-end.result z
+    (rw list at (windows_all (2 * t.rounds + 1) t.ids number window item)) in
     let below = (first_two t number window c.args.self.some.0 item).2 in
     parts.2 (c.end_of_free-end.ensures.used (omega (arith, below, same)) parts.0)
 
@@ -58,10 +65,12 @@ loop-second-preserved c =
         omega (arith, w.least-is, w.free_with_seconds-least.ensures.less, before.0),
         λ number window below item own. ⊎_elim
             (λ (lt : get_or window 1 0 < c.loop-second.second).
-            before.1 number window (omega (arith, below, w.least-is, w.free_with_seconds-least.ensures.less)) item (own.0, lt, own.2))
+            before.1 number window (omega (arith, below, w.least-is, w.free_with_seconds-least.ensures.less)) item
+            (own.0, lt, own.2))
             (λ (ge : c.loop-second.second ≤ get_or window 1 0). ⊎_elim
             (λ (lt : get_or window 1 0 < end.result).
-            w.free_with_seconds-least.ensures.free number window (omega (arith, below, w.least-is)) item (own.0, ge, lt, own.2))
+            w.free_with_seconds-least.ensures.free number window (omega (arith, below, w.least-is)) item
+            (own.0, ge, lt, own.2))
             (λ (past : end.result ≤ get_or window 1 0). λ far. at_end c number window item own.0 own.2 (omega (arith, past, own.1)))
             (cases_lt (get_or window 1 0) end.result))
             (cases_lt (get_or window 1 0) c.loop-second.second),

@@ -17,7 +17,8 @@ loop-second-preserved c =
       omega (arith, c.free_with_both-least.ensures.less, before.0),
       λ number window below item own. ⊎_elim
           (λ (lt : get_or window 1 0 < c.loop-second.second).
-          before.1 number window (omega (arith, below, c.free_with_both-least.ensures.less)) item (own.0, own.1, lt, own.3))
+          before.1 number window (omega (arith, below, c.free_with_both-least.ensures.less)) item
+          (own.0, own.1, lt, own.3))
           (λ (ge : c.loop-second.second ≤ get_or window 1 0).
           c.free_with_both-least.ensures.free number window below item (own.0, omega (arith, own.2, ge), own.3))
           (cases_lt (get_or window 1 0) c.loop-second.second),

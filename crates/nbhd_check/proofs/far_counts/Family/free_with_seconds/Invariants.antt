@@ -7,5 +7,6 @@ abbrev pub invariant-loop-second : goal.invariant-loop-second
 invariant-loop-second l =
     (l.least ≤ l.fn.least)
     × AreFarFreeIn l.self.table.now l.self.distance l.least
-    (λ window. (get_or window 0 0 ≡ l.first) × (l.low ≤ get_or window 1 0) × (get_or window 1 0 < l.second) × (drop 2 window ≡ l.self.shared.now))
+    (λ window. (get_or window 0 0 ≡ l.first) × (l.low ≤ get_or window 1 0) × (get_or window 1 0 < l.second)
+    × (drop 2 window ≡ l.self.shared.now))
     × (l.second < l.end → ArePairNumbers l.self.table.now l.self.shared.now l.first l.second l.numbers)

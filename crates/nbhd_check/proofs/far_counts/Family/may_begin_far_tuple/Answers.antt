@@ -14,7 +14,8 @@ returns c =
     let low = c.requires.counted.0 in
     let n = c.requires.counted.1.0 in
     let sums = c.requires.counted.1.1.1 in
-    let count : ℕ → ℕ = λ x. held_count t low n x (λ other. nat_lt (abs_diff c.channel_at-channel.result other) c.args.self.distance) in
+    let count : ℕ → ℕ = λ x. held_count t low n x
+    (λ other. nat_lt (abs_diff c.channel_at-channel.result other) c.args.self.distance) in
     let ids_is : c.ids-ids.result ≡ t.ids = c.ids-ids.ensures ∙ c.shape.ensures.ids in
     let all_is : c.close_count-all.result ≡ count t.ids = c.close_count-all.ensures low n sums ∙ ap count ids_is in
     let held : ℕ = c.from.result + c.from-2.result in

@@ -1,4 +1,5 @@
-use Rattle.std.proofs.Common.{◌≡◌, ℕ, ◌+◌, ◌-◌, ◌*◌, ◌<◌, ◌≤◌, Bool, true, false, cond, nat_lt, refl, [], ◌∷◌, ◌++◌, length, slice_get, Some, ◌∙◌, arith}
+use Rattle.std.proofs.Common.{◌≡◌, ℕ, ◌+◌, ◌-◌, ◌*◌, ◌<◌, ◌≤◌, Bool, true, false, cond, nat_lt, refl, [], ◌∷◌, ◌++◌}
+use Rattle.std.proofs.Common.{length, slice_get, Some, ◌∙◌, arith}
 use mir.Val.{bool_byte}
 use Rattle.std.proofs.Math.Nat.{mul-le-mul_left}
 use Rattle.std.proofs.lemmas.Option.{slice_get_within}
@@ -26,14 +27,19 @@ module _ (c : After-from) where
   number = c.args.self.number * free + c.place_among_unused-place.result
 
   placed : (c.from.result ≤ c.place_among_unused.result)
-      × (slice_get (windows_of c.args.self.table.now) (number * (free - 1) + next) ≡ Some (c.args.self.shared.now ++ c.args.one ∷ c.args.other ∷ []))
+      × (slice_get (windows_of c.args.self.table.now) (number * (free - 1) + next)
+      ≡ Some (c.args.self.shared.now ++ c.args.one ∷ c.args.other ∷ []))
   placed =
       let t = c.args.self.table.now in
       let some = c.args.self.some.0 in
       let len : 2 * t.rounds + 1 ≡ shared_len t + 2 = omega arith in
       let byte = c.from.ensures ∙ byte_is (nat_lt c.args.one c.args.other) in
-      rw (len, c.place_among_unused.ensures, byte) (number_after (shared_len t) t.ids c.args.self.number c.args.one c.args.other c.place_among_unused-place.result _ free c.args.self.shared.now
-      (rw len at c.requires) c.args.self.numbered (omega (arith, c.args.self.window.size, c.ids.ensures, c.shape.ensures.ids)) c.place_among_unused-place.ensures refl)
+      rw (len, c.place_among_unused.ensures, byte)
+      (number_after (shared_len t) t.ids c.args.self.number c.args.one c.args.other
+      c.place_among_unused-place.result _ free c.args.self.shared.now
+      (rw len at c.requires) c.args.self.numbered
+      (omega (arith, c.args.self.window.size, c.ids.ensures, c.shape.ensures.ids))
+      c.place_among_unused-place.ensures refl)
 
   -- the number is small, and what it is made of is not greater
   few : (number ≤ number * (free - 1)) × (number * (free - 1) + next < MAX_WINDOWS)

@@ -8,7 +8,8 @@ loop-number-preserved c =
       c.free_in_family-least.ensures.fit,
       λ n window below item own. ⊎_elim
           (λ (before : own.0 < number).
-          c.loop-number.invariant.1 n window (omega (arith, below, c.free_in_family-least.ensures.less, c.min.ensures)) item
+          c.loop-number.invariant.1 n window
+          (omega (arith, below, c.free_in_family-least.ensures.less, c.min.ensures)) item
           (own.0, own.1, before, own.3))
           (λ (from : number ≤ own.0). c.free_in_family-least.ensures.free n window below item (own.0, from, omega (arith, own.2), own.3))
           (cases_lt own.0 number),

@@ -5,7 +5,8 @@ use Rattle.nbhd_check.proofs.far_counts.FarCounts.free_in_family.Goals as goal
 
 pub window-requires-clause-below : goal.window-requires-clause-below
 window-requires-clause-below c =
-    rw (c.rounds-below.ensures ∙ c.shape-shape.ensures.rounds, c.shape-shape.ensures.ids) (omega (arith, c.requires.number))
+    rw (c.rounds-below.ensures ∙ c.shape-shape.ensures.rounds, c.shape-shape.ensures.ids)
+    (omega (arith, c.requires.number))
 
 pub count_family-requires-clause-shared : goal.count_family-requires-clause-shared
 count_family-requires-clause-shared c =

@@ -6,7 +6,8 @@ use Rattle.nbhd_check.specs.FarSearch.{IsAtFamily}
 use Rattle.nbhd_check.specs.Runs.{AreFree, BeginsFarTuple, wide}
 use Rattle.nbhd_check.proofs.RunSteps.{run_end, small_run}
 use Rattle.nbhd_check.proofs.ThirdFamilies.{family_at, family_few, free_in_front, in_series, next_family, place_inside}
-use Rattle.nbhd_check.proofs.far_masks.FarMasks.first_from.Goals.{After-windows_per_run-each, In-loop-number, After-free_in_series-free}
+use Rattle.nbhd_check.proofs.far_masks.FarMasks.first_from.Goals.{After-windows_per_run-each, In-loop-number}
+use Rattle.nbhd_check.proofs.far_masks.FarMasks.first_from.Goals.{After-free_in_series-free}
 use Rattle.nbhd_check.proofs.far_masks.FarMasks.first_from.Goals as goal
 
 -- the run's numbers are small
@@ -19,7 +20,8 @@ module _ (c : After-windows_per_run-each) where
       small_run c.args.self.now.table.now c.args.run c.windows_per_run-each.result c.windows_per_run-each.ensures.table
       c.windows_per_run-each.ensures.value whole
 
-  end_is : c.args.run * c.windows_per_run-each.result + c.windows_per_run-each.result ≡ c.args.run * wide c.args.self.now.table.now + wide c.args.self.now.table.now
+  end_is : c.args.run * c.windows_per_run-each.result + c.windows_per_run-each.result
+      ≡ c.args.run * wide c.args.self.now.table.now + wide c.args.self.now.table.now
   end_is = λ q. c.args.run * c.windows_per_run-each.ensures.value q + c.windows_per_run-each.ensures.value q
 
 pub overflow_mul-end : goal.overflow_mul-end
@@ -56,7 +58,8 @@ free_in_series-free-requires-clause-windows c =
     omega (arith, whole d, end_is d, c.series-count.ensures.few, c.loop-number-test.true, c.windows_per_run-each.ensures.table.size)
 
 pub free_in_series-free-requires-clause-family : goal.free_in_series-free-requires-clause-family
-free_in_series-free-requires-clause-family c = family_small (goal.at.free_in_series-free-requires-clause-family c).In-loop-number
+free_in_series-free-requires-clause-family c =
+    family_small (goal.at.free_in_series-free-requires-clause-family c).In-loop-number
 
 pub overflow_add-result : goal.overflow_add-result
 overflow_add-result c =
@@ -67,8 +70,11 @@ overflow_add-number c =
     omega (arith, run_small (goal.at.overflow_add-number c).After-windows_per_run-each, c.series-count.ensures.few, c.loop-number-test.true)
 
 -- none of the windows that were passed over begins such a tuple
-free_of : (d : In-loop-number) (c : After-free_in_series-free) → (windows : IsAtFamily c.args.self.now.table.now c.loop-number.number (own d).0 c.args.first c.args.places c.loop-number.place)
-    → AreFree c.args.self.now.table.now (BeginsFarTuple c.args.self.now.table.now c.args.self.now.distance) (c.args.run * wide c.args.self.now.table.now) (c.loop-number.number + c.free_in_series-free.result)
+free_of : (d : In-loop-number) (c : After-free_in_series-free)
+    → (windows : IsAtFamily c.args.self.now.table.now c.loop-number.number (own d).0 c.args.first c.args.places
+    c.loop-number.place)
+    → AreFree c.args.self.now.table.now (BeginsFarTuple c.args.self.now.table.now c.args.self.now.distance)
+    (c.args.run * wide c.args.self.now.table.now) (c.loop-number.number + c.free_in_series-free.result)
 free_of d c here n w low below item =
     let t = c.args.self.now.table.now in
     ⊎_elim
@@ -95,16 +101,21 @@ loop-number-preserved c =
     let some = c.args.self.now.some in
     let count : ℕ = c.series-count.result in
     let positive = c.series-count.ensures.some in
-    let within : c.loop-number.number + count ≤ c.args.run * wide t + wide t = omega (arith, end_is e, c.series-count.ensures.few, c.loop-number-test.true) in
-    let all : c.free_in_series-free.result ≡ count = omega (arith, c.if-free-count.false, c.free_in_series-free.ensures.few) in
+    let within : c.loop-number.number + count ≤ c.args.run * wide t + wide t =
+    omega (arith, end_is e, c.series-count.ensures.few, c.loop-number-test.true) in
+    let all : c.free_in_series-free.result ≡ count =
+    omega (arith, c.if-free-count.false, c.free_in_series-free.ensures.few) in
     let last = in_series t c.loop-number.number here.0 c.args.first c.args.places c.loop-number.place some here.1 count (count - 1)
-    (c.series-count.ensures.series (shared_len t) t.ids here.0 (omega arith) here.1.at_place) (omega (arith, positive)) in
+    (c.series-count.ensures.series (shared_len t) t.ids here.0 (omega arith) here.1.at_place)
+    (omega (arith, positive)) in
     let place : c.loop-number.place + (count - 1) ≡ c.loop-number.place + count - 1 = omega (arith, positive) in
     let at = subst (IsAtFamily t (c.loop-number.number + (count - 1)) last.0 c.args.first c.args.places) place last.1 in
     let next : c.loop-number.number + (count - 1) + 1 ≡ c.loop-number.number + count = omega (arith, positive) in (
       λ lt.
-          let later = next_family t (c.loop-number.number + (count - 1)) last.0 c.args.first c.args.places (c.loop-number.place + count - 1) some at c.args.run
-          c.unwrap_or-place.result c.after.result c.unwrap_or-place.ensures (omega (arith, c.loop-number.invariant.2)) (omega (arith, lt, positive)) (whole e)
+          let later = next_family t (c.loop-number.number + (count - 1)) last.0 c.args.first c.args.places
+          (c.loop-number.place + count - 1) some at c.args.run
+          c.unwrap_or-place.result c.after.result c.unwrap_or-place.ensures (omega (arith, c.loop-number.invariant.2))
+          (omega (arith, lt, positive)) (whole e)
           c.after.ensures.next c.after.ensures.last in
           (later.0, subst (λ n. IsAtFamily t n later.0 c.args.first c.args.places c.unwrap_or-place.result) next later.1),
       subst (λ f. AreFree t (BeginsFarTuple t c.args.self.now.distance) (c.args.run * wide t) (c.loop-number.number + f)) all (free_of d s here.1),

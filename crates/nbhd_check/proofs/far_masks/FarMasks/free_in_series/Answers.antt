@@ -10,9 +10,11 @@ returns-clause-free c i lt =
     let first : ℕ = c.args.number in
     let count : ℕ = first + c.args.count - first in
     let entries = c.entries.result.now in
-    let long = length-take-le count (drop first entries) (omega (arith, c.requires.windows, length-drop first entries, ap length c.entries.ensures.value)) in
+    let long = length-take-le count (drop first entries)
+    (omega (arith, c.requires.windows, length-drop first entries, ap length c.entries.ensures.value)) in
     let read : get_or (take count (drop first entries)) i 0 ≡ get_or t.entries (first + i) 0 =
-    get_or-take count (drop first entries) i 0 (omega (arith, lt, c.count_apart.ensures.few, long)) ∙ get_or-drop first entries i 0
+    get_or-take count (drop first entries) i 0 (omega (arith, lt, c.count_apart.ensures.few, long))
+    ∙ get_or-drop first entries i 0
     ∙ ap (λ l. get_or l (first + i) 0) c.entries.ensures.value in
     subst (NoneClose t.entries (family_len t) c.args.self.now.distance (c.args.family + i)) read
     (c.count_apart.ensures.apart t.entries (family_len t) c.args.self.now.distance i (rw c.deref.ensures.value c.args.self.now.cover) lt)

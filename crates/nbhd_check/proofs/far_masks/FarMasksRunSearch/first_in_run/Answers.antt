@@ -27,18 +27,21 @@ run_start-first-requires-clause-front c =
     let is = windows_all (2 * t.rounds + 1) t.ids _ c.args.window.now c.requires in
     let len : 2 * c.rounds-below.result - 2 ≡ 2 * (c.rounds-below.result - 1) + 2 - 2 = omega arith in
     subst (λ n. IsWindow (2 * (c.rounds-below.result - 1)) c.shape-shape.result.ids (take n (drop 2 c.args.window.now))) len
-    (front_two t c.rounds-below.result c.shape-shape.result.ids c.args.window.now (c.rounds-below.ensures ∙ c.shape-shape.ensures.rounds) c.shape-shape.ensures.ids c.args.self.now.some is)
+    (front_two t c.rounds-below.result c.shape-shape.result.ids c.args.window.now (c.rounds-below.ensures
+    ∙ c.shape-shape.ensures.rounds) c.shape-shape.ensures.ids c.args.self.now.some is)
 
 pub run_places-places-requires-clause-window : goal.run_places-places-requires-clause-window
 run_places-places-requires-clause-window c =
     let t = c.args.self.now.table.now in
-    above t c.rounds-below.result c.shape-shape.result.ids c.args.window.now (c.rounds-below.ensures ∙ c.shape-shape.ensures.rounds) c.shape-shape.ensures.ids c.args.self.now.some
+    above t c.rounds-below.result c.shape-shape.result.ids c.args.window.now (c.rounds-below.ensures
+    ∙ c.shape-shape.ensures.rounds) c.shape-shape.ensures.ids c.args.self.now.some
     (windows_all (2 * t.rounds + 1) t.ids _ c.args.window.now c.requires)
 
 pub place_in_run-requires-clause-window : goal.place_in_run-requires-clause-window
 place_in_run-requires-clause-window c =
     let t = c.args.self.now.table.now in
-    above t c.rounds-below.result c.shape-shape.result.ids c.args.window.now (c.rounds-below.ensures ∙ c.shape-shape.ensures.rounds) c.shape-shape.ensures.ids c.args.self.now.some
+    above t c.rounds-below.result c.shape-shape.result.ids c.args.window.now (c.rounds-below.ensures
+    ∙ c.shape-shape.ensures.rounds) c.shape-shape.ensures.ids c.args.self.now.some
     (windows_all (2 * t.rounds + 1) t.ids _ c.args.window.now c.requires)
 
 pub first_from-requires : goal.first_from-requires

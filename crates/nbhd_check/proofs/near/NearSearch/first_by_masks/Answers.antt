@@ -21,4 +21,10 @@ pub overflow_add-result : goal.overflow_add-result
 overflow_add-result c = omega (arith, run_small (goal.at.overflow_add-result c).After-windows_per_run-each, c.pass_over-next.ensures.range.1, c.windows_per_run-each.ensures.value)
 
 pub overflow_cast-result : goal.overflow_cast-result
-overflow_cast-result c = omega (arith, run_small (goal.at.overflow_cast-result c).After-windows_per_run-each, c.pass_over-next.ensures.range.1, c.windows_per_run-each.ensures.value)
+overflow_cast-result c =
+    omega (
+      arith,
+      run_small (goal.at.overflow_cast-result c).After-windows_per_run-each,
+      c.pass_over-next.ensures.range.1,
+      c.windows_per_run-each.ensures.value,
+    )

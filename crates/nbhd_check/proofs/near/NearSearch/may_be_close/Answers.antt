@@ -1,4 +1,5 @@
-use Rattle.std.proofs.Common.{◌≡◌, ℕ, ◌+◌, ◌*◌, ◌^◌, ◌<◌, ◌≤◌, length, get_or, take, drop, subst, sym, ap, ◌∙◌, arith, length-drop}
+use Rattle.std.proofs.Common.{◌≡◌, ℕ, ◌+◌, ◌*◌, ◌^◌, ◌<◌, ◌≤◌, length, get_or, take, drop, subst, sym, ap, ◌∙◌}
+use Rattle.std.proofs.Common.{arith, length-drop}
 use Rattle.std.proofs.lemmas.Bool.{OnFalse_at, OnFalse_from, false≢true}
 use Rattle.std.proofs.lemmas.List.{length-take-le}
 use Rattle.std.proofs.lemmas.Option.{slice_get_within}
@@ -18,7 +19,8 @@ module _ (c : After-entries) where
   -- its channel
   channel_is : get_or c.entries.result.now (c.args.runs.run * c.windows_per_run-each.result + c.args.place) 0
       ≡ get_or c.args.self.now.table.now.entries (c.args.runs.run * wide c.args.self.now.table.now + c.args.place) 0
-  channel_is = λ q. get_or (c.entries.ensures.value q) (c.args.runs.run * c.windows_per_run-each.ensures.value q + c.args.place) 0
+  channel_is = λ q. get_or (c.entries.ensures.value q)
+      (c.args.runs.run * c.windows_per_run-each.ensures.value q + c.args.place) 0
 
   -- its number is small
   inside : c.args.runs.run * c.windows_per_run-each.result + c.args.place < length c.entries.result.now
@@ -51,12 +53,19 @@ pub bounds-entries-runs : goal.bounds-entries-runs
 bounds-entries-runs c = inside (goal.at.bounds-entries-runs c).After-entries
 
 pub run_at-next-requires : goal.run_at-next-requires
-run_at-next-requires c = omega (arith, (here (goal.at.run_at-next-requires c).After-entries).next_few, c.entries.ensures.table.begun.shape.few_windows, c.entries.ensures.table.size)
+run_at-next-requires c =
+    omega (
+      arith,
+      (here (goal.at.run_at-next-requires c).After-entries).next_few,
+      c.entries.ensures.table.begun.shape.few_windows,
+      c.entries.ensures.table.size,
+    )
 
 pub channels_of-requires : goal.channels_of-requires
 channels_of-requires c =
     let t = c.args.self.now.table.now in
-    subst (λ r. r * wide t + wide t ≤ length t.entries) (sym c.run_at-next.ensures) (here (goal.at.channels_of-requires c).After-entries).next_within
+    subst (λ r. r * wide t + wide t ≤ length t.entries) (sym c.run_at-next.ensures)
+    (here (goal.at.channels_of-requires c).After-entries).next_within
 
 pub has_close_outside-requires : goal.has_close_outside-requires
 has_close_outside-requires c =
@@ -73,8 +82,11 @@ returns-then-not-may_hold c =
     let s = (goal.at.returns-then-not-may_hold c).After-entries in
     let at' = here s in
     let n : ℕ = c.args.runs.run * wide t + c.args.place in
-    let none = OnFalse_at c.if-not-may_hold.true (c.may_hold.ensures t.entries (wide t) c.args.self.now.distance (rw c.deref.ensures.value c.args.self.now.cover)) in
-    let lacks : NoneClose t.entries (wide t) c.args.self.now.distance (second_run c.args.runs c.args.place) (get_or t.entries n 0) =
+    let none = OnFalse_at c.if-not-may_hold.true
+    (c.may_hold.ensures t.entries (wide t) c.args.self.now.distance
+    (rw c.deref.ensures.value c.args.self.now.cover)) in
+    let lacks : NoneClose t.entries (wide t) c.args.self.now.distance (second_run c.args.runs c.args.place)
+    (get_or t.entries n 0) =
     subst (λ r. NoneClose t.entries (wide t) c.args.self.now.distance r (get_or t.entries n 0)) c.run_at-next.ensures
     (subst (λ v. NoneClose t.entries (wide t) c.args.self.now.distance c.run_at-next.result v) (channel_is s) none) in
     free_at t c.args.runs c.args.place c.args.self.now.distance at'
@@ -86,7 +98,8 @@ returns c =
     let s = (goal.at.returns c).After-entries in
     let n : ℕ = c.args.runs.run * wide t + c.args.place in
     let list_is = c.channels_of.ensures ∙ (λ q. take (wide t) (drop (c.run_at-next.ensures q * wide t) t.entries)) in
-    OnFalse_from c.has_close_outside.result (AreFree t (BeginsBadTuple t (record { near = c.args.self.now.distance; far = 0 })) n (n + 1)) (λ no.
+    OnFalse_from c.has_close_outside.result
+    (AreFree t (BeginsBadTuple t (record { near = c.args.self.now.distance; far = 0 })) n (n + 1)) (λ no.
     free_at t c.args.runs c.args.place c.args.self.now.distance (here s)
     (λ has. false≢true (sym no ∙ c.has_close_outside.ensures.1
     (subst (λ l. HasCloseOutside l c.gap_at-gap.result c.args.self.now.distance (get_or c.entries.result.now (c.args.runs.run * c.windows_per_run-each.result + c.args.place) 0)) (sym list_is)

@@ -1,4 +1,5 @@
-use Rattle.std.proofs.Common.{◌≡◌, ℕ, ◌+◌, ◌-◌, ◌*◌, ◌^◌, ◌<◌, ◌≤◌, length, get_or, take, drop, subst, ap, ◌∙◌, arith, length-drop}
+use Rattle.std.proofs.Common.{◌≡◌, ℕ, ◌+◌, ◌-◌, ◌*◌, ◌^◌, ◌<◌, ◌≤◌, length, get_or, take, drop, subst, ap, ◌∙◌}
+use Rattle.std.proofs.Common.{arith, length-drop}
 use Rattle.std.proofs.lemmas.List.{get_or-drop, get_or-take, length-take-le}
 use Rattle.nbhd_check.specs.Masks.{NoneClose}
 use Rattle.nbhd_check.specs.Runs.{second_run, wide}
@@ -15,7 +16,8 @@ module _ (c : After-side_end) where
       c.windows_per_run-each.ensures.table.size c.requires.runs c.requires.place
 
   side_is : (c.args.place < c.side_end.result) × (c.side_end.result ≤ wide c.args.self.now.table.now)
-      × ((i : ℕ) → i < c.side_end.result - c.args.place → second_run c.args.runs (c.args.place + i) ≡ second_run c.args.runs c.args.place + i)
+      × ((i : ℕ) → i < c.side_end.result - c.args.place
+      → second_run c.args.runs (c.args.place + i) ≡ second_run c.args.runs c.args.place + i)
   side_is = side c.args.runs c.args.place (wide c.args.self.now.table.now) c.side_end.result c.requires.place
       here.gap_inside (rw c.windows_per_run-each.ensures.value at c.side_end.ensures)
 
@@ -47,25 +49,37 @@ overflow_add-channels c =
     omega (arith, run_small d, (side_is d).1, c.windows_per_run-each.ensures.value)
 
 pub offset_bounds-entries-first : goal.offset_bounds-entries-first
-offset_bounds-entries-first c = omega (arith, run_small (goal.at.offset_bounds-entries-first c).After-side_end, c.requires.place, c.windows_per_run-each.ensures.value)
+offset_bounds-entries-first c =
+    omega (
+      arith,
+      run_small (goal.at.offset_bounds-entries-first c).After-side_end,
+      c.requires.place,
+      c.windows_per_run-each.ensures.value,
+    )
 
 -- the channels of the windows on this side of the gap are among the entries
-inside : (c : After-side_end) → c.args.runs.run * c.windows_per_run-each.result + c.args.place + (c.side_end.result - c.args.place) ≤ length c.args.self.now.table.now.entries
+inside : (c : After-side_end)
+    → c.args.runs.run * c.windows_per_run-each.result + c.args.place + (c.side_end.result - c.args.place)
+    ≤ length c.args.self.now.table.now.entries
 inside c = rw c.windows_per_run-each.ensures.value (omega (arith, run_in c, (side_is c).0, (side_is c).1))
 
 pub slice_bounds-channels-end : goal.slice_bounds-channels-end
-slice_bounds-channels-end c = omega (arith, inside (goal.at.slice_bounds-channels-end c).After-side_end, ap length c.entries.ensures.value)
+slice_bounds-channels-end c =
+    omega (arith, inside (goal.at.slice_bounds-channels-end c).After-side_end, ap length c.entries.ensures.value)
 
 pub count_apart-requires : goal.count_apart-requires
 count_apart-requires c =
     let d = (goal.at.count_apart-requires c).After-side_end in
     let first : ℕ = c.args.runs.run * c.windows_per_run-each.result + c.args.place in
     let count : ℕ = c.side_end.result - c.args.place in
-    let long = length-take-le (first + count - first) (drop first c.entries.result.now) (omega (arith, inside d, ap length c.entries.ensures.value, length-drop first c.entries.result.now)) in
+    let long = length-take-le (first + count - first) (drop first c.entries.result.now)
+    (omega (arith, inside d, ap length c.entries.ensures.value, length-drop first c.entries.result.now)) in
     omega (arith, next_small d, c.run_at.ensures, long, run_small d, (side_is d).1, c.windows_per_run-each.ensures.value)
 
 -- so many channels are looked at
-few : (d : After-side_end) (c : After-count_apart) → c.args.runs.run * c.windows_per_run-each.result + c.args.place + (c.side_end.result - c.args.place) ≤ length c.entries.result.now
+few : (d : After-side_end) (c : After-count_apart)
+    → c.args.runs.run * c.windows_per_run-each.result + c.args.place + (c.side_end.result - c.args.place)
+    ≤ length c.entries.result.now
     → c.count_apart.result ≤ c.side_end.result - c.args.place
 few d c within =
     let first : ℕ = c.args.runs.run * c.windows_per_run-each.result + c.args.place in
@@ -91,8 +105,11 @@ returns-clause-free c =
     let first : ℕ = c.args.runs.run * c.windows_per_run-each.result + c.args.place in
     let count : ℕ = c.side_end.result - c.args.place in
     let short = few d (goal.at.returns-clause-free c).After-count_apart (rw c.entries.ensures.value (inside d)) in
-    let read : (i : ℕ) → i < c.count_apart.result → get_or (take (first + count - first) (drop first c.entries.result.now)) i 0 ≡ get_or t.entries (c.args.runs.run * wide t + c.args.place + i) 0 =
-    λ i lt. get_or-take (first + count - first) (drop first c.entries.result.now) i 0 (omega (arith, lt, short)) ∙ get_or-drop first c.entries.result.now i 0
+    let read : (i : ℕ) → i < c.count_apart.result
+    → get_or (take (first + count - first) (drop first c.entries.result.now)) i 0
+    ≡ get_or t.entries (c.args.runs.run * wide t + c.args.place + i) 0 =
+    λ i lt. get_or-take (first + count - first) (drop first c.entries.result.now) i 0 (omega (arith, lt, short))
+    ∙ get_or-drop first c.entries.result.now i 0
     ∙ (λ q. get_or (c.entries.ensures.value q) (c.args.runs.run * c.windows_per_run-each.ensures.value q + c.args.place + i) 0) in
     free_along t c.args.runs c.args.place c.count_apart.result count distance c.windows_per_run-each.ensures.table.size c.requires.runs
     (omega (arith, side_is d)) short (side_is d).2

@@ -10,11 +10,13 @@ use Rattle.nbhd_check.proofs.patterns.PatternSearch.free_in_runs.Goals as goal
 pub middle-requires : goal.middle-requires
 middle-requires c =
     let t = c.args.self.now.table.now in
-    let more : (c.loop-run.run + 1) * wide t ≤ c.args.high * wide t = mul-le-mul_right (wide t) (omega (arith, c.loop-run-test.true)) in
+    let more : (c.loop-run.run + 1) * wide t ≤ c.args.high * wide t =
+    mul-le-mul_right (wide t) (omega (arith, c.loop-run-test.true)) in
     omega (arith, more, row_more c.loop-run.run (wide t), c.requires)
 
 pub free_in_run-least-requires : goal.free_in_run-least-requires
-free_in_run-least-requires c = subst (AreNextRuns c.args.self.now.table.now) (sym c.next-next.ensures) c.middle.ensures.next
+free_in_run-least-requires c =
+    subst (AreNextRuns c.args.self.now.table.now) (sym c.next-next.ensures) c.middle.ensures.next
 
 pub loop-run-preserved : goal.loop-run-preserved
 loop-run-preserved c =

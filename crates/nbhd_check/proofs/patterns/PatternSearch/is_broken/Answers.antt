@@ -1,7 +1,8 @@
 use Rattle.std.proofs.Common.{◌≢◌, ℕ, arith}
 use Rattle.nbhd_check.specs.PatternSearch.{IsPairClear}
 use Rattle.nbhd_check.proofs.PatternSteps.{one_more}
-use Rattle.nbhd_check.proofs.patterns.PatternSearch.is_broken.Goals.{else-second-first-via-then-second-first+else-is_pair_broken, else-second-first-via-else-second-first}
+use Rattle.nbhd_check.proofs.patterns.PatternSearch.is_broken.Goals.{else-second-first-via-then-second-first+else-is_pair_broken}
+use Rattle.nbhd_check.proofs.patterns.PatternSearch.is_broken.Goals.{else-second-first-via-else-second-first}
 use Rattle.nbhd_check.proofs.patterns.PatternSearch.is_broken.Goals as goal
 
 pub loop-second-preserved : goal.loop-second-preserved
@@ -16,4 +17,5 @@ loop-second-preserved c =
     ])
 
 pub returns : goal.returns
-returns c second lt = c.loop-second.invariant second (omega (arith, lt, c.loop-second-test.false, c.windows_per_run-second-end.ensures.value))
+returns c second lt = c.loop-second.invariant second
+    (omega (arith, lt, c.loop-second-test.false, c.windows_per_run-second-end.ensures.value))

@@ -1,7 +1,8 @@
 use Rattle.std.proofs.Common.{◌≢◌, ℕ, arith}
 use Rattle.nbhd_check.specs.PatternSearch.{IsPairClear}
 use Rattle.nbhd_check.proofs.PatternSteps.{one_more}
-use Rattle.nbhd_check.proofs.patterns.PatternSearch.is_second_broken.Goals.{else-first-second-via-then-first-second+else-is_pair_broken, else-first-second-via-else-first-second}
+use Rattle.nbhd_check.proofs.patterns.PatternSearch.is_second_broken.Goals.{else-first-second-via-then-first-second+else-is_pair_broken}
+use Rattle.nbhd_check.proofs.patterns.PatternSearch.is_second_broken.Goals.{else-first-second-via-else-first-second}
 use Rattle.nbhd_check.proofs.patterns.PatternSearch.is_second_broken.Goals as goal
 
 pub loop-first-preserved : goal.loop-first-preserved
@@ -16,4 +17,5 @@ loop-first-preserved c =
     ])
 
 pub returns : goal.returns
-returns c first lt = c.loop-first.invariant first (omega (arith, lt, c.loop-first-test.false, c.windows_per_run-first-end.ensures.value))
+returns c first lt = c.loop-first.invariant first
+    (omega (arith, lt, c.loop-first-test.false, c.windows_per_run-first-end.ensures.value))

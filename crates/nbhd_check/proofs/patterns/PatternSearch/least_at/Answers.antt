@@ -1,5 +1,6 @@
 use Rattle.std.proofs.Common.{arith}
-use Rattle.nbhd_check.proofs.patterns.PatternSearch.least_at.Goals.{else-number-least-via-then-number-least+else-is_broken, else-number-least-via-else-number-least}
+use Rattle.nbhd_check.proofs.patterns.PatternSearch.least_at.Goals.{else-number-least-via-then-number-least+else-is_broken}
+use Rattle.nbhd_check.proofs.patterns.PatternSearch.least_at.Goals.{else-number-least-via-else-number-least}
 use Rattle.nbhd_check.proofs.patterns.PatternSearch.least_at.Goals as goal
 
 pub returns-else-number-least-clause-free : goal.returns-else-number-least-clause-free

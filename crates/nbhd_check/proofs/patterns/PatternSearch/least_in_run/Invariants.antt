@@ -8,6 +8,7 @@ use Rattle.nbhd_check.proofs.patterns.PatternSearch.least_in_run.Given as goal
 abbrev pub invariant-loop-place : goal.invariant-loop-place
 invariant-loop-place l =
     (l.least ≤ l.initial.least)
-    × ((place number x : ℕ) (z : List ℕ) → place < l.place → number < l.least → slice_get (windows_of l.self.table.now) number ≡ Some (x ∷ z)
+    × ((place number x : ℕ) (z : List ℕ) → place < l.place → number < l.least
+    → slice_get (windows_of l.self.table.now) number ≡ Some (x ∷ z)
     → slice_get (windows_of l.self.table.now) (l.next.run * wide l.self.table.now + place) ≡ Some (z ++ x ∷ [])
     → IsFirstClear l.self.table.now l.self.problem.now l.self.before.items l.next place)

@@ -1,7 +1,8 @@
 use Rattle.std.proofs.Common.{ℕ, arith}
 use Rattle.nbhd_check.specs.PatternSearch.{IsSecondClear}
 use Rattle.nbhd_check.proofs.PatternSteps.{one_more}
-use Rattle.nbhd_check.proofs.patterns.PatternSearch.may_be_broken.Goals.{else-may_be_broken_at-via-then-may_be_broken_at+else-is_second_broken, else-may_be_broken_at-via-else-may_be_broken_at}
+use Rattle.nbhd_check.proofs.patterns.PatternSearch.may_be_broken.Goals.{else-may_be_broken_at-via-then-may_be_broken_at+else-is_second_broken}
+use Rattle.nbhd_check.proofs.patterns.PatternSearch.may_be_broken.Goals.{else-may_be_broken_at-via-else-may_be_broken_at}
 use Rattle.nbhd_check.proofs.patterns.PatternSearch.may_be_broken.Goals as goal
 
 pub loop-place-preserved : goal.loop-place-preserved
@@ -14,4 +15,5 @@ loop-place-preserved c =
     ])
 
 pub returns : goal.returns
-returns c place lt = c.loop-place.invariant place (omega (arith, lt, c.loop-place-test.false, c.windows_per_run-each.ensures.value))
+returns c place lt = c.loop-place.invariant place
+    (omega (arith, lt, c.loop-place-test.false, c.windows_per_run-each.ensures.value))

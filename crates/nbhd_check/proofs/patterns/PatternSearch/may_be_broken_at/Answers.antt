@@ -38,14 +38,17 @@ returns-then-thirds-second-eq0 c =
     let b : ℕ = get_or t.entries n 0 in
     let same : get_or c.entries.result.now (next.run * c.windows_per_run.result + c.args.place) 0 ≡ b =
     λ i. get_or (c.entries.ensures.value i) (next.run * c.windows_per_run.ensures.value i + c.args.place) 0 in
-    let in_limit = self'.below b (self'.table_is.begun.below n 0 (omega (arith, within, c.requires.place, self'.table_is.size))) in
+    let in_limit = self'.below b
+    (self'.table_is.begun.below n 0 (omega (arith, within, c.requires.place, self'.table_is.size))) in
     let words = subst (λ r. HasWords (in_run t t.entries r) c.middle.result.words) c.run_at.ensures c.middle.ensures.words in
-    clear_by_words t self'.problem.now before self'.bits.items next self'.limit c.args.place (get_or c.args.thirds.now (b % 64) 0)
+    clear_by_words t self'.problem.now before self'.bits.items next self'.limit c.args.place
+    (get_or c.args.thirds.now (b % 64) 0)
     c.middle.result.words.once self'.table_is self'.bits_are self'.below (omega (arith, within, self'.table_is.size)) c.requires.place
     (λ first lt other below. c.requires.thirds (get_or before (next.run * wide t + first) 0) b (self'.below _ below) in_limit
     (has_once t before next.run first c.args.words (omega (arith, within, self'.before_size)) lt c.requires.words))
     (λ third lt other. has_once t t.entries run third c.middle.result.words own.at.next_within lt words)
-    (ap (λ x. bit_and (get_or c.args.thirds.now (x % 64) 0) c.middle.result.words.once) (sym same) ∙ c.if-thirds-second-eq0.true)
+    (ap (λ x. bit_and (get_or c.args.thirds.now (x % 64) 0) c.middle.result.words.once) (sym same)
+    ∙ c.if-thirds-second-eq0.true)
 
 pub returns : goal.returns
 returns c =

@@ -14,6 +14,7 @@ returns c number x z item turned =
     (λ i. slice_get (windows (2 * sym rounds_is i + 1) (sym c.shape-shape.ensures.ids i)) (c.args.run * sym c.windows_per_run.ensures.value i + c.args.place))
     ∙ c.window.ensures.item in
     let whole = same_Some c.window.new.out _ (sym at_here ∙ turned) in
-    let found = c.number.ensures.number ∙ ap (number_of (2 * c.rounds-level.result + 1) c.shape-shape.result.ids) c.rotate_right.ensures.after in
+    let found = c.number.ensures.number
+    ∙ ap (number_of (2 * c.rounds-level.result + 1) c.shape-shape.result.ids) c.rotate_right.ensures.after in
     subst (λ n. n ≤ number) (sym c.unwrap_or.ensures)
     (number_before t c.rounds-level.result c.shape-shape.result.ids number x c.window.new.out z c.number.result rounds_is c.shape-shape.ensures.ids found whole item)

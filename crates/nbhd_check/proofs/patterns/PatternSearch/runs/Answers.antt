@@ -10,7 +10,8 @@ use Rattle.nbhd_check.proofs.patterns.PatternSearch.runs.Goals as goal
 count : (c : After-windows_per_run) → c.window_count.result / c.windows_per_run.result * wide c.args.self.now.table.now
     ≡ length (windows_of c.args.self.now.table.now)
 count c =
-    runs_are c.args.self.now.table.now c.windows_per_run.result c.window_count.result (c.window_count.result / c.windows_per_run.result)
+    runs_are c.args.self.now.table.now c.windows_per_run.result c.window_count.result
+    (c.window_count.result / c.windows_per_run.result)
     c.args.self.now.table_is c.windows_per_run.ensures.value c.window_count.ensures.value refl
 
 few : (c : After-windows_per_run) → c.window_count.result / c.windows_per_run.result ≤ 4194304

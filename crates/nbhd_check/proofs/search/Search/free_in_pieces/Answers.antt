@@ -7,7 +7,8 @@ use Rattle.nbhd_check.proofs.Cells.{row_more}
 use Rattle.nbhd_check.proofs.search.Search.free_in_pieces.Goals as goal
 
 -- the windows of some runs are those with the numbers of these runs
-free_runs : (t : ChannelTable) (bad : List ℕ → Type 0) (low high least : ℕ) → AreFree t bad (low * wide t) (min least (high * wide t))
+free_runs : (t : ChannelTable) (bad : List ℕ → Type 0) (low high least : ℕ)
+    → AreFree t bad (low * wide t) (min least (high * wide t))
     → (run number : ℕ) (window : List ℕ) → low ≤ run → run < high → IsInRun t run number → number < least
     → slice_get (windows_of t) number ≡ Some window → ¬ bad window
 free_runs t bad low high least free run number window from below is few item =

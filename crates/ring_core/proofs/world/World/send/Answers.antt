@@ -1,11 +1,13 @@
 use Rattle.std.proofs.Common.{◌≡◌, ◌<◌, length, subst, sym, ◌∙◌, ap, rules}
 use Rattle.std.proofs.lemmas.List.{get_or_default}
 use Rattle.ring_core.specs.Machine.{Machine, Steps}
-use Rattle.ring_core.specs.Progress.{Progress, Parts, MaySend, no_part, part_at, sent_by, after_sending, sending, machine_of}
+use Rattle.ring_core.specs.Progress.{Progress, Parts, MaySend, no_part, part_at, sent_by, after_sending}
+use Rattle.ring_core.specs.Progress.{sending, machine_of}
 use Rattle.ring_core.proofs.Events.{after, sent_fits, sent_steps, idle}
 use Rattle.ring_core.proofs.world.World.send.Goals.{In_ok-send}
 use Rattle.ring_core.proofs.world.World.send.Goals as goal
-use Rattle.ring_core.proofs.world.World.send.Goals.{else-index-len-via-then-index-len+else-may_send, else-index-len-via-else-index-len}
+use Rattle.ring_core.proofs.world.World.send.Goals.{else-index-len-via-then-index-len+else-may_send}
+use Rattle.ring_core.proofs.world.World.send.Goals.{else-index-len-via-else-index-len}
 
 -- the part that has sent
 module _ (c : In_ok-send) where

@@ -1,7 +1,14 @@
 -- The recursion over the segments of a run: a call at its own border names does what its contract says, since the
 -- inner call, at other border names, has a lesser count. The borrow checker covers no call of a function by itself at
 -- other types, so the body is walked here, statement by statement.
-use Rattle.ring_exec.proofs.Steps.{◌≡◌, ℕ, eqb→eq, List, [], ◌∷◌, refl, w32, arith, vint, tables, ‵, raw, ◌⊛◌, some, later, prop, at_ret, Sq, ◌$◌, ◌∵◌, !, qed, done, move, drop, use1, split, join, fsplit, feq_l, pick, await, suffices, group, enter, of_opd, lit, bin, first, branches, skips, exec, returns, returns_within, no_more, and_then, alloc_all, pass_all, free_all, look_at, get, sets, lands_as, env, yes, no, u32, uint_Makes, shows, plain, nothing, owned, peeks, heard, lasts, Stays, walk_of, stay_dropped, Goes-dropped, ends_at, says, triple_of, id⊢, ftrue, framed, calls_at, calls_from, ◌+◌, ◌-◌, ◌<◌, ◌^◌, T, T_not, not, eqb, subst, subst⁻¹}
+use Rattle.ring_exec.proofs.Steps.{◌≡◌, ℕ, eqb→eq, List, [], ◌∷◌, refl, w32, arith, vint, tables, ‵, raw, ◌⊛◌, some}
+use Rattle.ring_exec.proofs.Steps.{later, prop, at_ret, Sq, ◌$◌, ◌∵◌, !, qed, done, move, drop, use1, split, join}
+use Rattle.ring_exec.proofs.Steps.{fsplit, feq_l, pick, await, suffices, group, enter, of_opd, lit, bin, first}
+use Rattle.ring_exec.proofs.Steps.{branches, skips, exec, returns, returns_within, no_more, and_then, alloc_all}
+use Rattle.ring_exec.proofs.Steps.{pass_all, free_all, look_at, get, sets, lands_as, env, yes, no, u32, uint_Makes}
+use Rattle.ring_exec.proofs.Steps.{shows, plain, nothing, owned, peeks, heard, lasts, Stays, walk_of, stay_dropped}
+use Rattle.ring_exec.proofs.Steps.{Goes-dropped, ends_at, says, triple_of, id⊢, ftrue, framed, calls_at, calls_from}
+use Rattle.ring_exec.proofs.Steps.{◌+◌, ◌-◌, ◌<◌, ◌^◌, T, T_not, not, eqb, subst, subst⁻¹}
 use Rattle.ring_exec.proofs.Falling.{ended_before}
 use Rattle.ring_exec.proofs.FactRows.{tuple, facts, gather, shown, beside}
 use Rattle.std.specs.Prelude.{IsNone, IsSome}
@@ -160,29 +167,34 @@ asked R G o κs bs on_course =
 
 -- the requirements of the inner call follow from those of the outer call, from the parts of the new blanks, and from
 -- what `begin` says of the run
-asked_inside : (R G : RattleType) (o : Over) (κs : Lfts 9) (bs new : blanks.the_row.Denot) (before after : Type 0) → (new.right.parts ≡ 1 × new.left.parts ≡ 1)
+asked_inside : (R G : RattleType) (o : Over) (κs : Lfts 9) (bs new : blanks.the_row.Denot) (before after : Type 0)
+    → (new.right.parts ≡ 1 × new.left.parts ≡ 1)
     → after → tuple (asked R G o κs bs before) → tuple (asked R G (inner o new) (turned κs) new after)
-asked_inside R G o κs bs new before after ones on_course (r, (g, (b, (l, (n, (send_b, (send_l, (send_n, (sync_r, (sync_g, (sync_b, (sync_l, (sync_n, named))))))))))))) = (
-  r,
-  (
-    g,
-    (
-      n,
+asked_inside R G o κs bs new before after ones on_course
+    (r, (g, (b, (l, (n, (send_b, (send_l, (send_n, (sync_r, (sync_g, (sync_b, (sync_l, (sync_n, named)))))))))))))
+    = (
+      r,
       (
-        l,
+        g,
         (
-          ⊑_static κs.1.1.1.1.1.1.0,
+          n,
           (
-            send_as 4 2 o.N send_n,
+            l,
             (
-              send_l,
+              ⊑_static κs.1.1.1.1.1.1.0,
               (
-                fresh_send 4,
+                send_as 4 2 o.N send_n,
                 (
-                  sync_r,
+                  send_l,
                   (
-                    sync_g,
-                    (sync_as 4 2 o.N sync_n, (sync_l, (fresh_sync 4, ((refl, ones.0, refl, ones.1), (on_course, tt))))),
+                    fresh_send 4,
+                    (
+                      sync_r,
+                      (
+                        sync_g,
+                        (sync_as 4 2 o.N sync_n, (sync_l, (fresh_sync 4, ((refl, ones.0, refl, ones.1), (on_course, tt))))),
+                      ),
+                    ),
                   ),
                 ),
               ),
@@ -190,12 +202,11 @@ asked_inside R G o κs bs new before after ones on_course (r, (g, (b, (l, (n, (s
           ),
         ),
       ),
-    ),
-  ),
-)
+    )
 
 module _ {M : Type 1} (𝓤 : Ura M) (𝓛 : Logic 𝓤) (𝓜 : Model 𝓤 𝓛.H) (𝓡 : Running 𝓤 𝓛.H 𝓜) (wired : Wired 𝓡.env code.code)
-    (R G : RattleType) (RL : Laws R) (GL : Laws G) (RT : Threads.Ghosts R.Denot) (RTd : Dict) (RW : Wait.Ghosts R.Denot) (RWd : Dict) (GG : Gate.Ghosts G.Denot) (GGd : Dict)
+    (R G : RattleType) (RL : Laws R) (GL : Laws G) (RT : Threads.Ghosts R.Denot) (RTd : Dict) (RW : Wait.Ghosts R.Denot)
+    (RWd : Dict) (GG : Gate.Ghosts G.Denot) (GGd : Dict)
     (mT : threads_bound.Met 𝓛 𝓜 𝓡 𝓡.env R RT RTd) (mW : wait_bound.Met 𝓛 𝓜 𝓡 𝓡.env R RW RWd)
     (mG : Anywhere₂ 𝓛 𝓜 𝓡 𝓡.env (λ 𝓤 𝓛 𝓜 𝓡 γ. gate_bound.Met 𝓛 𝓜 𝓡 γ G GG GGd)) where
   -- the statement to be proved, at any border names
@@ -229,7 +240,8 @@ module _ {M : Type 1} (𝓤 : Ura M) (𝓛 : Logic 𝓤) (𝓜 : Model 𝓤 𝓛
   -- of a parameter that is moved away nothing is said
   goes_quiet : (s : Slot 9) (k : Kept) → ((κs : Lfts 9) → Mute ((s.row κs).exit k)) → Goes 𝓛 9 s k (stay_dropped s k)
   goes_quiet s k m κs x w vs ok =
-      subst⁻¹ (λ (w : Last ((s.row κs).exit k) x). ent 𝓤 (emp 𝓤) (𝓛.H.⇛ (sem 𝓛 (left ((s.row κs).exit k) x w)))) ((m κs).once x w)
+      subst⁻¹ (λ (w : Last ((s.row κs).exit k) x). ent 𝓤 (emp 𝓤) (𝓛.H.⇛ (sem 𝓛 (left ((s.row κs).exit k) x w))))
+      ((m κs).once x w)
       (via 𝓤 (sem 𝓛 (left ((s.row κs).exit k) x (at_rest ((s.row κs).exit k) x))) ((m κs).quiet M 𝓤 𝓛 x) (𝓛.laws.⇛_intro _))
 
   quiet_blanks : Mute (blanks.the_row.exit yes)
@@ -257,10 +269,13 @@ module _ {M : Type 1} (𝓤 : Ura M) (𝓛 : Logic 𝓤) (𝓜 : Model 𝓤 𝓛
     module _ (κs : Lfts 9) where
       -- the stage that is passed in, and its laws
       abbrev Before : RattleType
-      Before = stage.the_row (named_lft 9 0 tt κs) (named_lft 9 1 tt κs) (named_lft 9 2 tt κs) (named_lft 9 3 tt κs) (param 0 R) (param 1 G) (param 2 o.B) (param 3 o.L) o.B-ghosts o.L-ghosts
+      Before = stage.the_row (named_lft 9 0 tt κs) (named_lft 9 1 tt κs) (named_lft 9 2 tt κs) (named_lft 9 3 tt κs)
+          (param 0 R) (param 1 G) (param 2 o.B) (param 3 o.L) o.B-ghosts o.L-ghosts
 
       abbrev before_laws : Laws Before
-      before_laws = stage_laws.the_row_laws (named_lft 9 0 tt κs) (named_lft 9 1 tt κs) (named_lft 9 2 tt κs) (named_lft 9 3 tt κs) (param 0 R) (param 1 G) (param 2 o.B) (param 3 o.L) o.B-ghosts o.L-ghosts (param_laws 0 R RL) (param_laws 1 G GL) (param_laws 2 o.B o.B-laws) (param_laws 3 o.L o.L-laws)
+      before_laws = stage_laws.the_row_laws (named_lft 9 0 tt κs) (named_lft 9 1 tt κs) (named_lft 9 2 tt κs)
+          (named_lft 9 3 tt κs) (param 0 R) (param 1 G) (param 2 o.B) (param 3 o.L) o.B-ghosts o.L-ghosts
+          (param_laws 0 R RL) (param_laws 1 G GL) (param_laws 2 o.B o.B-laws) (param_laws 3 o.L o.L-laws)
 
       -- nothing is said of it: field by field of a stage (scope, course) and of a course (shared, before, last,
       -- progress)
@@ -282,10 +297,13 @@ module _ {M : Type 1} (𝓤 : Ura M) (𝓛 : Logic 𝓤) (𝓜 : Model 𝓤 𝓛
 
       -- the stage that `begin` returns, and its laws
       abbrev Next : RattleType
-      Next = stage.the_row (named_lft 9 0 tt κs) (named_lft 9 1 tt κs) (named_lft 9 2 tt κs) (named_lft 9 3 tt κs) (param 0 R) (param 1 G) (param 4 o.N) (param 3 o.L) o.N-ghosts o.L-ghosts
+      Next = stage.the_row (named_lft 9 0 tt κs) (named_lft 9 1 tt κs) (named_lft 9 2 tt κs) (named_lft 9 3 tt κs)
+          (param 0 R) (param 1 G) (param 4 o.N) (param 3 o.L) o.N-ghosts o.L-ghosts
 
       abbrev next_laws : Laws Next
-      next_laws = stage_laws.the_row_laws (named_lft 9 0 tt κs) (named_lft 9 1 tt κs) (named_lft 9 2 tt κs) (named_lft 9 3 tt κs) (param 0 R) (param 1 G) (param 4 o.N) (param 3 o.L) o.N-ghosts o.L-ghosts (param_laws 0 R RL) (param_laws 1 G GL) (param_laws 4 o.N o.N-laws) (param_laws 3 o.L o.L-laws)
+      next_laws = stage_laws.the_row_laws (named_lft 9 0 tt κs) (named_lft 9 1 tt κs) (named_lft 9 2 tt κs)
+          (named_lft 9 3 tt κs) (param 0 R) (param 1 G) (param 4 o.N) (param 3 o.L) o.N-ghosts o.L-ghosts
+          (param_laws 0 R RL) (param_laws 1 G GL) (param_laws 4 o.N o.N-laws) (param_laws 3 o.L o.L-laws)
 
       -- what is asked of a stage and a count
       abbrev on_course : Before.Denot → ℕ → Type 0
@@ -295,7 +313,8 @@ module _ {M : Type 1} (𝓤 : Ura M) (𝓛 : Logic 𝓤) (𝓜 : Model 𝓤 𝓛
       Joined = joined.the_row (named_lft 9 3 tt κs)
 
     -- one call: its lifetimes and their shares, its stage s, its count n and its blanks bs
-    module _ (κs : Lfts 9) (qs : Shares 9) (bounds : AllOutlive 9 (ended o).signature.outlives κs) (s : (Before κs).Denot) (n : ℕ) (bs : blanks.the_row.Denot) where
+    module _ (κs : Lfts 9) (qs : Shares 9) (bounds : AllOutlive 9 (ended o).signature.outlives κs)
+        (s : (Before κs).Denot) (n : ℕ) (bs : blanks.the_row.Denot) where
       abbrev bound : List Val → List Val → List Val → W.Ghost
       bound ss ns cs = ((κs, qs, bounds, (s, (n, (bs, tt))), (ss, (ns, (cs, tt)))), tt)
 
@@ -307,13 +326,17 @@ module _ {M : Type 1} (𝓤 : Ura M) (𝓛 : Logic 𝓤) (𝓜 : Model 𝓤 𝓛
 
       -- the exit, with the result d
       out : (v b d : Val) (r : (Joined κs).Denot) → HasEnded s.course.progress (n + 1) r
-          → Sq 𝓛 (‵ ((Joined κs).own_val r (d ∷ [])) ∷ tokens κs qs ∷ []) (prop (W.post (bound (v ∷ []) (vint w32 n ∷ []) (b ∷ [])) d))
+          → Sq 𝓛 (‵ ((Joined κs).own_val r (d ∷ [])) ∷ tokens κs qs ∷ [])
+          (prop (W.post (bound (v ∷ []) (vint w32 n ∷ []) (b ∷ [])) d))
       out v b d r made =
           suffices ! _ (ends_at 𝓛 (ended o) stayed clauses (bound (v ∷ []) (vint w32 n ∷ []) (b ∷ [])) d r (at_rest ((Before κs).exit no) s, (tt, (at_rest (blanks.the_row.exit yes) bs, tt))) (tt, (tt, (tt, tt)))) $ says ! made $
-          nothing ! $ nothing ! $ join ! $ nothing ! $ join ! $ nothing ! $ join ! $ move ! (2 ∷ []) $ group ! 3 $ done !
+          nothing ! $ nothing ! $ join ! $ nothing ! $ join ! $ nothing ! $ join ! $ move !
+          (2 ∷ []) $ group ! 3 $ done !
 
-      walk : (v b : Val) → T (has_ty (layout (Before κs)) v) × WT v → T (has_ty (layout blanks.the_row) b) × WT b → n < 2 ^ 32
-          → tuple (asked R G o κs bs (on_course κs s n)) → Below 𝓛 grade (λ s. s < n) → Sequent (v ∷ []) (vint w32 n ∷ []) (b ∷ [])
+      walk : (v b : Val) → T (has_ty (layout (Before κs)) v) × WT v
+          → T (has_ty (layout blanks.the_row) b) × WT b → n < 2 ^ 32
+          → tuple (asked R G o κs bs (on_course κs s n)) → Below 𝓛 grade (λ s. s < n)
+          → Sequent (v ∷ []) (vint w32 n ∷ []) (b ∷ [])
       walk v b v_ok b_ok low met below =
           let 𝓣 = tables 𝓤 𝓛.H 𝓜 𝓡 𝓡.env in
           let y = bound (v ∷ []) (vint w32 n ∷ []) (b ∷ []) in
@@ -328,23 +351,32 @@ module _ {M : Type 1} (𝓤 : Ura M) (𝓛 : Logic 𝓤) (𝓜 : Model 𝓤 𝓛
           (λ is_zero.
           -- return finish(stage, count, blanks)
           sets ! (of_opd ! (get ! refl)) refl v_ok $ sets ! (of_opd ! (get ! refl)) refl b_ok $
-          nothing ! $ move ! (2 ∷ 0 ∷ []) $ join ! $ owned ! u32 _ (uint_Makes 𝓛 w32) n (vint w32 n ∷ []) (refl, low) $ join ! $ move ! (1 ∷ 0 ∷ []) $ join ! $ move ! (1 ∷ 0 ∷ []) $ join ! $
+          nothing ! $ move ! (2 ∷ 0 ∷ []) $ join ! $ owned ! u32 _ (uint_Makes 𝓛 w32) n (vint w32 n ∷ [])
+          (refl, low) $ join ! $ move ! (1 ∷ 0 ∷ []) $ join ! $ move ! (1 ∷ 0 ∷ []) $ join ! $
           use1 𝓛 (raw (F.pre y)) (beside 𝓤 _ _ (shown 𝓤 (asked R G o κs bs (on_course κs s n)) met)) $
-          calls_at ! (framed 𝓤 𝓛.H 𝓜 𝓣) F (finish_met.met 𝓤 𝓛 𝓜 𝓡 (code.calls-ring_exec::relay::Stage::finish 𝓡.env wired) R G o.B o.L o.N RL GL o.B-laws o.L-laws o.N-laws RT RTd RW RWd GG GGd o.B-ghosts o.B-dict o.L-ghosts o.L-dict o.N-ghosts o.N-dict mT mW mG (λ 𝓛' 𝓜' 𝓡' l. record {}) (λ 𝓛' 𝓜' 𝓡' l. record {}) (λ 𝓛' 𝓜' 𝓡' l. record {})) y
+          calls_at ! (framed 𝓤 𝓛.H 𝓜 𝓣) F
+          (finish_met.met 𝓤 𝓛 𝓜 𝓡 (code.calls-ring_exec::relay::Stage::finish 𝓡.env wired) R G o.B o.L o.N RL GL
+          o.B-laws o.L-laws o.N-laws RT RTd RW RWd GG GGd o.B-ghosts o.B-dict o.L-ghosts o.L-dict o.N-ghosts
+          o.N-dict mT mW mG (λ 𝓛' 𝓜' 𝓡' l. record {}) (λ 𝓛' 𝓜' 𝓡' l. record {}) (λ 𝓛' 𝓜' 𝓡' l. record {})) y
           (and_then ! (get ! refl) (and_then ! (get ! refl) (and_then ! (get ! refl) (no_more !)))) (λ d.
           use1 𝓛 (later (some (λ (r : (Joined κs).Denot). (tokens κs qs ⊛ ‵ ((Joined κs).own_val r (d ∷ []))) ⊛ some (λ (ws : Lasts finish_ended y.0.0 y.0.3). ‵ (lasts finish_ended y.0.0 y.0.3 ws) ⊛ raw (fact 𝓤 (HasEnded s.course.progress 1 r)))))) (id⊢ 𝓤 _) $
           await ! tt $ pick ! (λ r. split ! $ move ! (1 ∷ []) $ pick ! (λ ws. split ! $ drop ! $ heard ! _ (λ all. split ! $ move ! (1 ∷ []) $ peeks ! (Joined κs) (Is (Joined κs)) (shows 𝓛 (Joined κs)) r (d ∷ []) (λ is_r.
           lands_as ! refl refl (((joined_laws.the_row_laws (named_lft 9 3 tt κs)).lawful 𝓛).typed r (d ∷ []) is_r).0 $
-          returns_within ! (W.post y) refl (look_at ! 0 refl) $ free_all ! refl $ out v b d r (let none : n ≡ 0 = eqb→eq n 0 is_zero in rw none all)))))))
+          returns_within ! (W.post y) refl (look_at ! 0 refl) $ free_all ! refl $ out v b d r
+          (let none : n ≡ 0 = eqb→eq n 0 is_zero in rw none all)))))))
           (λ not_zero. skips ! $ exec ! 𝓣.C 𝓣.Λ (env function.locals l) (rest (rest function.body)) (at_ret _ (W.post y)) $
           let pos : 0 < n = let h : n ≡ 0 → ⊥ = apart n 0 not_zero in omega arith in
           let less : n - 1 < n = omega arith in
           let low' : n - 1 < 2 ^ 32 = omega arith in
           -- let next = begin(stage, count, blanks)
           sets ! (of_opd ! (get ! refl)) refl v_ok $ sets ! (of_opd ! (get ! refl)) refl b_ok $
-          nothing ! $ move ! (2 ∷ 0 ∷ []) $ join ! $ owned ! u32 _ (uint_Makes 𝓛 w32) n (vint w32 n ∷ []) (refl, low) $ join ! $ move ! (1 ∷ 0 ∷ []) $ join ! $ move ! (1 ∷ 0 ∷ []) $ join ! $
+          nothing ! $ move ! (2 ∷ 0 ∷ []) $ join ! $ owned ! u32 _ (uint_Makes 𝓛 w32) n (vint w32 n ∷ [])
+          (refl, low) $ join ! $ move ! (1 ∷ 0 ∷ []) $ join ! $ move ! (1 ∷ 0 ∷ []) $ join ! $
           use1 𝓛 (raw (B.pre y)) (beside 𝓤 _ _ (shown 𝓤 (asked R G o κs bs (on_course κs s n)) met)) $
-          calls_at ! (framed 𝓤 𝓛.H 𝓜 𝓣) B (begin_met.met 𝓤 𝓛 𝓜 𝓡 (code.calls-ring_exec::relay::Stage::begin 𝓡.env wired) R G o.B o.L o.N RL GL o.B-laws o.L-laws o.N-laws RT RTd RW RWd GG GGd o.B-ghosts o.B-dict o.L-ghosts o.L-dict o.N-ghosts o.N-dict mT mW mG (λ 𝓛' 𝓜' 𝓡' l. record {}) (λ 𝓛' 𝓜' 𝓡' l. record {}) (λ 𝓛' 𝓜' 𝓡' l. record {})) y
+          calls_at ! (framed 𝓤 𝓛.H 𝓜 𝓣) B
+          (begin_met.met 𝓤 𝓛 𝓜 𝓡 (code.calls-ring_exec::relay::Stage::begin 𝓡.env wired) R G o.B o.L o.N RL GL
+          o.B-laws o.L-laws o.N-laws RT RTd RW RWd GG GGd o.B-ghosts o.B-dict o.L-ghosts o.L-dict o.N-ghosts
+          o.N-dict mT mW mG (λ 𝓛' 𝓜' 𝓡' l. record {}) (λ 𝓛' 𝓜' 𝓡' l. record {}) (λ 𝓛' 𝓜' 𝓡' l. record {})) y
           (and_then ! (get ! refl) (and_then ! (get ! refl) (and_then ! (get ! refl) (no_more !)))) (λ w.
           use1 𝓛 (later (some (λ (x : (Next κs).Denot). (tokens κs qs ⊛ ‵ ((Next κs).own_val x (w ∷ []))) ⊛ some (λ (ws : Lasts begin_ended y.0.0 y.0.3). ‵ (lasts begin_ended y.0.0 y.0.3 ws) ⊛ raw (fact 𝓤 (IsOnCourse x.course.before x.course.progress n)) ⊛ raw (fact 𝓤 (HasStarted s.course.progress x.course.progress)) ⊛ raw (fact 𝓤 (IsSome s.course.before → IsNone x.course.before → HasRefused s.course.progress x.course.progress)))))) (id⊢ 𝓤 _) $
           await ! tt $ pick ! (λ x. split ! $ move ! (1 ∷ []) $ pick ! (λ ws. split ! $ drop ! $ split ! $ heard ! _ (λ goes_on. split ! $ heard ! _ (λ started. heard ! _ (λ _. split ! $ move ! (1 ∷ []) $ peeks ! (Next κs) (Is (Next κs)) (shows 𝓛 (Next κs)) x (w ∷ []) (λ is_x.
@@ -354,37 +386,48 @@ module _ {M : Type 1} (𝓤 : Ura M) (𝓛 : Logic 𝓤) (𝓜 : Model 𝓤 𝓛
           sets ! (bin ! (get ! refl) (lit ! tt) pos) refl (tt, record { fits = low' }) $
           -- Blanks::new(), with the next stage, the tokens and the locals at hand
           nothing ! $ nothing ! $ nothing ! $ join ! $ join ! $ use1 𝓛 (raw (N.pre called)) (id⊢ 𝓤 _) $
-          calls_at ! (framed 𝓤 𝓛.H 𝓜 𝓣) N (new_met.met 𝓤 𝓛 𝓜 𝓡 (code.calls-ring_exec::border_name::Blanks::new 𝓡.env wired)) called (no_more !) (λ u.
+          calls_at ! (framed 𝓤 𝓛.H 𝓜 𝓣) N
+          (new_met.met 𝓤 𝓛 𝓜 𝓡 (code.calls-ring_exec::border_name::Blanks::new 𝓡.env wired)) called
+          (no_more !) (λ u.
           use1 𝓛 (later (some (λ (bs' : blanks.the_row.Denot). (‵ ftrue ⊛ ‵ (blanks.the_row.own_val bs' (u ∷ []))) ⊛ some (λ (ws : Lasts new.ended tt tt). ‵ (lasts new.ended tt tt ws) ⊛ raw (fact 𝓤 (bs'.right.parts ≡ 1 × bs'.left.parts ≡ 1)))))) (id⊢ 𝓤 _) $
           await ! tt $ pick ! (λ bs'. split ! $ split ! $ drop ! $ move ! (1 ∷ []) $ pick ! (λ ws. split ! $ drop ! $ heard ! _ (λ ones.
           peeks ! blanks.the_row (Is blanks.the_row) (shows 𝓛 blanks.the_row) bs' (u ∷ []) (λ is_new.
           lands_as ! refl refl ((blanks_laws.the_row_laws.lawful 𝓛).typed bs' (u ∷ []) is_new).0 $
-          -- after(next, count - 1, the new blanks), with the new blanks, the next stage, the tokens and the locals at hand
+          -- after(next, count - 1, the new blanks), with the new blanks, the next stage, the tokens and the locals
+          -- at hand
           let i : Over = inner o bs' in
           let G' = triple_of 𝓛 (stated.signature i) (stated.spec i) in
           let z : G'.Ghost = ((turned κs, turned_shares qs, (bounds.0, (bounds.1.0, (bounds.1.1.0, (bounds.1.1.1.0, (bounds.1.1.1.1.1.1.0, (bounds.1.1.1.1.1.0, (bounds.1.1.1.1.0, (bounds.1.1.1.1.1.1.1.0, (bounds.1.1.1.1.1.1.1.1.0, tt))))))))), (x, (n - 1, (bs', tt))), (w ∷ [], (vint w32 (n - 1) ∷ [], (u ∷ [], tt)))), tt) in
-          nothing ! $ move ! (1 ∷ 0 ∷ []) $ join ! $ owned ! u32 _ (uint_Makes 𝓛 w32) (n - 1) (vint w32 (n - 1) ∷ []) (refl, low') $ join ! $ move ! (1 ∷ 0 ∷ []) $ join ! $
+          nothing ! $ move ! (1 ∷ 0 ∷ []) $ join ! $ owned ! u32 _ (uint_Makes 𝓛 w32) (n - 1) (vint w32 (n - 1) ∷ [])
+          (refl, low') $ join ! $ move ! (1 ∷ 0 ∷ []) $ join ! $
           move ! (1 ∷ []) $ use1 𝓛 (tokens (turned κs) (turned_shares qs)) (turns κs qs) $ join ! $
           use1 𝓛 (raw (G'.pre z)) (beside 𝓤 _ _ (shown 𝓤 (asked R G i (turned κs) bs' (IsOnCourse x.course.before x.course.progress (n - 1 + 1))) (asked_inside R G o κs bs bs' (on_course κs s n) _ ones (let same : n - 1 + 1 ≡ n = omega arith in rw same goes_on) met))) $
-          calls_from ! (framed 𝓤 𝓛.H 𝓜 𝓣) (raw (G'.pre z)) (G'.args z) (G'.post z) (below (n - 1) less i z refl) (and_then ! (get ! refl) (and_then ! (get ! refl) (and_then ! (get ! refl) (no_more !)))) (λ d.
+          calls_from ! (framed 𝓤 𝓛.H 𝓜 𝓣) (raw (G'.pre z)) (G'.args z) (G'.post z) (below (n - 1) less i z refl)
+          (and_then ! (get ! refl) (and_then ! (get ! refl) (and_then ! (get ! refl) (no_more !)))) (λ d.
           use1 𝓛 (later (some (λ (r : (Joined κs).Denot). (tokens (turned κs) (turned_shares qs) ⊛ ‵ ((Joined κs).own_val r (d ∷ []))) ⊛ some (λ (ws : Lasts (ended i) z.0.0 z.0.3). ‵ (lasts (ended i) z.0.0 z.0.3 ws) ⊛ raw (fact 𝓤 (HasEnded x.course.progress (n - 1 + 1) r)))))) (id⊢ 𝓤 _) $
           await ! tt $ pick ! (λ r. split ! $ move ! (1 ∷ []) $ pick ! (λ ws. split ! $ drop ! $ heard ! _ (λ all. split ! $ use1 𝓛 (tokens κs qs) (turns (turned κs) (turned_shares qs)) $ move ! (1 ∷ []) $
           peeks ! (Joined κs) (Is (Joined κs)) (shows 𝓛 (Joined κs)) r (d ∷ []) (λ is_r.
           lands_as ! refl refl (((joined_laws.the_row_laws (named_lft 9 3 tt κs)).lawful 𝓛).typed r (d ∷ []) is_r).0 $
-          returns ! (look_at ! 0 refl) $ free_all ! refl $ out v b d r (ended_before s.course.progress x.course.progress n r pos started all))))))))))))))))))))
+          returns ! (look_at ! 0 refl) $ free_all ! refl $ out v b d r
+          (ended_before s.course.progress x.course.progress n r pos started all))))))))))))))))))))
 
       -- from the call's own statement: its facts, and one machine value for each parameter
       walks : (ss ns cs : List Val) → Below 𝓛 grade (λ s. s < n) → ent 𝓤 (W.pre (bound ss ns cs))
           (WpFn 𝓤 𝓛.H (tables 𝓤 𝓛.H 𝓜 𝓡 𝓡.env).C (tables 𝓤 𝓛.H 𝓜 𝓡 𝓡.env).Λ function (W.args (bound ss ns cs)) (W.post (bound ss ns cs)))
       walks ss ns cs below =
           qed 𝓛 ((tokens κs qs ⊛ ‵ ((Before κs).own_val s ss) ⊛ ‵ (u32.own_val n ns) ⊛ ‵ (blanks.the_row.own_val bs cs) ⊛ ‵ ftrue) ∷ raw (facts 𝓤 (asked R G o κs bs (on_course κs s n))) ∷ []) ∵
-          move ! (1 ∷ []) $ use1 𝓛 (raw (fact 𝓤 (tuple (asked R G o κs bs (on_course κs s n))))) (gather 𝓤 (asked R G o κs bs (on_course κs s n))) $ heard ! _ (λ met.
-          split ! $ move ! (1 ∷ []) $ split ! $ move ! (1 ∷ []) $ split ! $ fsplit ! $ feq_l ! (λ is_n. flt_l ! (λ low. split ! $ move ! (1 ∷ []) $ drop ! $ move ! (1 ∷ 0 ∷ 2 ∷ []) $
+          move ! (1 ∷ []) $ use1 𝓛 (raw (fact 𝓤 (tuple (asked R G o κs bs (on_course κs s n)))))
+          (gather 𝓤 (asked R G o κs bs (on_course κs s n))) $ heard ! _ (λ met.
+          split ! $ move ! (1 ∷ []) $ split ! $ move ! (1 ∷ []) $ split ! $ fsplit ! $ feq_l !
+          (λ is_n. flt_l ! (λ low. split ! $ move ! (1 ∷ []) $ drop ! $ move ! (1 ∷ 0 ∷ 2 ∷ []) $
           subst⁻¹ (λ (ws : List Val). Sequent ss ws cs) is_n
           (peeks ! (Before κs) (Is (Before κs)) (shows 𝓛 (Before κs)) s ss (λ is_s.
-          one_value (layout (Before κs)) (λ ws. Sequent ws (vint w32 n ∷ []) cs) ss (((before_laws κs).lawful 𝓛).typed s ss is_s) (λ v v_ok.
-          move ! (1 ∷ []) $ peeks ! blanks.the_row (Is blanks.the_row) (shows 𝓛 blanks.the_row) bs cs (λ is_b. move ! (1 ∷ []) $
-          one_value (layout blanks.the_row) (λ ws. Sequent (v ∷ []) (vint w32 n ∷ []) ws) cs ((blanks_laws.the_row_laws.lawful 𝓛).typed bs cs is_b) (λ b b_ok.
+          one_value (layout (Before κs)) (λ ws. Sequent ws (vint w32 n ∷ []) cs) ss
+          (((before_laws κs).lawful 𝓛).typed s ss is_s) (λ v v_ok.
+          move ! (1 ∷ []) $ peeks ! blanks.the_row (Is blanks.the_row) (shows 𝓛 blanks.the_row) bs cs
+          (λ is_b. move ! (1 ∷ []) $
+          one_value (layout blanks.the_row) (λ ws. Sequent (v ∷ []) (vint w32 n ∷ []) ws) cs
+          ((blanks_laws.the_row_laws.lawful 𝓛).typed bs cs is_b) (λ b b_ok.
           walk v b v_ok b_ok low met below))))))))
 
   -- a call meets its contract if calls of a lesser count do
@@ -400,5 +443,7 @@ module _ {M : Type 1} (𝓤 : Ura M) (𝓛 : Logic 𝓤) (𝓜 : Model 𝓤 𝓛
 
 pub +after_spec : {M : Type 1} → statement M
 +after_spec 𝓤 𝓛 𝓜 𝓡 wired R G B L N RL GL LB LL LN RT RTd RW RWd GG GGd GB DB GL' DL GN DN mT mW mG mB mL mN =
-    mutual_elim 𝓛 (one (stated 𝓤 𝓛 𝓜 𝓡 wired R G RL GL RT RTd RW RWd GG GGd mT mW mG)) ◌<◌ lt-wf_rel.wf (grade 𝓤 𝓛 𝓜 𝓡 wired R G RL GL RT RTd RW RWd GG GGd mT mW mG) (method 𝓤 𝓛 𝓜 𝓡 wired R G RL GL RT RTd RW RWd GG GGd mT mW mG)
+    mutual_elim 𝓛 (one (stated 𝓤 𝓛 𝓜 𝓡 wired R G RL GL RT RTd RW RWd GG GGd mT mW mG)) ◌<◌ lt-wf_rel.wf
+    (grade 𝓤 𝓛 𝓜 𝓡 wired R G RL GL RT RTd RW RWd GG GGd mT mW mG)
+    (method 𝓤 𝓛 𝓜 𝓡 wired R G RL GL RT RTd RW RWd GG GGd mT mW mG)
     record { B = B; L = L; N = N; B-laws = LB; L-laws = LL; N-laws = LN; B-ghosts = GB; L-ghosts = GL'; N-ghosts = GN; B-dict = DB; L-dict = DL; N-dict = DN }

@@ -8,6 +8,7 @@ use Rattle.ring_problems.proofs.pairs.ProblemTuples+Table.least_from.Given as go
 abbrev pub invariant-loop-number : goal.invariant-loop-number
 invariant-loop-number l =
     let t = l.self.windows.now in
-    (l.number < length (windows (2 * t.rounds + 1 + 1) t.ids) → slice_get (windows (2 * t.rounds + 1 + 1) t.ids) l.number ≡ Some l.pair)
+    (l.number < length (windows (2 * t.rounds + 1 + 1) t.ids)
+    → slice_get (windows (2 * t.rounds + 1 + 1) t.ids) l.number ≡ Some l.pair)
     × IsWindow (2 * t.rounds + 1 + 1) t.ids l.pair
     × NoneIsBad t l.self.problem.now 0 (l.number * per_pair t.ids t.rounds l.self.problem.now)

@@ -14,7 +14,8 @@ overflow_mul-low c =
     let t = c.args.self.windows.now in
     let below = slice_get_within (windows (2 * t.rounds + 1 + 1) t.ids) c.args.number c.args.pair.now c.requires.item in
     let each : c.tuples_per_pair-each.result ≡ per_pair t.ids t.rounds c.args.self.problem.now =
-    c.tuples_per_pair-each.ensures ∙ (λ i. per_pair (c.shape.ensures.ids i) (c.shape.ensures.rounds i) c.args.self.problem.now) in
+    c.tuples_per_pair-each.ensures
+    ∙ (λ i. per_pair (c.shape.ensures.ids i) (c.shape.ensures.rounds i) c.args.self.problem.now) in
     let fits = pair_fits c.shape.result t.ids t.rounds c.args.self.problem.now c.args.number c.shape.ensures.ids c.shape.ensures.rounds below in
     omega (arith, fits, ap (λ n. c.args.number * n) each)
 
@@ -23,7 +24,8 @@ overflow_add-low c =
     let t = c.args.self.windows.now in
     let below = slice_get_within (windows (2 * t.rounds + 1 + 1) t.ids) c.args.number c.args.pair.now c.requires.item in
     let each : c.tuples_per_pair-each.result ≡ per_pair t.ids t.rounds c.args.self.problem.now =
-    c.tuples_per_pair-each.ensures ∙ (λ i. per_pair (c.shape.ensures.ids i) (c.shape.ensures.rounds i) c.args.self.problem.now) in
+    c.tuples_per_pair-each.ensures
+    ∙ (λ i. per_pair (c.shape.ensures.ids i) (c.shape.ensures.rounds i) c.args.self.problem.now) in
     let fits = pair_fits c.shape.result t.ids t.rounds c.args.self.problem.now c.args.number c.shape.ensures.ids c.shape.ensures.rounds below in
     omega (arith, fits, ap (λ n. c.args.number * n) each, each)
 
@@ -32,6 +34,7 @@ least_bad-requires c =
     let t = c.args.self.windows.now in
     let below = slice_get_within (windows (2 * t.rounds + 1 + 1) t.ids) c.args.number c.args.pair.now c.requires.item in
     let each : c.tuples_per_pair-each.result ≡ per_pair t.ids t.rounds c.args.self.problem.now =
-    c.tuples_per_pair-each.ensures ∙ (λ i. per_pair (c.shape.ensures.ids i) (c.shape.ensures.rounds i) c.args.self.problem.now) in
+    c.tuples_per_pair-each.ensures
+    ∙ (λ i. per_pair (c.shape.ensures.ids i) (c.shape.ensures.rounds i) c.args.self.problem.now) in
     let within = pair_within t.ids t.rounds c.args.self.problem.now c.args.number below in
     omega (arith, within, ap (λ n. c.args.number * n) each, each)

@@ -4,7 +4,8 @@ use Rattle.ring_problems.proofs.pairs.ProblemTuples+Table.may_begin_bad.Goals as
 
 pub returns-then-not-may_begin : goal.returns-then-not-may_begin
 returns-then-not-may_begin c =
-    none_by_begin c.args.self.windows.now c.args.self.problem.now c.args.pair.now _ _ (sym c.channel_from.ensures) (sym c.channel_from-2.ensures)
+    none_by_begin c.args.self.windows.now c.args.self.problem.now c.args.pair.now _ _ (sym c.channel_from.ensures)
+    (sym c.channel_from-2.ensures)
     c.if-not-may_begin.ensures
 
 pub returns : goal.returns

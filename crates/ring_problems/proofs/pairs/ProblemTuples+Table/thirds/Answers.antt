@@ -8,4 +8,6 @@ run_start-requires-clause-front c =
     (front_window (2 * c.args.self.windows.now.rounds) c.args.self.windows.now.ids c.args.pair.now c.requires)
 
 pub place_among_unused-requires : goal.place_among_unused-requires
-place_among_unused-requires c = (front_window (2 * c.args.self.windows.now.rounds) c.args.self.windows.now.ids c.args.pair.now c.requires).distinct
+place_among_unused-requires c =
+    (front_window (2 * c.args.self.windows.now.rounds) c.args.self.windows.now.ids c.args.pair.now
+    c.requires).distinct

@@ -12,7 +12,8 @@ channel_from-first-requires-clause-window g c =
 pub channel_from-second-requires-clause-window : goal.channel_from-second-requires-clause-window
 channel_from-second-requires-clause-window g c =
     let t = g.W.Windows.table c.args.self.windows.now in
-    tuple_window t.ids t.rounds 1 c.args.self.problem.now c.args.tuple.now c.requires (extra_range c.args.self.problem.now).0
+    tuple_window t.ids t.rounds 1 c.args.self.problem.now c.args.tuple.now c.requires
+    (extra_range c.args.self.problem.now).0
 
 pub returns : goal.returns
 returns g c =

@@ -10,6 +10,7 @@ returns-clause-value c =
     let own = c.row_at.result.now in
     let lt : c.args.place < length was.ring.now.places =
     subst (λ (s : RingConfiguration). c.args.place < length s.places) (sym c.self.view_is) c.requires in
-    let row = rw (c.width_of.ensures.value, c.deref.ensures.value) at c.row_at.ensures.value (length was.ring.now.places) lt in
+    let row = rw (c.width_of.ensures.value, c.deref.ensures.value) at c.row_at.ensures.value
+    (length was.ring.now.places) lt in
     subst (λ (s : RingConfiguration). own ≡ state s.program s.places s.round c.args.place) c.self.view_is
     (row_of_place _ was.states.items _ _ own c.self.invariant lt row)

@@ -6,7 +6,8 @@ use Rattle.shared_memo.proofs.memo.Memo.keep.Goals.{After-job_at-at}
 use Rattle.shared_memo.proofs.memo.Memo.keep.Goals as goal
 
 -- the job is that of the block
-job_is : (c : After-job_at-at) → job_of c.args.self.now.plan.now c.args.block.value.level c.args.block.value.number ≡ Some c.job_at-at.result
+job_is : (c : After-job_at-at)
+    → job_of c.args.self.now.plan.now c.args.block.value.level c.args.block.value.number ≡ Some c.job_at-at.result
 job_is c = rw (c.level.ensures.value, c.deref.ensures, c.number.ensures.value, c.deref-2.ensures) at c.job_at-at.ensures.at
 
 pub put-requires : goal.put-requires
@@ -17,7 +18,8 @@ put-requires c =
 pub invariant_of-pass : goal.invariant_of-pass
 invariant_of-pass c =
     let job = job_is (goal.at.invariant_of-pass c).After-job_at-at in
-    let here : IsAt c.args.pass.now.entries.items c.job_at-at.result c.index_mut.result.now = (c.job_at-at.ensures.within.1, c.index_mut.ensures.value) in
+    let here : IsAt c.args.pass.now.entries.items c.job_at-at.result c.index_mut.result.now =
+    (c.job_at-at.ensures.within.1, c.index_mut.ensures.value) in
     record {
       keeps = keeps_put _ _ _ c.index_mut.result.now c.put.new.self here c.args.pass.now.keeps (λ b is.
           ⊎_elim (λ (old : known_of c.put.new.self ≡ known_of c.index_mut.result.now). c.args.pass.now.keeps _ b (item_here known_of _ _ _ here ∙ sym old ∙ is))
@@ -34,12 +36,14 @@ returns-clause-pass c =
 pub returns-clause-learns : goal.returns-clause-learns
 returns-clause-learns c =
     rw c.requires.pass.0 (learns_put c.args.self.now.plan.now _ c.args.block.value.level c.args.block.value.number _ c.index_mut.result.now c.put.new.self
-    c.jobs_have_numbers.ensures.at (job_is (goal.at.returns-clause-learns c).After-job_at-at) (c.job_at-at.ensures.within.1, c.index_mut.ensures.value) c.put.ensures.kept)
+    c.jobs_have_numbers.ensures.at (job_is (goal.at.returns-clause-learns c).After-job_at-at)
+    (c.job_at-at.ensures.within.1, c.index_mut.ensures.value) c.put.ensures.kept)
 
 pub returns-clause-installed : goal.returns-clause-installed
 returns-clause-installed c =
     rw c.requires.pass.0 (is_installed c.args.self.now.plan.now _ _ c.index_mut.result.now c.put.new.self c.args.block.value c.put.result
-    (c.job_at-at.ensures.within.1, c.index_mut.ensures.value) (job_is (goal.at.returns-clause-installed c).After-job_at-at) c.put.ensures.put)
+    (c.job_at-at.ensures.within.1, c.index_mut.ensures.value)
+    (job_is (goal.at.returns-clause-installed c).After-job_at-at) c.put.ensures.put)
 
 pub returns-clause-seen : goal.returns-clause-seen
 returns-clause-seen c =

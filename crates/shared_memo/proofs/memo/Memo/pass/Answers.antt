@@ -10,7 +10,8 @@ loop-cell-preserved c =
     let ok : is_ok c.push.result ≡ true = search rules in
     let items = rw ok at c.push.ensures.items in
     rw items (record {
-      cells = cells_more es _ c.args.self.now.cells.items c.loop-cell.cell-index c.cell-item.result inv.cells (search rules) (search rules) c.note.ensures.0;
+      cells = cells_more es _ c.args.self.now.cells.items c.loop-cell.cell-index c.cell-item.result inv.cells
+          (search rules) (search rules) c.note.ensures.0;
       blank = none_more known_of es _ refl inv.blank;
       no_look = none_more look_of es _ refl inv.no_look;
     })

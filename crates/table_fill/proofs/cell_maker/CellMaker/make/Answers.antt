@@ -26,8 +26,10 @@ below_is_block m level number low c window below =
 
 -- a block that is missing for a block of a level is one of a lower level, which is not known
 missing_is_block :
-    {S : Type 0} → WindowOfNumber → (plan : ProgramForIds) (entries : S → Entries) (old new : S) (level number : ℕ) (fault : MakeFault)
-    → level ≤ length plan.program.steps → IsMakeFault entries old new plan.ids level number fault → NamesUnknownBelow plan (entries new) level fault
+    {S : Type 0} → WindowOfNumber
+    → (plan : ProgramForIds) (entries : S → Entries) (old new : S) (level number : ℕ) (fault : MakeFault)
+    → level ≤ length plan.program.steps → IsMakeFault entries old new plan.ids level number fault
+    → NamesUnknownBelow plan (entries new) level fault
 missing_is_block window plan entries old new level number (Missing low c) le is =
     let one = is.0.one_lower in
     (omega (arith, one), (omega (arith, one, le), below_is_block plan.ids level number low c window is.0), is.1)
@@ -43,7 +45,10 @@ pub returns-clause-goes_on : goal.returns-clause-goes_on
 returns-clause-goes_on c = record {
   same_memo = search rules;
   same_plan = search rules;
-  grows = record { kept = λ level number b was. c.keep.ensures.learns.kept level number b (c.make.ensures.asked.asked.grows.kept level number b was) };
+  grows = record {
+    kept = λ level number b was. c.keep.ensures.learns.kept level number b
+        (c.make.ensures.asked.asked.grows.kept level number b was);
+  };
 }
 
 pub returns-clause-fresh : goal.returns-clause-fresh

@@ -11,7 +11,8 @@ returns-clause-entries c =
     let keyed = c.requires.block in
     let len : c.len.result ≡ block_len plan.ids (length plan.program.steps) b =
     c.len.ensures ∙ (λ i. block_len (keyed.0 i).ids (keyed.1 i) b) in
-    let channels = with_items_is c.args.self.now.channels c.write_channels.new.channels (c.write_channels.auto.channels ∙ c.deref_mut.ensures.len) in (
+    let channels = with_items_is c.args.self.now.channels c.write_channels.new.channels (c.write_channels.auto.channels
+    ∙ c.deref_mut.ensures.len) in (
       c.append_below.ensures.capacity,
       λ first before. rw (c.append_below.ensures.items, len, c.deref.ensures.value, channels)
           (joined_entries _ _ _ _ _ _ before c.write_channels.ensures.channels),

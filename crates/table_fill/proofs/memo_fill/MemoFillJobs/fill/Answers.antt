@@ -16,14 +16,19 @@ use Rattle.table_fill.proofs.memo_fill.MemoFillJobs.fill.Goals as goal
 -- one more job is known
 known_with :
     (plan : ProgramForIds) (old new : Entries) (jobs : List ℕ) (job : ℕ) → Grows old new → AreKnown plan old jobs
-    → ((level number : ℕ) → job_of plan level number ≡ Some job → is_some (new level number) ≡ true) → AreKnown plan new (jobs ++ job ∷ [])
+    → ((level number : ℕ) → job_of plan level number ≡ Some job → is_some (new level number) ≡ true)
+    → AreKnown plan new (jobs ++ job ∷ [])
 known_with plan old new jobs job grows known last =
-    let P : ℕ → Type 0 = λ j. (level number : ℕ) → job_of plan level number ≡ Some j → is_some (new level number) ≡ true in
-    All-append P jobs (job ∷ []) (λ k d lt level number at. still_known old new level number grows (known k d lt level number at)) (All-cons P job [] last (All-nil P))
+    let P : ℕ → Type 0 = λ j. (level number : ℕ) → job_of plan level number ≡ Some j
+    → is_some (new level number) ≡ true in
+    All-append P jobs (job ∷ [])
+    (λ k d lt level number at. still_known old new level number grows (known k d lt level number at))
+    (All-cons P job [] last (All-nil P))
 
 -- a job's level and block are the only ones with its number
 block_of_job :
-    (plan : ProgramForIds) (new : Entries) (job level block : ℕ) → JobsStandAtNumbers → slice_get (jobs_of plan.ids (length plan.program.steps)) job ≡ Some (level, block)
+    (plan : ProgramForIds) (new : Entries) (job level block : ℕ) → JobsStandAtNumbers
+    → slice_get (jobs_of plan.ids (length plan.program.steps)) job ≡ Some (level, block)
     → is_some (new level block) ≡ true → (l n : ℕ) → job_of plan l n ≡ Some job → is_some (new l n) ≡ true
 block_of_job plan new job level block stand at filled l n is =
     let t : ℕ = length plan.program.steps in

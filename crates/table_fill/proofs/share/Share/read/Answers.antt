@@ -11,11 +11,15 @@ loop-number-preserved c =
     let n = c.loop-number.number in
     let inv = c.loop-number.invariant in
     let block = c.index-blocks-number.result in
-    let inside : n < length c.args.blocks.now = omega (arith, c.loop-number-test.true, c.requires.ready.within, c.requires.blocks.count) in
-    let is = c.requires.blocks.each n block (slice_get-get_or c.args.blocks.now n block inside ∙ ap Some (sym c.index-blocks-number.is)) in
+    let inside : n < length c.args.blocks.now =
+    omega (arith, c.loop-number-test.true, c.requires.ready.within, c.requires.blocks.count) in
+    let is = c.requires.blocks.each n block (slice_get-get_or c.args.blocks.now n block inside
+    ∙ ap Some (sym c.index-blocks-number.is)) in
     let number : block.now.number ≡ n = is.2 in
-    let here : windows_before plan n ≡ BLOCK_WINDOWS * block.now.number = omega (arith, number, inside, c.requires.blocks.count) in
-    let next : BLOCK_WINDOWS * block.now.number + block_len plan.ids (length plan.program.steps) block.now.number ≡ windows_before plan (n + 1) =
+    let here : windows_before plan n ≡ BLOCK_WINDOWS * block.now.number =
+    omega (arith, number, inside, c.requires.blocks.count) in
+    let next : BLOCK_WINDOWS * block.now.number + block_len plan.ids (length plan.program.steps) block.now.number
+    ≡ windows_before plan (n + 1) =
     omega (arith, number, inside, c.requires.blocks.count) in
     record {
       room = search rules;

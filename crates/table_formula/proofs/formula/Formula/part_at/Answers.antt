@@ -14,7 +14,8 @@ window_number-requires-clause-window c =
     let ids : f.shape.ids ≡ p.ids = ap (λ (q : Problem). q.ids) c.self.view_is in
     let rounds : f.shape.rounds ≡ p.rounds = ap (λ (q : Problem). q.rounds) c.self.view_is in
     let level : 2 * p.rounds + 1 ≡ 2 * c.rounds-2.result + 1 = omega (arith, c.rounds-2.ensures, rounds) in
-    let len : 2 * p.rounds + 1 ≡ c.args.offset + (2 * c.rounds.result + 1) - c.args.offset = omega (arith, c.rounds.ensures, rounds) in
+    let len : 2 * p.rounds + 1 ≡ c.args.offset + (2 * c.rounds.result + 1) - c.args.offset =
+    omega (arith, c.rounds.ensures, rounds) in
     subst (λ m. IsWindow (2 * c.rounds-2.result + 1) m (take (c.args.offset + (2 * c.rounds.result + 1) - c.args.offset) rest)) (sym ids)
     (subst (λ n. IsWindow (2 * c.rounds-2.result + 1) p.ids (take n rest)) len
     (subst (λ n. IsWindow n p.ids (take (2 * p.rounds + 1) rest)) level

@@ -1,4 +1,5 @@
-use Rattle.std.proofs.Common.{◌<◌, ◌≡◌, ◌++◌, ◌∷◌, [], List, ℕ, ◌≤◌, Option, Some, append_assoc, length, drop, take, slice_get, refl, sym, ap, ◌∙◌, subst, rules}
+use Rattle.std.proofs.Common.{◌<◌, ◌≡◌, ◌++◌, ◌∷◌, [], List, ℕ, ◌≤◌, Option, Some, append_assoc, length, drop, take}
+use Rattle.std.proofs.Common.{slice_get, refl, sym, ap, ◌∙◌, subst, rules}
 use Rattle.std.specs.List.{flat_map}
 use Rattle.std.proofs.lemmas.List.{take_all}
 use Rattle.std.proofs.lemmas.Option.{slice_get-get_or}

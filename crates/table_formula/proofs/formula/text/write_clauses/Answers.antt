@@ -48,7 +48,9 @@ returns-in_err-write_clause g c =
 pub returns : goal.returns
 returns g c =
     let p = c.args.formula.now in
-    let all : length (formula p) ≤ c.loop-index.index = omega (arith, c.count-index-end.ensures.value, c.loop-index-test.false) in
-    let text = ap (λ (clauses : List (List Literal)). head_text p ++ flat_map clause_text clauses) (take_all c.loop-index.index (formula p) all) in
+    let all : length (formula p) ≤ c.loop-index.index =
+    omega (arith, c.count-index-end.ensures.value, c.loop-index-test.false) in
+    let text = ap (λ (clauses : List (List Literal)). head_text p ++ flat_map clause_text clauses)
+    (take_all c.loop-index.index (formula p) all) in
     let told = subst (IsWrittenSoFar _ _ c.loop-index.chunk) text c.loop-index.invariant.told in
     sends_all _ _ _ _ _ _ c.send.result told c.send.ensures.sent

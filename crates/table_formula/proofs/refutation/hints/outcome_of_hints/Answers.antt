@@ -16,10 +16,12 @@ returns-in-Nothing-clause-value c =
 pub loop-i-preserved : goal.loop-i-preserved
 loop-i-preserved c = record {
   value =
-      at_one (clause_of c.args.clauses.now) c.args.hints.now (is_marked c.loop-i.marks) c.loop-i.i c.in-One.l (is_marked c.mark.new.self)
+      at_one (clause_of c.args.clauses.now) c.args.hints.now (is_marked c.loop-i.marks) c.loop-i.i c.in-One.l
+      (is_marked c.mark.new.self)
       c.loop-i-test.true c.if-is_last.false
       (ap Some (sym c.in-One.is) ∙ c.in-Some.ensures.value)
-      (λ k. c.mark.ensures.marked k ∙ ap (λ (l : Literal). is_marked c.loop-i.marks k || is_same k l) c.negation.ensures)
+      (λ k. c.mark.ensures.marked k
+      ∙ ap (λ (l : Literal). is_marked c.loop-i.marks k || is_same k l) c.negation.ensures)
       ∙ c.loop-i.invariant.value;
   variables = c.mark.ensures.variables ∙ c.loop-i.invariant.variables;
   room = c.remaining.ensures.room ∙ c.loop-i.invariant.room;

@@ -8,4 +8,5 @@ returns-then-byte-separator-clause-some c =
 
 pub returns-clause-none : goal.returns-clause-none
 returns-clause-none c =
-    no_split c.args.separator c.args.text.now (λ k within. c.loop-i.invariant k (omega (arith, c.loop-i-test.false, within)))
+    no_split c.args.separator c.args.text.now
+    (λ k within. c.loop-i.invariant k (omega (arith, c.loop-i-test.false, within)))

@@ -1,4 +1,5 @@
-use Rattle.std.proofs.Common.{◌≡◌, ◌+◌, ◌<◌, [], ◌++◌, length, length-take-le, take, get_or, refl, sym, ap, ◌∙◌, arith, add-zero, append-nil}
+use Rattle.std.proofs.Common.{◌≡◌, ◌+◌, ◌<◌, [], ◌++◌, length, length-take-le, take, get_or, refl, sym, ap, ◌∙◌, arith}
+use Rattle.std.proofs.Common.{add-zero, append-nil}
 use Rattle.std.proofs.lemmas.List.{take_more, take-take, get_or-set_same}
 use Rattle.table_text.specs.TableText.{ids_then}
 use Rattle.table_text.specs.Pieces.{piece_text, id_text}

@@ -14,6 +14,7 @@ returns c =
       ids = moved.ids;
       later = λ n item more.
           let all : n + passed + 1 ≡ n + c.args.count = omega arith in
-          let last = later_of_run passed o.front o.ids o.last o.order is.order is.from (omega arith) n item (omega arith) in
+          let last = later_of_run passed o.front o.ids o.last o.order is.order is.from (omega arith) n item
+          (omega arith) in
           rw all at (moved.later (n + passed) last (omega arith));
     }

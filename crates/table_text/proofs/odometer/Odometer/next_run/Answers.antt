@@ -1,4 +1,5 @@
-use Rattle.std.proofs.Common.{◌≡◌, ◌+◌, ◌≤◌, length, length-take, length-take-le, take, take_all, refl, sym, subst, ◌∙◌, arith, rules}
+use Rattle.std.proofs.Common.{◌≡◌, ◌+◌, ◌≤◌, length, length-take, length-take-le, take, take_all, refl, sym, subst, ◌∙◌}
+use Rattle.std.proofs.Common.{arith, rules}
 use Rattle.std.proofs.lemmas.List.{take-append-le, get_or_append_left}
 use Rattle.table_text.specs.Prefixes.{HasTexts}
 use Rattle.table_text.proofs.Orders.{next_run, kept_front, places_kept}

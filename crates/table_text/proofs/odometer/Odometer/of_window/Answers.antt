@@ -10,6 +10,8 @@ returns c =
     let len : length window ≡ k + 1 = omega (arith, c.requires.len.0) in
     let size : length (take k window) ≡ k = length-take-le k window (omega (arith, len)) in
     shows_window k (length c.args.pieces.now) (k + c.place_among_unused.result) window c.write_order.new.order c.write_places.new.places c.show.new.self c.requires.pieces.1
-    (omega (arith, c.requires.len.1, len)) (subst (λ n. IsWindow n (length c.args.pieces.now) window) len c.requires.window)
-    (rw size at c.write_order.ensures.order) (rw size at c.write_order.ensures.window) (rw size at c.write_places.ensures)
+    (omega (arith, c.requires.len.1, len))
+    (subst (λ n. IsWindow n (length c.args.pieces.now) window) len c.requires.window)
+    (rw size at c.write_order.ensures.order) (rw size at c.write_order.ensures.window)
+    (rw size at c.write_places.ensures)
     (ap (λ n. k + n) c.place_among_unused.ensures) c.show.ensures.texts c.show.ensures.text

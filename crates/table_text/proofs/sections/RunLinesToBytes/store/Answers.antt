@@ -1,4 +1,5 @@
-use Rattle.std.proofs.Common.{◌≡◌, ℕ, ◌<◌, List, ◌++◌, length, length-take, take, get_or, ap, sym, ◌∙◌, arith, rules, append_assoc}
+use Rattle.std.proofs.Common.{◌≡◌, ℕ, ◌<◌, List, ◌++◌, length, length-take, take, get_or, ap, sym, ◌∙◌, arith}
+use Rattle.std.proofs.Common.{rules, append_assoc}
 use Rattle.devices.specs.Output.{part_text}
 use Rattle.table_text.specs.Pieces.{piece_text, id_text, channel_text, AreTexts}
 use Rattle.table_text.specs.Sections.{run_lines}
@@ -42,7 +43,8 @@ loop-index-preserved c =
       );
       stored = third.text
           ∙ (λ i. (second.text ∙ (λ k. (first.text ∙ (λ m. inv.stored m ++ prefix)) k ++ last k)) i ++ end i)
-          ∙ regroup (take c.args.start c.args.bytes.now) (run_lines prefix (take j last_ids) (take j channels)) prefix _ _
+          ∙ regroup (take c.args.start c.args.bytes.now)
+          (run_lines prefix (take j last_ids) (take j channels)) prefix _ _
           ∙ ap (λ l. take c.args.start c.args.bytes.now ++ l)
           (sym (run_more j prefix last_ids channels (omega (arith, lines.count, within)) within));
     }

@@ -2,7 +2,8 @@ use Rattle.std.proofs.Common.{sym, ◌∙◌}
 use Rattle.std.proofs.lemmas.Bool.{false≢true}
 use Rattle.win_index.proofs.Positions.{number_of_is, number_of_none}
 use Rattle.win_index.proofs.arrangement.Arrangements.find.Goals as goal
-use Rattle.win_index.proofs.arrangement.Arrangements.find.Goals.{else-list-len-via-then-list-len+else-is_window, else-list-len-via-else-list-len}
+use Rattle.win_index.proofs.arrangement.Arrangements.find.Goals.{else-list-len-via-then-list-len+else-is_window}
+use Rattle.win_index.proofs.arrangement.Arrangements.find.Goals.{else-list-len-via-else-list-len}
 
 pub returns-then-is_window-clause-number : goal.returns-then-is_window-clause-number
 returns-then-is_window-clause-number c =

@@ -44,6 +44,7 @@ returns c =
           (rw ends.same c.if-not-write_next.ensures.replaced.next) c.nth_unused-least.ensures;
       last = search rules;
       same = search rules;
-      window = window_with (len - 1) len ids y later (omega arith) (omega arith) c.if-not-write_next.ensures.replaced.window
+      window = window_with (len - 1) len ids y later (omega arith)
+          (omega arith) c.if-not-write_next.ensures.replaced.window
           kept.below (not-true (is_used front y) kept.passes);
     }

@@ -23,7 +23,8 @@ module _ (c : After-places) where
 
   own : (list : List ℕ) → HasNumbers (c.args.self.lists.len - 1 + 1) c.args.self.lists.ids list c.args.self.prefix
       → IsLonger (c.args.self.lists.len - 1) c.args.self.lists.ids c.args.self.front c.args.self.place list
-  own list has = c.args.self.parts list (subst (λ n. HasNumbers n c.args.self.lists.ids list c.args.self.prefix) len has) (omega (arith, some))
+  own list has = c.args.self.parts list
+      (subst (λ n. HasNumbers n c.args.self.lists.ids list c.args.self.prefix) len has) (omega (arith, some))
 
   here : IsLonger (c.args.self.lists.len - 1) c.args.self.lists.ids c.args.self.front c.args.self.place c.requires.list
   here = c.args.self.parts c.requires.list c.requires.has (omega (arith, some))

@@ -3,7 +3,8 @@ use Rattle.std.proofs.lemmas.Option.{slice_get_within}
 use Rattle.win_index.specs.Jobs.{jobs_of}
 use Rattle.win_index.proofs.JobNumbers.{number_of_job, job_number_at, job_number_none}
 use Rattle.win_index.proofs.shape.Shape.job_number.Goals as goal
-use Rattle.win_index.proofs.shape.Shape.job_number.Goals.{then-level-self-via-then-level-self, then-level-self-via-else-level-self+then-block-blocks}
+use Rattle.win_index.proofs.shape.Shape.job_number.Goals.{then-level-self-via-then-level-self}
+use Rattle.win_index.proofs.shape.Shape.job_number.Goals.{then-level-self-via-else-level-self+then-block-blocks}
 
 pub returns-then-level-self-clause-number : goal.returns-then-level-self-clause-number
 returns-then-level-self-clause-number c =

@@ -8,7 +8,8 @@ use Rattle.table_formula.proofs.refutation.clauses.Clauses.mark_exchanged.Given 
 
 abbrev pub invariant-loop-l : goal.invariant-loop-l
 invariant-loop-l l = record {
-  marked : (k : Lit) → is_marked l.marks k ≡ has_literal (map (exchanged_literal l.self.formula.now l.exchange) (take l.l-index l.clause)) k;
+  marked : (k : Lit) → is_marked l.marks k
+      ≡ has_literal (map (exchanged_literal l.self.formula.now l.exchange) (take l.l-index l.clause)) k;
   variables : variables_of l.marks ≡ variables_of l.fn.marks;
   known : is_known l.self.formula.now (drop l.l-index l.clause) ≡ true;
 }
