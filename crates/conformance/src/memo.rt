@@ -5,12 +5,12 @@ ghost use Rattle.shared_memo.specs.Passes.{IsPassOf};
 use crate::blocks::first_block;
 use lang_check::Plan;
 use round_eval::Source;
-use shared_memo::{Installed, Memo, Pass, Reader};
+use shared_memo::{Memo, Pass, Reader};
 use std::alloc::Global;
 use std::test::Fail;
 use std::thread;
 use std::thread::Threads;
-use test_programs::{CV1, RED, plan_of};
+use test_programs::{CV1, plan_of};
 
 /// Returns the maker of the block in the cell of a job, or `None` if the cell is empty or there is
 /// no such job.
@@ -29,70 +29,19 @@ pub fn maker_of<'a>(memo: &Memo<'a>, pass: &mut Pass<'a>, job: u32) -> Option<u3
     }
 }
 
-/// The outcome of handing in a block: `Ok(None)` if it stands. A block that was returned is told by
-/// its maker, in `Ok` if another stood, and else in `Err`.
-type Became = Result<Option<u32>, u32>;
-
-/// Hands in the first block of a plan, made by this maker.
-fn hand_in<'a>(
-    alloc: Global,
-    memo: &Memo<'a>,
-    pass: &mut Pass<'a>,
-    plan: &'a Plan,
-    maker: u32,
-) -> Option<Became>
+/// Hands in the first block of a memo's plan, made by this maker. Returns whether it was handed in.
+fn hand_in<'a>(alloc: Global, memo: &Memo<'a>, pass: &mut Pass<'a>, maker: u32) -> Option<bool>
     requires { IsPassOf memo.now pass.old }
     ensures { IsPassOf memo.now pass.new }
 {
-    let block = Box::new(alloc, first_block(alloc, plan, maker)?).ok()?;
-    Some(match memo.install(pass, block) {
-        Ok(Installed::Fresh) => Ok(None),
-        Ok(Installed::Stood(back)) => Ok(Some(back.maker())),
-        Err(back) => Err(back.maker()),
-    })
-}
-
-/// What became of three blocks, and the makers of the block that three passes find then.
-type Handed = ([Option<Became>; 3], [Option<u32>; 3]);
-
-/// Two passes hand in the first block, made by 1 and by 2, and the first then that of another plan,
-/// made by 3. Returns the outcomes, and the maker of the block that they and a third pass find then.
-fn handed_in<'a>(alloc: Global, memo: &Memo<'a>, other: &'a Plan) -> Option<Handed> {
-    let mut a = memo.pass(alloc).ok()?;
-    let mut b = memo.pass(alloc).ok()?;
-    let mut c = memo.pass(alloc).ok()?;
-    let became = [
-        hand_in(alloc, memo, &mut a, memo.plan(), 1),
-        hand_in(alloc, memo, &mut b, memo.plan(), 2),
-        hand_in(alloc, memo, &mut a, other, 3),
-    ];
-    let makers = [
-        maker_of(memo, &mut a, 0),
-        maker_of(memo, &mut b, 0),
-        maker_of(memo, &mut c, 0),
-    ];
-    Some((became, makers))
-}
-
-/// Returns the same with a memo of its own.
-fn handed_to<'a>(alloc: Global, plan: &'a Plan, other: &'a Plan) -> Option<Handed> {
-    let memo = Memo::new(alloc, plan).ok()?;
-    handed_in(alloc, &memo, other)
-}
-
-#[test]
-fn the_first_block_stands(rt: HostRuntime) -> Result<(), Fail> {
-    let plan = plan_of(rt.alloc(), CV1, 8)?;
-    let other = plan_of(rt.alloc(), RED, 8)?;
-    let became = [Some(Ok(None)), Some(Ok(Some(2))), Some(Err(3))];
-    assert!(rt; handed_to(rt.alloc(), &plan, &other) == Some((became, [Some(1); 3])));
-    Ok(())
+    let block = Box::new(alloc, first_block(alloc, memo.plan(), maker)?).ok()?;
+    Some(memo.install(pass, block).is_ok())
 }
 
 /// Hands in the first block, and returns the maker of the block that the cell has then.
 fn install_and_look(alloc: Global, memo: &Memo<'_>, maker: u32) -> Option<u32> {
     let mut pass = memo.pass(alloc).ok()?;
-    let _ = hand_in(alloc, memo, &mut pass, memo.plan(), maker)?;
+    let _ = hand_in(alloc, memo, &mut pass, maker)?;
     maker_of(memo, &mut pass, 0)
 }
 
@@ -136,7 +85,7 @@ fn found_by_two(alloc: Global, memo: &Memo<'_>) -> Option<[bool; 3]> {
     let mut a = memo.pass(alloc).ok()?;
     let mut b = memo.pass(alloc).ok()?;
     let before = maker_of(memo, &mut a, 0).is_some();
-    let _ = hand_in(alloc, memo, &mut a, memo.plan(), 1)?;
+    let _ = hand_in(alloc, memo, &mut a, 1)?;
     Some([before, finds_first(memo, &mut a), finds_first(memo, &mut b)])
 }
 

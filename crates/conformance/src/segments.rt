@@ -1,9 +1,7 @@
-//! What a segment holds and sends, and the segment machine.
+//! What a segment holds and sends.
 
 ghost use Rattle.std.specs.Prelude.{◌≡◌, ◌<◌, ◌≤◌, IfSome, length};
 ghost use Rattle.round_eval.specs.Shapes.{IsOfShape};
-
-mod machine;
 
 use border_exchange::Segment;
 use lang_check::Plan;

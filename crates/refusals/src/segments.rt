@@ -8,8 +8,21 @@ use crate::tell::{again, tell, tell_numbers, value_or};
 use lang_check::Plan;
 use node_lang::OutOfMemory;
 use ring_core::{RingEvent, World, replay};
-use test_programs::{CV1, EVENTS};
+use test_programs::CV1;
 use win_index::Ring;
+
+/// Events of `CV1` on the ring 5 1 3 7 in two segments, 5 1 and 3 7. Segment 0 advances at the third
+/// try, and then segment 1.
+const EVENTS: [RingEvent; 8] = [
+    RingEvent::SendRight(0),
+    RingEvent::SendLeft(0),
+    RingEvent::Advance(0),
+    RingEvent::SendRight(1),
+    RingEvent::Advance(0),
+    RingEvent::SendLeft(1),
+    RingEvent::Advance(0),
+    RingEvent::Advance(1),
+];
 
 /// `ring_core::replay`: prints the rounds and the registers of both segments after seven events and
 /// after one more.

@@ -1,13 +1,11 @@
-//! Program texts that the tests of several crates use, and their plans; messages of borders, and
-//! events of the segment machine. `CV1`, `LDB`, `ID0` and `RED` are files of the folder `programs/`.
+//! Program texts that the tests of several crates use, and their plans; messages of borders. `CV1`,
+//! `LDB`, `ID0` and `RED` are files of the folder `programs/`.
 #![tactic(auto)]
 
-mod events;
 mod notes;
 mod plans;
 mod texts;
 
-pub use events::EVENTS;
 pub use notes::Note;
 pub use plans::plan_of;
 pub use texts::{CV1, CV1_OF_12, EIGHT_REGISTERS, ID0, LDB, RED, TWO_REGISTERS};
