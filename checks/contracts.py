@@ -147,9 +147,19 @@ def exported(crate):
     modules = set(re.findall(r"^pub mod (\w+);", text, re.MULTILINE))
     names = set()
     for found in re.findall(r"^pub use ([^;]+);", text, re.MULTILINE):
-        module, _, listed = found.partition("::")
-        names |= {(module, name) for name in re.findall(r"\w+", listed)}
+        module, _, listed = found.partition("{") if "{" in found else found.rpartition("::")
+        names |= {(module.removesuffix("::"), name) for name in re.findall(r"\w+", listed)}
     return modules, names
+
+
+def sources(crate):
+    """The source files of a crate, in order."""
+    return sorted((ROOT / f"crates/{crate}/src").rglob("*.rt"))
+
+
+def module_of(crate, path):
+    """The path of the module that a source file of a crate is."""
+    return "::".join(path.relative_to(ROOT / f"crates/{crate}/src").with_suffix("").parts)
 
 
 def is_public(crate, module, name):
@@ -197,7 +207,7 @@ class Call:
     of its contract, each a kind, a name and a text, the type that it returns, and what the imports in its scope bring."""
 
     def __init__(self, path, owner, of_trait, name, header, brought, doc):
-        self.crate, self.owner, self.name, self.brought = path.parent.parent.name, owner, name, brought
+        self.crate, self.owner, self.name, self.brought = path.relative_to(ROOT).parts[1], owner, name, brought
         self.path, self.of_trait, self.doc = path, of_trait, doc
         found = re.split(r"\n\s*((?:requires|ensures)\*?) ?", header)
         self.can_wait = re.search(r"\bWait\b", found[0]) is not None
@@ -218,12 +228,12 @@ class Call:
 def public(crate):
     """The public calls of a crate, and the definitions that the ghost members of its public types and traits cite."""
     calls, members = [], set()
-    files = sorted((ROOT / f"crates/{crate}/src").glob("*.rt"))
-    types = {}
+    files = sources(crate)
+    types = set()
     for path in files:
         for found in re.finditer(r"^pub (?:struct|enum|trait) (\w+)", read(path), re.MULTILINE):
-            if is_public(crate, path.stem, found[1]):
-                types[found[1]] = path.stem
+            if is_public(crate, module_of(crate, path), found[1]):
+                types.add(found[1])
     for path in files:
         text = read(path)
         top = imports(line for line in text.split("\n") if not line.startswith(" "))
@@ -249,7 +259,7 @@ def public(crate):
                     calls.append(Call(path, owner, of_trait, it[3], it[4], brought, doc_before(body, it.start())))
         lone = "\n".join(scope)
         for it in SIGNATURE.finditer(lone):
-            if not it[1] and it[2] and is_public(crate, path.stem, it[3]):
+            if not it[1] and it[2] and is_public(crate, module_of(crate, path), it[3]):
                 calls.append(Call(path, None, None, it[3], it[4], top, doc_before(lone, it.start())))
     return calls, members
 
@@ -268,10 +278,10 @@ class Type:
 def public_types(crate):
     """The public types and traits of a crate."""
     found = []
-    for path in sorted((ROOT / f"crates/{crate}/src").glob("*.rt")):
+    for path in sources(crate):
         text = read(path)
         for it in re.finditer(r"^pub (struct|enum|trait) (\w+)", text, re.MULTILINE):
-            if is_public(crate, path.stem, it[2]):
+            if is_public(crate, module_of(crate, path), it[2]):
                 found.append(Type(path, it[1], it[2], text, it.start()))
     return found
 

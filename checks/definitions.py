@@ -200,7 +200,7 @@ def enums():
     """The variants of each enum of the tree, by its name."""
     found = {}
     for crate in contracts.crate_names():
-        for path in sorted((contracts.ROOT / f"crates/{crate}/src").glob("*.rt")):
+        for path in contracts.sources(crate):
             text = contracts.read(path)
             for it in re.finditer(r"^pub enum (\w+)", text, re.MULTILINE):
                 names = [name for name, _ in contracts.Type(path, "enum", it[1], text, it.start()).variants]
