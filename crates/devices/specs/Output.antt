@@ -2,15 +2,15 @@
 -- The bytes that a writer holds are known or not, as `Some` or `None`.
 use Rattle.std.specs.Prelude.{◌≡◌, ◌↔◌, ℕ, Bool, List, ◌++◌, take, Option, Result, IsErrOf, IsTrue, OnOk, OnErr}
 use Rattle.std.specs.Io.KnownBytes.{Appends, Keeps}
-use Rattle.devices.specs.declared.prefix.Prefix.{Prefix}
+use Rattle.devices.specs.declared.buffered.Buffered.{Buffered}
 use Rattle.devices.specs.declared.fault.EngineFault.{EngineFault}
 use Rattle.devices.specs.declared.fault.OutFault.{OutFault}
 use Rattle.devices.specs.declared.fault.OutFault.TheVariants.{Write, Memory}
 use Rattle.devices.specs.Watched.{FailsByWrites}
 
 -- The bytes of a text in a buffer.
-abbrev pub prefix_text : Prefix → List ℕ
-prefix_text part = take part.len part.buffer.now
+abbrev pub buffered_text : Buffered → List ℕ
+buffered_text text = take text.len text.buffer.now
 
 -- A prefix of the bytes was appended, perhaps an empty one.
 abbrev pub AppendsFront : Option (List ℕ) → Option (List ℕ) → List ℕ → Type 0

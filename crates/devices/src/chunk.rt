@@ -1,12 +1,12 @@
 //! A buffer that collects bytes, so that they are written in large pieces.
 
 ghost use Rattle.std.specs.Prelude.{◌≡◌, ◌+◌, ◌≤◌, ◌++◌, ℕ, List, [], false, length, take, IfOk, OnOk, OnErr};
-ghost use Rattle.devices.specs.Output.{prefix_text, SendsText, SendsSoFar};
+ghost use Rattle.devices.specs.Output.{buffered_text, SendsText, SendsSoFar};
 ghost use Rattle.devices.specs.Watched.{device_of, has_failed};
 
+use crate::buffered::Buffered;
 use crate::fault::EngineFault;
 use crate::output::send;
-use crate::prefix::Prefix;
 use crate::watched::Watched;
 use std::alloc::{AllocError, Global};
 use std::io::Write;
@@ -143,12 +143,12 @@ pub fn write_at(bytes: &mut [u8], start: usize, text: &[u8])
 /// Copies the buffer of a text over the bytes from index `start` on. Returns the index of the end of
 /// the text.
 #[inline(always)]
-pub fn write_prefix(bytes: &mut [u8], start: usize, part: Prefix<'_>) -> usize
-    requires room { start + length part.buffer.now ≤ length bytes.old }
-    ensures end { result ≡ start + part.entry.len }
+pub fn write_buffered(bytes: &mut [u8], start: usize, text: Buffered<'_>) -> usize
+    requires room { start + length text.buffer.now ≤ length bytes.old }
+    ensures end { result ≡ start + text.entry.len }
     ensures len { length bytes.new ≡ length bytes.old }
-    ensures text { take result bytes.new ≡ take start bytes.old ++ prefix_text part.entry }
+    ensures text { take result bytes.new ≡ take start bytes.old ++ buffered_text text.entry }
 {
-    write_at(bytes, start, part.buffer);
-    start + part.len
+    write_at(bytes, start, text.buffer);
+    start + text.len
 }

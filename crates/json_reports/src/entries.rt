@@ -1,12 +1,12 @@
 //! The channels of a table behind its first one.
 
-ghost use Rattle.devices.specs.Output.{prefix_text};
+ghost use Rattle.devices.specs.Output.{buffered_text};
 ghost use Rattle.json_reports.specs.TableTexts.{entry_text};
 ghost use Rattle.std.specs.List.{flat_map};
 ghost use Rattle.std.specs.Prelude.{◌≡◌, ◌+◌, ◌*◌, ◌≤◌, ◌++◌, length, take, drop};
 
-use devices::chunk::{ToBytes, write_prefix};
-use devices::prefix::Prefix;
+use devices::buffered::Buffered;
+use devices::chunk::{ToBytes, write_buffered};
 use itoa::write_digits;
 
 // The maximum length of the text of a channel: a comma and five digits.
@@ -51,11 +51,11 @@ fn store_entry(bytes: &mut [u8], start: usize, entry: u16) -> usize
 {
     let mut cells = [0; ENTRY_LEN + ROOM];
     let first = write_entry(entry, &mut cells);
-    let part = Prefix {
+    let part = Buffered {
         buffer: &cells[first..first + ROOM],
         len: ENTRY_LEN - first,
     };
-    write_prefix(bytes, start, part)
+    write_buffered(bytes, start, part)
 }
 
 // Writes a comma and a channel so that they end at index `ENTRY_LEN`, and returns where they start.

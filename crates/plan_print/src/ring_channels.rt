@@ -8,7 +8,7 @@ ghost use Rattle.table_fill.specs.ProgramTables.{table_of};
 use channel_tables::Table;
 use lang_check::Plan;
 use node_program::OutOfMemory;
-use reports::places::{one_list_of_channels, table_channels};
+use reports::ring_channels::{one_list_of_channels, table_channels};
 use std::alloc::Global;
 use table_fill::table_has_the_channels_of_rounds;
 use win_index::Ring;

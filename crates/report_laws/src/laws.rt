@@ -9,7 +9,7 @@ use lang_check::one_refusal;
 use lower_bound::{nearby_places_need_four, odd_rings_need_three, tables_need_channels};
 use node_lang::{first_fault, one_reading, one_text_fault, printed_is_read_back, reading_is_exact};
 use problem_bounds::{independent_sets_need_rounds, matchings_need_rounds};
-use reports::places::{one_list_of_channels, tables_have_channels};
+use reports::ring_channels::{one_list_of_channels, tables_have_channels};
 use table_fill::{
     program_tables_are_tables, table_has_the_channels_of_rounds, table_has_the_channels_of_windows,
 };

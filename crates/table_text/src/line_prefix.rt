@@ -3,8 +3,8 @@ ghost use Rattle.std.specs.Prelude.{◌≡◌, ◌<◌, ◌≤◌, [], All, leng
 ghost use Rattle.table_text.specs.declared.line_prefix.TheConstants.{PREFIX_LEN, SHORT_LEN};
 
 use crate::piece::Piece;
+use devices::buffered::Buffered;
 use devices::chunk::write_at;
-use devices::part::Part;
 use win_index::MAX_WINDOW_LEN;
 
 // The length of a prefix's buffer: 8 bytes for each identifier of a window except the last.
@@ -29,7 +29,7 @@ impl LinePrefix {
     ghost use Rattle.table_text.specs.TableText.{ids_then};
     ghost use Rattle.table_text.specs.Pieces.{prefix_text, id_text, AreTexts};
     ghost use Rattle.table_text.specs.Prefixes.{HasTexts};
-    ghost use Rattle.devices.specs.Output.{part_text};
+    ghost use Rattle.devices.specs.Output.{buffered_text};
 
     // Returns the prefix of no identifiers.
     pub(crate) fn empty() -> LinePrefix
@@ -43,11 +43,11 @@ impl LinePrefix {
     }
 
     // Returns the text and its buffer.
-    pub(crate) fn part(&self) -> Part<'_>
-        ensures text { part_text result ≡ prefix_text self.now }
+    pub(crate) fn buffered(&self) -> Buffered<'_>
+        ensures text { buffered_text result ≡ prefix_text self.now }
         ensures buffer { length result.buffer.now ≡ PREFIX_LEN }
     {
-        Part {
+        Buffered {
             buffer: &self.bytes,
             len: self.len,
         }

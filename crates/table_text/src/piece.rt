@@ -1,7 +1,7 @@
 //! Short texts in buffers of one length, so that one is stored by one copy.
 ghost use Rattle.std.specs.Prelude.{◌≤◌};
 
-use devices::part::Part;
+use devices::buffered::Buffered;
 
 // A text of at most 8 bytes: the first `len` of the buffer.
 #[derive(Clone, Copy)]
@@ -13,15 +13,15 @@ pub(crate) struct Piece {
 
 impl Piece {
     ghost use Rattle.std.specs.Prelude.{◌≡◌, length};
-    ghost use Rattle.devices.specs.Output.{part_text};
+    ghost use Rattle.devices.specs.Output.{buffered_text};
     ghost use Rattle.table_text.specs.Pieces.{piece_text};
 
     // Returns the text and its buffer.
-    pub(crate) fn part(&self) -> Part<'_>
-        ensures text { part_text result ≡ piece_text self.now }
+    pub(crate) fn buffered(&self) -> Buffered<'_>
+        ensures text { buffered_text result ≡ piece_text self.now }
         ensures buffer { length result.buffer.now ≡ 8 }
     {
-        Part {
+        Buffered {
             buffer: &self.bytes,
             len: self.len,
         }

@@ -2,7 +2,7 @@
 
 ghost use Rattle.std.specs.Prelude.{◌≡◌, ◌+◌, ◌*◌, ◌^◌, ◌<◌, ◌≤◌, [], ◌++◌, length, All};
 ghost use Rattle.devices.specs.declared.chunk.TheConstants.{CHUNK_LEN};
-ghost use Rattle.devices.specs.Output.{part_text};
+ghost use Rattle.devices.specs.Output.{buffered_text};
 ghost use Rattle.win_index.specs.declared.limits.TheConstants.{MAX_ROUNDS, MAX_WINDOWS};
 ghost use Rattle.channel_tables.specs.Tables.{windows_of};
 ghost use Rattle.table_text.specs.declared.sections.TheConstants.{LINES_LEN, LINE_LEN};
@@ -14,8 +14,8 @@ use crate::line_prefix::{PREFIX_LEN, SHORT_LEN};
 use crate::odometer::Odometer;
 use crate::piece::{Piece, Pieces};
 use channel_tables::Table;
-use devices::chunk::{Chunk, ToBytes, write_part};
-use devices::part::Part;
+use devices::buffered::Buffered;
+use devices::chunk::{Chunk, ToBytes, write_buffered};
 
 /// The space for a line: a prefix, the piece of an identifier and that of a channel.
 pub(crate) const LINE_LEN: usize = PREFIX_LEN + 16;
@@ -159,7 +159,7 @@ impl Lines<'_> {
         let pieces = self.pieces;
         if prefix.len <= SHORT_LEN {
             let start = prefix.start();
-            let prefix = Part {
+            let prefix = Buffered {
                 buffer: &start,
                 len: prefix.len,
             };
@@ -170,7 +170,7 @@ impl Lines<'_> {
                 last_ids,
             });
         } else {
-            let prefix = prefix.part();
+            let prefix = prefix.buffered();
             chunk.push_stored(&RunLines {
                 pieces,
                 channels,
@@ -186,7 +186,7 @@ impl Lines<'_> {
 struct RunLines<'t, 'o, 'p> {
     pieces: &'t Pieces,
     channels: &'t [u16],
-    prefix: Part<'p>,
+    prefix: Buffered<'p>,
     last_ids: &'o [u32],
     ghost buffer: { length prefix.buffer.now ≤ PREFIX_LEN },
     ghost texts: { AreTexts id_text pieces.now.ids.items × AreTexts channel_text pieces.now.channels.items },
@@ -196,11 +196,11 @@ struct RunLines<'t, 'o, 'p> {
 }
 
 impl ToBytes for RunLines<'_, '_, '_> {
-    ghost text = { λ lines. run_lines (part_text lines.prefix) lines.last_ids.now lines.channels.now };
+    ghost text = { λ lines. run_lines (buffered_text lines.prefix) lines.last_ids.now lines.channels.now };
 
-    ghost most = { λ lines. length lines.channels.now * (length (part_text lines.prefix) + 16) };
+    ghost most = { λ lines. length lines.channels.now * (length (buffered_text lines.prefix) + 16) };
 
-    ghost room = { λ lines. length lines.channels.now * (length (part_text lines.prefix) + 16) + LINE_LEN };
+    ghost room = { λ lines. length lines.channels.now * (length (buffered_text lines.prefix) + 16) + LINE_LEN };
 
     // A piece is read right before it is written, so that few registers are needed.
     #[inline(always)]
@@ -209,11 +209,11 @@ impl ToBytes for RunLines<'_, '_, '_> {
         let ends: &[Piece] = &self.pieces.channels;
         let mut end = start;
         for index in 0..self.channels.len() {
-            end = write_part(bytes, end, self.prefix);
+            end = write_buffered(bytes, end, self.prefix);
             let last = ids[self.last_ids[index] as usize];
-            end = write_part(bytes, end, last.part());
+            end = write_buffered(bytes, end, last.buffered());
             let channel = ends[self.channels[index] as usize];
-            end = write_part(bytes, end, channel.part());
+            end = write_buffered(bytes, end, channel.buffered());
         }
         end
     }

@@ -17,6 +17,6 @@ part_is first cells text rest ends is =
 pub returns-clause-text : goal.returns-clause-text
 returns-clause-text c =
     let first = c.write_entry-first in
-    c.write_prefix.ensures.text
+    c.write_buffered.ensures.text
     ∙ ap (λ l. take c.args.start c.args.bytes.now ++ l)
     (part_is first.result first.new.cells (entry_text c.args.entry) _ first.ensures.start first.ensures.text)

@@ -34,7 +34,7 @@ push_stored-requires-else-prefix-le-SHORT_LEN c =
       arith,
       c.requires.room,
       fit c.args.self.table.now c.args.odometer.now c.args.first c.args.count _ c.entries.result.now c.requires.run.shows
-          c.part-prefix.ensures.text,
+          c.buffered-prefix.ensures.text,
     )
 
 pub returns-then-prefix-le-SHORT_LEN-clause-lines : goal.returns-then-prefix-le-SHORT_LEN-clause-lines
@@ -49,7 +49,7 @@ returns-else-prefix-le-SHORT_LEN-clause-lines c =
     c.push_stored-else-prefix-le-SHORT_LEN.ensures.text
     ∙ ap (λ l. c.args.chunk.now ++ l)
     (stored c.args.self.table.now c.args.odometer.now c.args.first c.args.count _ _ _ _ c.requires.run
-    c.part-prefix.ensures.text c.last_ids-last_ids.ensures.ids c.entries.ensures.value (omega arith))
+    c.buffered-prefix.ensures.text c.last_ids-last_ids.ensures.ids c.entries.ensures.value (omega arith))
 
 pub returns-else-prefix-le-SHORT_LEN-clause-filled : goal.returns-else-prefix-le-SHORT_LEN-clause-filled
 returns-else-prefix-le-SHORT_LEN-clause-filled c =
@@ -57,5 +57,5 @@ returns-else-prefix-le-SHORT_LEN-clause-filled c =
       arith,
       c.push_stored-else-prefix-le-SHORT_LEN.ensures.few,
       fit c.args.self.table.now c.args.odometer.now c.args.first c.args.count _ c.entries.result.now c.requires.run.shows
-          c.part-prefix.ensures.text,
+          c.buffered-prefix.ensures.text,
     )

@@ -1,6 +1,6 @@
 use Rattle.std.proofs.Common.{◌≡◌, ℕ, ◌<◌, List, ◌++◌, length, length-take, take, get_or, ap, sym, ◌∙◌, arith}
 use Rattle.std.proofs.Common.{rules, append_assoc}
-use Rattle.devices.specs.Output.{part_text}
+use Rattle.devices.specs.Output.{buffered_text}
 use Rattle.table_text.specs.Pieces.{piece_text, id_text, channel_text, AreTexts}
 use Rattle.table_text.specs.Sections.{run_lines}
 use Rattle.table_text.proofs.PieceTexts.{piece_at}
@@ -14,7 +14,7 @@ regroup a b c d e = simp append_assoc
 pub loop-index-preserved : goal.loop-index-preserved
 loop-index-preserved c =
     let lines = c.args.self.now in
-    let prefix = part_text lines.prefix in
+    let prefix = buffered_text lines.prefix in
     let j = c.loop-index.index in
     let inv = c.loop-index.invariant in
     let last_ids = lines.last_ids.now in
@@ -22,15 +22,15 @@ loop-index-preserved c =
     let within : j < length channels = c.loop-index-test.true in
     let ids : AreTexts id_text c.deref-ids.result.now = search rules in
     let ends : AreTexts channel_text c.deref-ends.result.now = search rules in
-    let last : part_text c.part.result ≡ id_text (get_or last_ids j 0) =
-    c.part.ensures.text ∙ ap piece_text c.index-ids-self.is
+    let last : buffered_text c.buffered.result ≡ id_text (get_or last_ids j 0) =
+    c.buffered.ensures.text ∙ ap piece_text c.index-ids-self.is
     ∙ piece_at id_text c.deref-ids.result.now (get_or last_ids j 0) _ ids (search rules) in
-    let end : part_text c.part-in-loop-index.result ≡ channel_text (get_or channels j 0) =
-    c.part-in-loop-index.ensures.text ∙ ap piece_text c.index-ends-self.is
+    let end : buffered_text c.buffered-in-loop-index.result ≡ channel_text (get_or channels j 0) =
+    c.buffered-in-loop-index.ensures.text ∙ ap piece_text c.index-ends-self.is
     ∙ piece_at channel_text c.deref-ends.result.now (get_or channels j 0) _ ends (search rules) in
-    let first = c.write_part-end.ensures in
-    let second = c.write_part-end-in-loop-index.ensures in
-    let third = c.write_part-end-in-loop-index-2.ensures in
+    let first = c.write_buffered-end.ensures in
+    let second = c.write_buffered-end-in-loop-index.ensures in
+    let third = c.write_buffered-end-in-loop-index-2.ensures in
     record {
       from = omega (arith, inv.from, first.end, second.end, third.end);
       few = omega (

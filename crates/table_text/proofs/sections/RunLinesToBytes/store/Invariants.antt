@@ -1,5 +1,5 @@
 use Rattle.std.proofs.Common.{◌≡◌, ◌+◌, ◌*◌, ◌≤◌, ◌++◌, length, take}
-use Rattle.devices.specs.Output.{part_text}
+use Rattle.devices.specs.Output.{buffered_text}
 use Rattle.table_text.specs.Sections.{run_lines}
 use Rattle.table_text.proofs.sections.RunLinesToBytes.store.Given as goal
 
@@ -8,8 +8,8 @@ abbrev pub invariant-loop-index : goal.invariant-loop-index
 invariant-loop-index l =
     record {
       from : l.fn.start ≤ l.end;
-      few : l.end ≤ l.fn.start + l.index * (length (part_text l.self.prefix) + 16);
+      few : l.end ≤ l.fn.start + l.index * (length (buffered_text l.self.prefix) + 16);
       stored : take l.end l.bytes
           ≡ take l.fn.start l.initial.bytes
-          ++ run_lines (part_text l.self.prefix) (take l.index l.self.last_ids.now) (take l.index l.self.channels.now);
+          ++ run_lines (buffered_text l.self.prefix) (take l.index l.self.last_ids.now) (take l.index l.self.channels.now);
     }
