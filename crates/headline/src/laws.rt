@@ -1,4 +1,4 @@
-//! The laws of this crate.
+//! Laws of tables: that of a program solves what the program does, and channels are apart on rings where the table's are.
 
 ghost use Rattle.headline.specs.Laws as law;
 

@@ -1,4 +1,4 @@
-//! The law on which counts rest.
+//! The law of inclusion and exclusion, on which counts rest.
 ghost use Rattle.nbhd_check.specs.Pairs.{PairsThatAvoidTwo};
 
 /// Inclusion and exclusion: the number of pairs of a class that hold neither of two elements is

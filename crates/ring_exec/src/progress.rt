@@ -1,4 +1,4 @@
-//! How far a run is.
+//! The segments of a run that wait for their start, the threads of the others, and the outcomes.
 ghost use Rattle.std.specs.Prelude.{◌≡◌, ◌+◌, ◌≤◌, All, Ok, Err, IfSome, MatchOption, vec_len, vec_capacity};
 ghost use Rattle.ring_exec.specs.Outcomes.{AreInOrder};
 ghost use Rattle.border_exchange.specs.declared.segment.limits.TheConstants.{MAX_SEGMENTS};

@@ -1,4 +1,4 @@
-//! What threads can meet.
+//! Why a thread of a fill or of a run stops.
 ghost use Rattle.std.specs.Prelude.{◌≡◌};
 ghost use Rattle.round_eval.specs.declared.fault.WorkFault.TheVariants.{OutOfMemory as NoMemory};
 

@@ -1,4 +1,4 @@
-//! Checks a text line by line.
+//! Refutations: texts that are checked line by line.
 ghost use Rattle.std.specs.Prelude.{◌≡◌, ℕ, List, IfOk, IfErr, OnOk, OnErr};
 ghost use Rattle.table_formula.specs.Problems.{IsImpossible};
 ghost use Rattle.table_formula.specs.Derivations.{adds_empty};

@@ -1,4 +1,4 @@
-//! What the hints of a step show.
+//! Unit propagation along the hints of a step.
 ghost use Rattle.std.specs.Prelude.{◌≡◌, ◌≤◌, length, if◌then◌else◌};
 ghost use Rattle.table_formula.specs.Hints.{outcome_of};
 ghost use Rattle.table_formula.specs.Marked.{is_marked, variables_of};

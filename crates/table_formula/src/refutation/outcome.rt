@@ -1,4 +1,4 @@
-//! What the hints of a step show.
+//! The outcome of unit propagation along the hints of a step.
 
 /// What the hints of a step show.
 #[derive(Clone, Copy, Debug, PartialEq, Eq)]
