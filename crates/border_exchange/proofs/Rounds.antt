@@ -8,10 +8,6 @@ use Rattle.border_exchange.specs.declared.Side.{Side}
 use Rattle.border_exchange.specs.InRounds.{AreInRounds}
 
 module _ {M : Type 0} (side_of : M → Side) (round_of : M → ℕ) (side : Side) where
-  -- no messages are in rounds
-  pub rounds_none : AreInRounds side_of round_of side []
-  rounds_none = record { at = λ k m e. absurd (let low : k < 0 = slice_get_within [] k m e in omega arith) }
-
   -- a message of the next round keeps the list in rounds
   pub rounds_snoc : (xs : List M) (m : M) → AreInRounds side_of round_of side xs → side_of m ≡ side
       → round_of m ≡ length xs → AreInRounds side_of round_of side (xs ++ m ∷ [])

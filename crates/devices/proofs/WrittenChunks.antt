@@ -26,11 +26,6 @@ pub tells_all : (a b c : Option (List ℕ)) (waiting text : List ℕ) → IsWrit
     → Appends b c waiting → Appends a c text
 tells_all a b c waiting text told sent = subst (Appends a c) told.2 (Appends-trans a b c told.0 waiting told.1 sent)
 
--- they are written, and the chunk is empty
-pub tells_sent : (a b c : Option (List ℕ)) (waiting text : List ℕ) → IsWrittenSoFar a b waiting text
-    → Appends b c waiting → IsWrittenSoFar a c [] text
-tells_sent a b c waiting text told sent = (text, tells_all a b c waiting text told sent, append-nil text)
-
 -- of those that wait, some are written
 pub tells_moved : (a b c : Option (List ℕ)) (waiting left text : List ℕ) → IsWrittenSoFar a b waiting text
     → IsWrittenSoFar b c left waiting → IsWrittenSoFar a c left text

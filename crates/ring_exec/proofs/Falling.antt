@@ -66,11 +66,6 @@ one_joined before now after all left (Ok s) added index so_far none =
     }
 one_joined before now after all left (Err f) added index so_far none = let fault = added.0 in cc
 
-pub all_joined : (before after : Joined) (all : ℕ) → AreJoined before all 0 after → AreMore before all after
-all_joined before after all joined =
-    let count : length joined.more ≡ all = omega (arith, joined.count) in
-    record { no_fault = joined.no_fault; more = joined.more; items = joined.items; count_is = count; falling = rw count joined.falling }
-
 falling_after : (s : RingSegment) (more : List RingSegment) → s.index ≡ length more → AreFalling more
     → AreFalling (s ∷ more)
 falling_after s more index falling zero t is =

@@ -92,10 +92,3 @@ in_range n c lt =
     in_of_get (range_with_len 0 n) c c
     (slice_get-get_or (range_with_len 0 n) c 0 (omega (arith, length-range_with_len 0 n))
     ∙ ap Some (get_or-range_with_len 0 n c 0 lt ∙ zero-add c))
-
-pub range_in : (n c : ℕ) → IsIn c (range_with_len 0 n) → c < n
-range_in n c h =
-    let place = get_of_in (range_with_len 0 n) c h in
-    let within = slice_get_within (range_with_len 0 n) place.0 c place.1 in
-    let lt : place.0 < n = omega (arith, length-range_with_len 0 n) in
-    omega (arith, get_or_from_slice_get (range_with_len 0 n) place.0 c 0 place.1, get_or-range_with_len 0 n place.0 0 lt)

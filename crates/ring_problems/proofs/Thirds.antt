@@ -29,9 +29,6 @@ front_window k m pair is =
     subst (λ n. IsWindow n m (take (length pair - 2) (drop 2 pair))) few
     (slice_window m (k + 1 + 1) 2 (length pair - 2) pair is (omega arith))
 
-pub whole_front : (pair : List ℕ) → take (length pair - 2) (drop 2 pair) ≡ drop 2 pair
-whole_front pair = take_all (length pair - 2) (drop 2 pair) (omega (arith, length-drop 2 pair))
-
 -- the place of the third window of a tuple
 pub record HasThird (t : ChannelTable) (thirds : Thirds) (tuple : List ℕ) : Type 0 where
   pub place : ℕ

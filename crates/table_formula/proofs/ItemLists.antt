@@ -9,11 +9,6 @@ module _ {X : Type 0} where
   abbrev pub with_items : List X → Option (List X × List (List ℕ)) → Option (List X × List (List ℕ))
   with_items items others = option_map (λ r. (items ++ r.0, r.1)) others
 
-  item_then : (items : List X) (item : X) (others : Option (List X × List (List ℕ)))
-      → with_items items (with_item (Some item) others) ≡ with_items (items ++ item ∷ []) others
-  item_then items item None = refl
-  item_then items item (Some others) = ap (λ all. Some (all, others.1)) (sym (append_assoc items (item ∷ []) others.0))
-
   module _ (item_in : List ℕ → Option X) (items : List X) (word : List ℕ) (words : List (List ℕ)) where
     -- what a word does
     word_is : (b : Bool) (o : Option X) → is_end word ≡ b → item_in word ≡ o
@@ -24,11 +19,3 @@ module _ {X : Type 0} where
 
     pub at_end : is_end word ≡ true → with_items items (list_in item_in (word ∷ words)) ≡ Some (items, words)
     at_end end = word_is true (item_in word) end refl ∙ ap (λ all. Some (all, words)) (append-nil items)
-
-    pub at_item : (item : X) → is_end word ≡ false → item_in word ≡ Some item
-        → with_items items (list_in item_in (word ∷ words)) ≡ with_items (items ++ item ∷ []) (list_in item_in words)
-    at_item item end is = word_is false (Some item) end is ∙ item_then items item (list_in item_in words)
-
-    pub at_no_item : is_end word ≡ false → item_in word ≡ None
-        → with_items items (list_in item_in (word ∷ words)) ≡ None
-    at_no_item end is = word_is false None end is

@@ -65,18 +65,6 @@ dropped_at first j n xs x here is =
     slice_get-get_or (drop first xs) j x (omega (arith, length-drop first xs, slice_get_within xs n x is, here))
     ∙ ap Some (get_or-drop first xs j x ∙ ap (λ k. get_or xs k x) here ∙ get_or_from_slice_get xs n x x is)
 
--- one more line of a section
-pub line_more : (t : ChannelTable) (first n channel : ℕ) (window : List ℕ) → first ≤ n → n < length t.entries →
-    slice_get (windows_of t) n ≡ Some window → channel ≡ get_or t.entries n 0
-    → lines_from t first (n + 1 - first) ≡ lines_from t first (n - first) ++ entry_then window channel []
-line_more t first n channel window le lt at_window is =
-    let j : ℕ = n - first in
-    let here : first + j ≡ n = omega arith in
-    let next : n + 1 - first ≡ suc j = omega arith in
-    let at_w = dropped_at first j n (windows_of t) window here at_window in
-    let at_c = dropped_at first j n t.entries channel here (slice_get-get_or t.entries n 0 lt ∙ ap Some (sym is)) in
-    ap (lines_from t first) next ∙ entries_more j _ _ window channel at_w at_c
-
 -- the lines of the first entries, followed by those of the others
 entries_split :
     (n : ℕ) (ws : List (List ℕ)) (cs rest : List ℕ) → length cs ≤ length ws
@@ -113,13 +101,6 @@ lines_front t s n enough =
           ∙ ap (head_then (written Two t s)) (sym (entries_split n (windows_of t) t.entries (end_then []) enough)),
     )
 
--- a section begins before the last window
-pub section_within : (section size count : ℕ) → 0 < size → section < div_ceil count size → section * size < count
-section_within section size count some lt =
-    let le : section + 1 ≤ div_ceil count size = omega (arith, lt) in
-    let turned : (section + 1) * size ≡ section * size + size = rw add-one (suc-mul section size) in
-    omega (arith, (div_ceil_times count size some).1, mul-le-mul_right size le, turned)
-
 -- all sections have all windows
 pub sections_all : (section size count : ℕ) → 0 < size → div_ceil count size ≤ section → count ≤ section * size
 sections_all section size count some le =
@@ -145,12 +126,6 @@ lines_join t first n k enough =
 none_left : (cs : List ℕ) → entries_then [] cs [] ≡ []
 none_left [] = refl
 none_left (c ∷ cs) = refl
-
--- no lines are left behind the last window
-pub lines_past : (t : ChannelTable) (first n : ℕ) → length (windows_of t) ≤ first → lines_from t first n ≡ []
-lines_past t first n none =
-    ap (λ ws. entries_then ws (take n (drop first t.entries)) []) (drop_all first (windows_of t) none)
-    ∙ none_left (take n (drop first t.entries))
 
 -- the chunks of sections, one after another, have the lines of all of them
 pub filled_lines : (t : ChannelTable) (first size : ℕ) (chunks : List (List ℕ)) →

@@ -26,9 +26,6 @@ full t lines is = subst (λ u. length u.entries ≡ length (windows_of u)) is li
 le_same : {a b : ℕ} → a ≡ b → a ≤ b
 le_same same = omega arith
 
-room_left : (filled : ℕ) → filled + LINE_LEN ≤ CHUNK_LEN → filled + 8 ≤ CHUNK_LEN
-room_left filled fits = omega arith
-
 -- Of no section there are the first two lines.
 none_told : (t : ChannelTable) (s : Separation) (size : ℕ) → head_then (written Two t s) []
     ≡ lines_then (written Two (record t { entries = take (0 * size) t.entries }) s) []
