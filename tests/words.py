@@ -96,7 +96,7 @@ BAD_PATTERNS = [
     *((text, MANY_ENTRIES) for text in ["0,0,0,0", "*,*,*,*", ",,,", "a,b,c,d", "1,2,3,"]),
     *((text, NO_ENTRY) for text in ["", ",", "1,", ",1", "1,,1", "0,0,", "1,,a"]),
     *((text, BLANK) for text in [" ", "1, 1", " 1", "1 ", "1 1", "* ", "0,1 ,a", "1, *"]),
-    *((text, NO_CHANNEL) for text in ["a", "mis", "1,a", "+1", "-1", "1,-1", "**", "1*", "*1", "0x1", "1.0", "1;1", "?", "_", "a,4294967296"]),
+    *((text, NO_CHANNEL) for text in ["a", "mis", "1,a", "+1", "1,-1", "**", "1*", "*1", "0x1", "1.0", "1;1", "?", "_", "a,4294967296"]),
     *((text, LARGE_CHANNEL) for text in ["4294967296", "0,4294967296", "1,00004294967296", "9" * 40, "4294967296,a"]),
 ]
 
@@ -136,6 +136,7 @@ def mended_judge(text):
 
 BAD_DEMANDS = [
     *((["judge", "--ids", "8", f"--forbid={text}"], bad_pattern(text, cause, mended_judge(text))) for text, cause in BAD_PATTERNS),
+    (["judge", "--ids", "8", "--forbid=-1"], bad_pattern("-1", NO_CHANNEL) + "nbhd: numbers are written in digits, without a sign\n"),
     # the first value that is no pattern counts
     (["judge", "--ids", "8", "--forbid", "1,1", "--forbid", "1,,1", "--forbid", "a"], bad_pattern("1,,1", NO_ENTRY)),
     (["judge", "--ids", "8", "--forbid", "a", "--forbid=1,,1"], bad_pattern("a", NO_CHANNEL)),
@@ -189,11 +190,9 @@ ADVICE = r"""\
   judge --ids = 8 => judge --ids 8
   judge --ids 8 --near =2,1 => judge --ids 8 --near 2 --far 1
   judge --ids 8 --forbid 1 1 => judge --ids 8 --forbid 1,1
-  judge --ids 8 --forbid 1,1 0,0,0 => judge --ids 8 --forbid 1,1 --forbid 0,0,0
   judge --ids 8 -problem mis => judge --ids 8 --problem mis
   judge --Near=2 --ids 8 => judge --near 2 --ids 8
   print --FORMAT json => print --format json
-  print --format:json => print --format json
   print format json => print --format json
   RUN --ids 8 --ring 5,1,3,7 => run --ids 8 --ring 5,1,3,7
   check 8 => check --ids 8
@@ -203,12 +202,9 @@ ADVICE = r"""\
   judge --ids 8 \ =>
   table --ids 8 [--workers 4] => table --ids 8 --workers 4
   --judge --ids 8 => judge --ids 8
-  --check=8 --ids 8 => check --ids 8
   audit --strict =>
   chek --ids 8 =>
   table --ids 8 --worker 1 => table --ids 8 --workers 1
-`--ids` takes the number of identifiers; a ring is given by `--ring`
-  run --ids 5,1,3,7 =>
 numbers are written in digits, without a sign
   check --ids -8 => check --ids 8
   run --ids 8 --ring -1,2,3,4 =>
@@ -217,6 +213,7 @@ a text is read from standard input
   judge cv1.txt --ids 8 => judge --ids 8 < cv1.txt
   judge --file=cv1.txt =>
 `--ids` takes a number in digits
+  run --ids 5,1,3,7 =>
   judge --ids 1.5 =>
   judge --ids eight =>
   judge --ids=eight =>
@@ -243,7 +240,6 @@ the number of identifiers is given by `--ids`
   run --ids 8 --ring 5,1,3,7 --segments two =>
 `nbhd formula` reads no file
   formula --ids 3 --rounds 0 --channels 2 out.cnf => formula --ids 3 --rounds 0 --channels 2
-  formula --ids 3 --rounds 0 --channels 2 out => formula --ids 3 --rounds 0 --channels 2
 the number of threads is given by `--workers`, of `table`, `judge` and `plan`
   judge --ids 8 -w 4 => judge --ids 8 --workers 4
   judge --ids 8 -j 4 => judge --ids 8 --workers 4
@@ -257,8 +253,6 @@ L(2,1) is `--near 2 --far 1`
 numbers are printed in another base by `--base`
   trace --ids 8 --ring 5,1,3,7 --bits => trace --ids 8 --ring 5,1,3,7 --base 2
   trace --ids 8 --ring 5,1,3,7 --binary => trace --ids 8 --ring 5,1,3,7 --base 2
-numbers are printed in a base from 2 to 10, by `--base`
-  trace --ids 8 --ring 5,1,3,7 --hex => trace --ids 8 --ring 5,1,3,7
 the node that is explained is given by its place in the ring, as in `--place 0`
   explain --ids 8 --ring 5,1,3,7 --node 0 =>
 the node that is explained is given by its place in the ring
@@ -273,23 +267,18 @@ a report is on the standard output, a note on the standard error; there is no op
 the answer is on the standard output
   table --ids 8 -o out => table --ids 8 > out
   table --ids 8 --output out => table --ids 8 > out
+  formula --ids 3 --rounds 0 --channels 2 out => formula --ids 3 --rounds 0 --channels 2 > FILE
 a report is in JSON by `--format json`
   judge --ids 8 --json => judge --ids 8 --format json
   judge --ids 8 --fmt =>
-a report is in lines or in JSON, by `--format lines` or `--format json`
-  judge --ids 8 --yaml => judge --ids 8
-  judge --ids 8 --csv => judge --ids 8
 `nbhd formula` prints DIMACS, which solvers read, and has no other form
   formula --ids 4 --rounds 0 --channels 2 --format json => formula --ids 4 --rounds 0 --channels 2
   formula --ids 4 --rounds 0 --channels 2 --format=lines => formula --ids 4 --rounds 0 --channels 2
-nothing is random; `shuf` makes a random ring
-  run --ids 8 --ring 5,1,3,7 --seed 3 => run --ids 8 --ring 5,1,3,7
 `--workers` is an option of `table`, `judge` and `plan`
   check --ids 8 --workers 2 =>
   audit --workers 4 =>
 `--near` is an option of `table`, `judge`, `formula` and `refute`
   run --ids 8 --ring 5,1,3,7 --near 2 =>
-  print --near:8 =>
 `--ring` is an option of `run`, `trace`, `explain`, `plan` and `apply`
   judge --ids 8 --ring 5,1,3,7 =>
   audit --ring 5,1,3,7 =>
@@ -311,9 +300,6 @@ a problem is given by its name, as in `--problem mis`, or by its patterns, as in
   judge --ids 8 --mis => judge --ids 8 --problem mis
   judge --ids 8 mis => judge --ids 8 --problem mis
   judge --ids 8 --matching => judge --ids 8 --problem matching
-a pattern of channels is forbidden by `--forbid`
-  audit --pattern 1,1 => audit --forbid 1,1
-  audit --forbidden 1,1 => audit --forbid 1,1
 `nbhd check` tells whether a program is accepted for M identifiers
   print --ids 8 => print
 `nbhd run` runs a program on a ring, and `nbhd trace` prints each round
@@ -343,6 +329,9 @@ each number is the value of an option, as in `--ids 8`
 a pattern of channels is given by `--forbid`
   judge --ids 8 1,1 => judge --ids 8 --forbid 1,1
   audit 1,1 => audit --forbid 1,1
+  audit --pattern 1,1 => audit --forbid 1,1
+  audit --forbidden 1,1 => audit --forbid 1,1
+  judge --ids 8 --forbid 1,1 0,0,0 => judge --ids 8 --forbid 1,1 --forbid 0,0,0
 a word is empty, as of a variable without a value
   check --ids 8  => check --ids 8
 one command is given at a time
@@ -350,14 +339,13 @@ one command is given at a time
 `<` and `>` are read by the shell, outside of quotes
   judge --ids 8 < mine => judge --ids 8 < mine
   judge --ids 8 > out.txt => judge --ids 8 > out.txt
-`nbhd migrate` prints a table in the newest version
-  migrate --version 2 => migrate
 `|`, `;` and `&` are read by the shell, outside of quotes
   judge --ids 8 | less => judge --ids 8
   judge --ids 8 || less => judge --ids 8
   judge --ids 8 ; less => judge --ids 8
 `nbhd migrate` writes the newest version only
   migrate --to 1 => migrate
+  migrate --version 2 => migrate
 the number of threads is given by `--workers`
   table --ids 8 --segments 2 => table --ids 8 --workers 2
   judge --ids 8 --segments 2 => judge --ids 8 --workers 2
@@ -433,7 +421,6 @@ NOTED = [
     ("table --ids 8 --workers 4k", ("digit", "number", "integer", "whole")),
     ("judge --ids 8 --L21", "--near", "--far"),
     ("trace --ids 8 --ring 5,1,3,7 --bits 3", "--base"),
-    ("trace --ids 8 --ring 5,1,3,7 --hex", "--base"),
     ("explain --ids 8 --ring 5,1,3,7 --node 1", "--place"),
     ("explain --ids 8 --ring 5,1,3,7 --pos 1", "--place"),
     ("-V", ("--help", "changelog", "no version", "help")),

@@ -22,18 +22,15 @@ macro_rules! details {
     ([$($text:literal),+] $($code:literal $meaning:literal),+) => {
         concat!($($text,)+ "\nExit status:" $(, "\n  ", $code, "  ", $meaning)+)
     };
-    (program: $output:literal, $more:literal; $($code:literal $meaning:literal),+) => {
+    (program: $output:literal, $($more:literal),+; $($code:literal $meaning:literal),+) => {
         details!(["Standard input:  a program text\nStandard output: ", $output, "
 
 M is 2 to 1024 for 0 rounds, 4 to 162 for 1 round, 6 to 23 for 2, 8 to 12 for 3, 10 for 4 rounds.
-", $more] $($code $meaning),+)
+", $($more),+] $($code $meaning),+)
     };
     (ring: $output:literal, $more:literal; $($code:literal $meaning:literal),+) => {
-        details!(["Standard input:  a program text\nStandard output: ", $output, "
-
-M is 2 to 1024 for 0 rounds, 4 to 162 for 1 round, 6 to 23 for 2, 8 to 12 for 3, 10 for 4 rounds.
-The ring has at least 2, 4, 6, 8 or 10 identifiers for 0 to 4 rounds, below M, no two the same.
-", $more] $($code $meaning),+)
+        details!(program: $output, "The ring has at least 2, 4, 6, 8 or 10 identifiers for 0 to 4 rounds, below M, no two the same.
+", $more; $($code $meaning),+)
     };
     (problem: $text:literal; $($code:literal $meaning:literal),+) => {
         details!([$text, "
@@ -48,7 +45,6 @@ A problem is given in one of these two ways, and without --near and --far.
     };
 }
 
-// `check --ids M [--format FORMAT]`
 pub(crate) const CHECK: CommandRow = CommandRow {
     name: "check",
     about: "Tells whether a program is accepted for M identifiers",
@@ -57,7 +53,6 @@ pub(crate) const CHECK: CommandRow = CommandRow {
     options: &[IDS, FORMAT],
 };
 
-// `print [--format FORMAT]`
 const PRINT: CommandRow = CommandRow {
     name: "print",
     about: "Prints a program text in its one printed form",
@@ -70,7 +65,6 @@ The text is only read: `nbhd check` tells whether the program is accepted for M 
     options: &[FORMAT],
 };
 
-// `table --ids M [--workers W] [--near P] [--far Q] [--format FORMAT]`
 const TABLE: CommandRow = CommandRow {
     name: "table",
     about: "Prints the table of a program, one channel per window",
@@ -80,7 +74,6 @@ const TABLE: CommandRow = CommandRow {
     options: &[IDS, WORKERS, NEAR, FAR, FORMAT],
 };
 
-// `judge --ids M [--workers W] [--near P] [--far Q] [--forbid A,B,C].. [--problem NAME] [--format FORMAT]`
 const JUDGE: CommandRow = CommandRow {
     name: "judge",
     about: "Tells whether a program keeps channels far apart, or solves a problem, on every ring",
@@ -96,7 +89,6 @@ they have to differ by 2 or more, and the channels of a node's two neighbours ha
     options: &[IDS, WORKERS, NEAR, FAR, FORBID, PROBLEM, FORMAT],
 };
 
-// `run --ids M --ring A,B,.. [--segments S] [--format FORMAT]`
 const RUN: CommandRow = CommandRow {
     name: "run",
     about: "Runs a program by messages on a ring, and prints the channels",
@@ -106,7 +98,6 @@ const RUN: CommandRow = CommandRow {
     options: &[IDS, RING, SEGMENTS, FORMAT],
 };
 
-// `trace --ids M --ring A,B,.. [--base B] [--format FORMAT]`
 const TRACE: CommandRow = CommandRow {
     name: "trace",
     about: "Runs a program on a ring, and prints what its nodes hold and send in each round",
@@ -124,7 +115,6 @@ In another base than 10 all numbers of a line are as wide as the widest.
     options: &[IDS, RING, BASE, FORMAT],
 };
 
-// `explain --ids M --ring A,B,.. --place P [--base B] [--format FORMAT]`
 const EXPLAIN: CommandRow = CommandRow {
     name: "explain",
     about: "Runs a program on a ring, and prints how one node computes each of its values",
@@ -143,7 +133,6 @@ are as wide as the widest.
     options: &[IDS, RING, PLACE, BASE, FORMAT],
 };
 
-// `plan --ids M --ring A,B,.. [--workers W] [--format FORMAT]`
 const PLAN: CommandRow = CommandRow {
     name: "plan",
     about: "Prints the channels of a ring's places, looked up in the table",
@@ -153,7 +142,6 @@ const PLAN: CommandRow = CommandRow {
     options: &[IDS, RING, WORKERS, FORMAT],
 };
 
-// `audit [--forbid A,B,C].. [--problem NAME] [--format FORMAT]`
 const AUDIT: CommandRow = CommandRow {
     name: "audit",
     about: "Tells whether a table keeps channels far apart, or solves a problem, on every ring",
@@ -169,7 +157,6 @@ are left aside.
     options: &[FORBID, PROBLEM, FORMAT],
 };
 
-// `apply --ring A,B,.. [--format FORMAT]`
 const APPLY: CommandRow = CommandRow {
     name: "apply",
     about: "Prints the channels of a ring's places, looked up in a table text",
@@ -183,7 +170,6 @@ text, no two the same. `nbhd audit` tells whether channels are far enough apart 
     options: &[RING, FORMAT],
 };
 
-// `migrate [--format FORMAT]`
 const MIGRATE: CommandRow = CommandRow {
     name: "migrate",
     about: "Prints a table text of any version in the newest one",
@@ -193,7 +179,6 @@ Standard output: the text of the same table, near and far in version 2, or one l
     options: &[FORMAT],
 };
 
-// `formula --ids M --rounds T --channels C [--near P] [--far Q] [--forbid A,B,C].. [--problem NAME]`
 const FORMULA: CommandRow = CommandRow {
     name: "formula",
     about: "Prints the formula that asks for a table of some size, for a SAT solver",
@@ -209,7 +194,6 @@ has at most 4194304 variables and 16777216 clauses.
     options: &[IDS, ROUNDS, CHANNELS, NEAR, FAR, FORBID, PROBLEM],
 };
 
-// `refute --ids M --rounds T --channels C [--near P] [--far Q] [--forbid A,B,C].. [--problem NAME] [--format FORMAT]`
 const REFUTE: CommandRow = CommandRow {
     name: "refute",
     about: "Checks a solver's refutation: there is no table of this size",

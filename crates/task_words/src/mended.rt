@@ -5,9 +5,10 @@ ghost use Rattle.std.specs.Prelude.{◌≡◌, IfOk, IfSome, bytes_eq, is_ok, ma
 ghost use Rattle.task_words.specs.Mended.{IsMended, IsRequest, is_command_name, is_of_command};
 
 use crate::commands::{COMMANDS, CommandRow};
-use crate::drafts::{Draft, command_in, draft_of, fact_without_command};
-use crate::given::push_given;
-use crate::meanings::{Fact, write_fact};
+use crate::drafts::{Draft, draft_of, is_list};
+use crate::option_rows::{FAR, NEAR, OptionRow, Values};
+use crate::other_names::{Meaning, option_in};
+use crate::pattern_text::are_digits;
 use crate::request::Request;
 use crate::words::{WordsFault, request_of};
 use source_places::write_escaped;
@@ -22,34 +23,9 @@ const MOST_WORDS: usize = 40;
 pub fn mended_words(alloc: Global, words: &[String]) -> Result<Option<Vec<String>>, AllocError>
     ensures { IfOk result (λ found. IfSome found (λ mended. IsMended (map string_bytes words.now) (map string_bytes mended.items))) }
 {
-    match command_in(words) {
-        Some((command, at)) => mended_of(alloc, words, &draft_of(alloc, command, at, words)?),
-        None => Ok(None),
-    }
-}
-
-// Returns the words of a draft of these if they request a task of the same command.
-fn mended_of(
-    alloc: Global,
-    words: &[String],
-    draft: &Draft<'_>,
-) -> Result<Option<Vec<String>>, AllocError>
-    ensures { IfOk result (λ found. IfSome found (λ mended. IsMended (map string_bytes words.now) (map string_bytes mended.items))) }
-{
-    match words_of(alloc, draft)? {
-        Some(mended) => Ok(tried(alloc, words, mended)?),
-        None => Ok(None),
-    }
-}
-
-// Returns these words if they request a task of the same command as others.
-fn tried(
-    alloc: Global,
-    words: &[String],
-    mended: Vec<String>,
-) -> Result<Option<Vec<String>>, AllocError>
-    ensures { IfOk result (λ found. IfSome found (λ mended. IsMended (map string_bytes words.now) (map string_bytes mended.items))) }
-{
+    let Some(mended) = meant_words(alloc, words)? else {
+        return Ok(None);
+    };
     if is_of_command(words, &mended) && is_request(alloc, &mended)? {
         return Ok(Some(mended));
     }
@@ -100,77 +76,145 @@ fn has_name(rows: &[CommandRow], name: &str) -> bool
     rows.iter().any(|row| row.name == name)
 }
 
-// Returns the words of a draft, or `None` if a word of it was not understood, or if they are many.
-fn words_of(alloc: Global, draft: &Draft<'_>) -> Result<Option<Vec<String>>, AllocError> {
-    let mut words = Vec::new(alloc);
-    words.push(String::from_str(alloc, draft.command.name)?)?;
+// Returns the words that were probably meant, if each word was understood, and if they are not many.
+fn meant_words(alloc: Global, words: &[String]) -> Result<Option<Vec<String>>, AllocError> {
+    let draft = draft_of(alloc, words)?;
+    let mut meant = Vec::new(alloc);
+    meant.push(String::from_str(alloc, draft.command.name)?)?;
     let mut is_whole = draft.is_whole;
-    for given in &draft.values {
-        is_whole = push_given(&mut words, given)? && is_whole;
+    for given in &draft.given {
+        if let Some(option) = option_in(draft.command.options, given.meaning.name()) {
+            is_whole = push_given(&mut meant, &option, given.text.as_str().trim())? && is_whole;
+        }
     }
-    if is_whole && words.len() <= MOST_WORDS {
-        return Ok(Some(words));
+    if is_whole && meant.len() <= MOST_WORDS {
+        return Ok(Some(meant));
     }
     Ok(None)
 }
 
-/// Returns the advice on refused words in a line: a fact, and the corrected words, or `None` if there is
-/// neither. Fails if memory was refused.
-pub(crate) fn advice_line(alloc: Global, words: &[String]) -> Result<Option<String>, AllocError> {
-    let Some((command, at)) = command_in(words) else {
-        return fact_line(alloc, fact_without_command(words));
-    };
-    let draft = draft_of(alloc, command, at, words)?;
-    match mended_words(alloc, words)? {
-        Some(mended) => Ok(Some(line_of(alloc, &draft, &mended)?)),
-        None => fact_line(alloc, draft.fact.or(draft.number_fact())),
-    }
-}
-
-// Returns the line on a fact, if there is one.
-fn fact_line(alloc: Global, fact: Option<Fact>) -> Result<Option<String>, AllocError> {
-    let Some(fact) = fact else {
+// Returns the numbers and wildcards of a text, with commas, or `None` if it has others or none.
+fn list_in(alloc: Global, text: &str) -> Result<Option<String>, AllocError> {
+    let mut list = String::new(alloc);
+    if text.contains(',') && text.contains(';') {
         return Ok(None);
+    }
+    for part in text.split(is_separator) {
+        let part = part.trim_end_matches('-');
+        if part != "*" && !are_digits(part) {
+            return Ok(None);
+        }
+        if !part.is_empty() {
+            list.push_str(if list.is_empty() { "" } else { "," })?;
+            list.push_str(part)?;
+        }
+    }
+    Ok(if list.is_empty() { None } else { Some(list) })
+}
+
+// Returns whether a letter stands between or around the parts of a list.
+fn is_separator(letter: char) -> bool {
+    letter.is_control()
+        || matches!(
+            letter,
+            ' ' | ',' | ';' | ':' | '|' | '_' | '>' | '(' | ')' | '{' | '}' | '+'
+        )
+}
+
+// Appends an option and its value to words.
+fn push_option(words: &mut Vec<String>, option: &OptionRow, value: &str) -> Result<(), AllocError> {
+    let alloc = *words.allocator();
+    let name = option.name;
+    words.push(format!(in alloc; "--{name}")?)?;
+    words.push(String::from_str(alloc, value)?)?;
+    Ok(())
+}
+
+// Appends an option with the value that was probably meant, and returns whether it is known.
+fn push_given(words: &mut Vec<String>, option: &OptionRow, text: &str) -> Result<bool, AllocError> {
+    let alloc = *words.allocator();
+    let value = match option.values {
+        Values::Text if !is_list(option.name) => Some(text.to_ascii_lowercase(alloc)?),
+        Values::Text => list_in(alloc, text)?,
+        Values::Numbers(_, _) => list_in(alloc, text.trim_start_matches('-'))?,
     };
-    let mut line = String::from_str(alloc, "nbhd: ")?;
-    write_fact(&mut line, &fact)?;
-    Ok(Some(line))
-}
-
-// Returns the line that tells to write these words in place of those of a draft.
-fn line_of(alloc: Global, draft: &Draft<'_>, mended: &[String]) -> Result<String, AllocError> {
-    let mut line = String::from_str(alloc, "nbhd: ")?;
-    if let Some(fact) = &draft.fact {
-        write_fact(&mut line, fact)?;
-        line.push_str("; ")?;
-    }
-    line.push_str("write `nbhd")?;
-    for word in mended {
-        write_word(&mut line, word.as_str())?;
-    }
-    write_file(&mut line, " < ", draft.input)?;
-    write_file(&mut line, " > ", draft.output)?;
-    line.push('`')?;
-    Ok(line)
-}
-
-// Writes a blank and a word as one writes it for the shell.
-fn write_word(line: &mut String, word: &str) -> Result<(), AllocError> {
-    if word.contains('*') {
-        write!(line, " '{word}'")
-    } else {
-        write!(line, " {word}")
-    }
-}
-
-// Writes the name of a file behind a sign of the shell, if there is one.
-fn write_file(line: &mut String, sign: &str, name: Option<&str>) -> Result<(), AllocError> {
-    let Some(name) = name else {
-        return Ok(());
+    let Some(value) = value else {
+        return Ok(false);
     };
-    line.push_str(sign)?;
-    match name {
-        "" | "-" => line.push_str("FILE"),
-        _ => write_escaped(line, name.as_bytes()),
+    match value.as_str().split_once(',') {
+        // `--near` with two numbers is `--near` and `--far`.
+        Some((near, far)) if option.name == NEAR.name => {
+            push_option(words, &NEAR, near)?;
+            push_option(words, &FAR, far)?;
+        }
+        _ => push_option(words, option, value.as_str())?,
     }
+    Ok(true)
+}
+
+/// Returns the advice on refused words, a fact and the corrected words, which is empty if there is
+/// neither. Fails if memory was refused.
+pub(crate) fn advice_on(alloc: Global, words: &[String]) -> Result<String, AllocError> {
+    let draft = draft_of(alloc, words)?;
+    let mut advice = String::from_str(alloc, draft.fact)?;
+    match mended_words(alloc, words)? {
+        Some(mended) => write_words(&mut advice, &draft, &mended)?,
+        None if advice.is_empty() => write_number_fact(&mut advice, &draft)?,
+        None => {}
+    }
+    if words.iter().any(|word| word.ends_with('\r')) {
+        advice.push_str(if advice.is_empty() { "" } else { "\nnbhd: " })?;
+        advice.push_str(
+            "a word ends with a carriage return: save the script with line feeds alone",
+        )?;
+    }
+    Ok(advice)
+}
+
+// Writes to write these words, behind a fact if there is one.
+fn write_words(out: &mut String, draft: &Draft, words: &[String]) -> Result<(), AllocError> {
+    out.push_str(if out.is_empty() { "" } else { "; " })?;
+    out.push_str("write `nbhd")?;
+    for word in words {
+        let quote = if word.contains('*') { "'" } else { "" };
+        write!(out, " {quote}{word}{quote}")?;
+    }
+    write_files(out, draft)?;
+    out.push('`')
+}
+
+// Writes the names of files behind the signs of the shell.
+fn write_files(out: &mut String, draft: &Draft) -> Result<(), AllocError> {
+    for given in &draft.given {
+        let sign = match given.meaning {
+            Meaning::Input => " < ",
+            Meaning::Output => " > ",
+            _ => continue,
+        };
+        out.push_str(sign)?;
+        match given.text.as_str().trim() {
+            "" | "-" => out.push_str("FILE")?,
+            name => write_escaped(out, name.as_bytes())?,
+        }
+    }
+    Ok(())
+}
+
+// Writes what the first value has to be that has to be a number and is none.
+fn write_number_fact(out: &mut String, draft: &Draft) -> Result<(), AllocError> {
+    for given in &draft.given {
+        let text = given.text.as_str();
+        if let Some(option) = option_in(draft.command.options, given.meaning.name())
+            && let Values::Numbers(low, high) = option.values
+            && !are_digits(text.trim_matches(|letter| matches!(letter, ' ' | ',' | '-')))
+        {
+            let name = option.name;
+            write!(out, "`--{name}` takes a number in digits")?;
+            return match high {
+                u32::MAX => Ok(()),
+                _ => write!(out, ", from {low} to {high}"),
+            };
+        }
+    }
+    Ok(())
 }

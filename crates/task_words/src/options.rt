@@ -64,24 +64,10 @@ impl Call<'_, '_> {
         ensures refused { IfErr result (IsRequestFault self.now.name.now (values_of self.now)) }
     {
         match self.format(alloc) {
-            Ok(format) => self.request_in(alloc, format),
-            Err(fault) => Err(fault),
-        }
-    }
-
-    // Returns the request of the call, in whose words this form of the report is named. Fails as `task`
-    // does.
-    fn request_in(&self, alloc: Global, format: Format) -> Result<Request, WordsFault>
-        requires given { IsCall self.now }
-        requires format { HasFormat (values_of self.now) format }
-        ensures task { IfOk result (λ request. IsTaskFor self.now.name.now (values_of self.now) request.task) }
-        ensures range { IfOk result (λ request. IsInRange request.task) }
-        ensures format { IfOk result (λ request. HasFormat (values_of self.now) request.format) }
-        ensures good { OnOk result (IsGoodCall self.now.name.now (values_of self.now)) }
-        ensures refused { IfErr result (IsRequestFault self.now.name.now (values_of self.now)) }
-    {
-        match self.task(alloc) {
-            Ok(task) => Ok(Request { task, format }),
+            Ok(format) => match self.task(alloc) {
+                Ok(task) => Ok(Request { task, format }),
+                Err(fault) => Err(fault),
+            },
             Err(fault) => Err(fault),
         }
     }
@@ -147,23 +133,13 @@ impl Call<'_, '_> {
             },
             "print" => Task::Print,
             "migrate" => Task::Migrate,
-            "table" => self.table_task(),
+            "table" => Task::Table {
+                ids: self.number(&IDS),
+                workers: self.number(&WORKERS),
+                near: self.number(&NEAR),
+                far: self.number(&FAR),
+            },
             _ => unreachable!(),
-        }
-    }
-
-    // Returns the task of `table`.
-    fn table_task(&self) -> Task
-        requires given { IsCall self.now }
-        requires named { self.now.name.now ≡ codes "table" }
-        ensures task { IsTaskFor self.now.name.now (values_of self.now) result }
-        ensures range { IsInRange result }
-    {
-        Task::Table {
-            ids: self.number(&IDS),
-            workers: self.number(&WORKERS),
-            near: self.number(&NEAR),
-            far: self.number(&FAR),
         }
     }
 
@@ -179,29 +155,14 @@ impl Call<'_, '_> {
     {
         let problem = problem_of(alloc, self.options)?;
         Ok(match self.name {
-            "judge" => self.judge_task(problem),
+            "judge" => Task::Judge {
+                ids: self.number(&IDS),
+                workers: self.number(&WORKERS),
+                demand: self.demand(problem),
+            },
             "audit" => Task::Audit { problem },
             _ => self.formula_task(problem),
         })
-    }
-
-    // Returns the task of `judge` with this problem.
-    fn judge_task(&self, problem: Option<Problem>) -> Task
-        requires given { IsCall self.now }
-        requires named { self.now.name.now ≡ codes "judge" }
-        requires problem { IsProblemIn (values_of self.now) problem }
-        requires few { IfSome problem HasFewPatterns }
-        ensures task { IsTaskFor self.now.name.now (values_of self.now) result }
-        ensures range { IsInRange result }
-    {
-        let ids = self.number(&IDS);
-        let workers = self.number(&WORKERS);
-        let demand = self.demand(problem);
-        Task::Judge {
-            ids,
-            workers,
-            demand,
-        }
     }
 
     // Returns the task of `formula` or `refute` with this problem.
@@ -244,21 +205,11 @@ impl Call<'_, '_> {
     {
         match problem {
             Some(problem) => Demand::Solve(problem),
-            None => Demand::Apart(self.separation()),
+            None => Demand::Apart(Separation {
+                near: self.number(&NEAR),
+                far: self.number(&FAR),
+            }),
         }
-    }
-
-    // Returns the minimum differences of channels by `--near` and `--far`.
-    fn separation(&self) -> Separation
-        requires given { IsCall self.now }
-        requires named { IsSeparationName self.now.name.now }
-        ensures near { HasNumber (values_of self.now) (codes "near") result.near }
-        ensures far { HasNumber (values_of self.now) (codes "far") result.far }
-        ensures range { IsNear result.near × IsFar result.far }
-    {
-        let near = self.number(&NEAR);
-        let far = self.number(&FAR);
-        Separation { near, far }
     }
 
     // Returns the task of a command on a ring. Fails with `BadRing` if the value of `--ring` is not a
@@ -286,52 +237,28 @@ impl Call<'_, '_> {
         ensures range { IsInRange result }
     {
         match self.name {
-            "run" | "plan" => self.run_task(ring),
-            "trace" | "explain" => self.shown_task(ring),
-            _ => Task::Apply { ring },
-        }
-    }
-
-    // Returns the task of `run` or `plan` on this ring.
-    fn run_task(&self, ring: Vec<u32>) -> Task
-        requires given { IsCall self.now }
-        requires named { (self.now.name.now ≡ codes "run") ⊎ (self.now.name.now ≡ codes "plan") }
-        requires ring { HasRing (values_of self.now) ring.items }
-        ensures task { IsTaskFor self.now.name.now (values_of self.now) result }
-        ensures range { IsInRange result }
-    {
-        let ids = self.number(&IDS);
-        if self.name == "run" {
-            let segments = self.number(&SEGMENTS);
-            return Task::Run {
-                ids,
+            "run" => Task::Run {
+                ids: self.number(&IDS),
                 ring,
-                segments,
-            };
-        }
-        let workers = self.number(&WORKERS);
-        Task::Plan { ids, ring, workers }
-    }
-
-    // Returns the task of `trace` or `explain` on this ring.
-    fn shown_task(&self, ring: Vec<u32>) -> Task
-        requires given { IsCall self.now }
-        requires named { (self.now.name.now ≡ codes "trace") ⊎ (self.now.name.now ≡ codes "explain") }
-        requires ring { HasRing (values_of self.now) ring.items }
-        ensures task { IsTaskFor self.now.name.now (values_of self.now) result }
-        ensures range { IsInRange result }
-    {
-        let ids = self.number(&IDS);
-        let base = Base::of(self.number(&BASE));
-        if self.name == "trace" {
-            return Task::Trace { ids, ring, base };
-        }
-        let place = self.number(&PLACE);
-        Task::Explain {
-            ids,
-            ring,
-            place,
-            base,
+                segments: self.number(&SEGMENTS),
+            },
+            "plan" => Task::Plan {
+                ids: self.number(&IDS),
+                ring,
+                workers: self.number(&WORKERS),
+            },
+            "trace" => Task::Trace {
+                ids: self.number(&IDS),
+                ring,
+                base: Base::of(self.number(&BASE)),
+            },
+            "explain" => Task::Explain {
+                ids: self.number(&IDS),
+                ring,
+                place: self.number(&PLACE),
+                base: Base::of(self.number(&BASE)),
+            },
+            _ => Task::Apply { ring },
         }
     }
 

@@ -1,119 +1,174 @@
 //! Names that other programs have for commands and options, and what they mean here, in rows.
 
-/// What a name in place of an option stands for.
+use crate::commands::{COMMANDS, CommandRow};
+use crate::option_rows::OptionRow;
+
+/// What a name means.
 #[derive(Clone, Copy)]
 pub(crate) enum Meaning {
-    /// This option, with this value if it is not empty.
+    /// The option of this name, with this value if it is not empty.
     Option(&'static str, &'static str),
+    /// The command of this name.
+    Command(&'static str),
     /// The file from which the text is read.
     Input,
     /// The file to which the report is written.
     Output,
-    /// Nothing: it is left out.
+    /// Nothing: it is left out, with its value.
     Nothing,
+    /// Nothing, and neither do the words behind it.
+    End,
 }
 
-/// Names in place of an option, without minus signs and in small letters, the commands at which they count (none if at
-/// each), what they mean, and a fact, which can be empty.
+impl Meaning {
+    /// Returns the name of the option or of the command, or `<file>` for one that is read.
+    pub(crate) fn name(&self) -> &'static str {
+        match self {
+            Meaning::Option(name, _) | Meaning::Command(name) => name,
+            Meaning::Input => "<file>",
+            _ => "",
+        }
+    }
+}
+
+/// What a name means, and a fact, which can be empty.
 #[derive(Clone, Copy)]
-pub(crate) struct OtherName {
-    pub(crate) names: &'static [&'static str],
-    pub(crate) commands: &'static [&'static str],
+pub(crate) struct Meant {
     pub(crate) meaning: Meaning,
     pub(crate) fact: &'static str,
 }
 
-/// Names in place of a command, in small letters, the command that is meant (empty if none is), and a fact.
-#[derive(Clone, Copy)]
-pub(crate) struct OtherCommand {
-    pub(crate) names: &'static [&'static str],
-    pub(crate) command: &'static str,
-    pub(crate) fact: &'static str,
+// Names with blanks between them, without minus signs and in small letters, the commands at which they count (none if at each),
+// and what they mean. A word without a name counts as `<number>`, for example.
+struct OtherName {
+    names: &'static str,
+    commands: &'static str,
+    meant: Meant,
 }
 
-// Rows of names in place of options.
-macro_rules! options {
-    ($([$($name:literal)+] $(at [$($command:literal)+])? => $meaning:expr, $fact:expr;)+) => {
-        [$(OtherName { names: &[$($name),+], commands: &[$($($command),+)?], meaning: $meaning, fact: $fact }),+]
+// Rows of names.
+macro_rules! names {
+    ($($names:literal $(at $commands:literal)? => $meaning:expr, $fact:expr;)+) => {
+        [$(OtherName { names: $names, commands: concat!("" $(, $commands)?), meant: Meant { meaning: $meaning, fact: $fact } }),+]
     };
 }
 
-// Rows of names in place of commands.
-macro_rules! commands {
-    ($([$($name:literal)+] => $command:literal, $fact:expr;)+) => {
-        [$(OtherCommand { names: &[$($name),+], command: $command, fact: $fact }),+]
-    };
-}
-
-const HELP: &str = "`nbhd --help` tells of the program, and `nbhd run --help` of a command";
-
-pub(crate) const VERSION: &str = "the first line of `nbhd --help` has the version";
-
-pub(crate) const LABELLING: &str = "L(2,1) is `--near 2 --far 1`";
+const LABELLING: &str = "L(2,1) is `--near 2 --far 1`";
 
 const PROBLEMS: &str =
     "a problem is given by its name, as in `--problem mis`, or by its patterns, as in `--forbid 1,1`";
 
-const BASES: &str = "numbers are printed in another base by `--base`";
+const SHELL: &str = "`<` and `>` are read by the shell, outside of quotes";
 
-const JSON: &str = "a report is in JSON by `--format json`";
-
-/// Names in place of options. The first row that fits counts.
-pub(crate) const OPTIONS: [OtherName; 38] = options! {
-    ["version" "v"] at ["migrate"] => Meaning::Nothing, "`nbhd migrate` prints a table in the newest version";
-    ["version" "V"] => Meaning::Nothing, VERSION;
-    ["help" "?"] => Meaning::Nothing, HELP;
-    ["ids" "rounds" "channels" "near" "far" "n" "m"] at ["audit" "apply" "migrate"] => Meaning::Nothing, "the numbers of a table are in its text";
-    ["node" "id"] at ["explain"] => Meaning::Nothing, "the node that is explained is given by its place in the ring, as in `--place 0`";
-    ["n" "m" "size" "max" "num" "count" "id" "number" "identifiers" "nodes"] => Meaning::Option("ids", ""), "the number of identifiers is given by `--ids`";
-    ["r" "cycle"] => Meaning::Option("ring", ""), "a ring is given by `--ring`";
-    ["segments"] at ["table" "judge" "plan"] => Meaning::Option("workers", ""), "the number of threads is given by `--workers`";
-    ["workers" "w" "j" "threads" "jobs" "parallel" "cores" "cpus" "processes" "nthreads"] at ["run"] => Meaning::Option("segments", ""), "a run has a thread for each segment";
-    ["w" "j" "threads" "jobs" "parallel" "cores" "cpus" "processes" "nthreads"] => Meaning::Option("workers", ""), "the number of threads is given by `--workers`, of `table`, `judge` and `plan`";
-    ["l21"] => Meaning::Option("near", "2,1"), LABELLING;
-    ["p"] at ["table" "judge" "formula" "refute"] => Meaning::Option("near", ""), LABELLING;
-    ["l" "lambda" "distance" "separation"] => Meaning::Option("near", ""), LABELLING;
-    ["mis" "independent-set" "maximal-independent-set"] => Meaning::Option("problem", "mis"), PROBLEMS;
-    ["matching" "maximal-matching"] => Meaning::Option("problem", "matching"), PROBLEMS;
-    ["weak2"] => Meaning::Option("problem", "weak2"), PROBLEMS;
-    ["lcl"] => Meaning::Option("problem", ""), PROBLEMS;
-    ["forbidden" "pattern" "patterns" "constraint" "constraints" "avoid" "exclude" "not"] => Meaning::Option("forbid", ""), "a pattern of channels is forbidden by `--forbid`";
-    ["bits" "binary" "bin"] => Meaning::Option("base", "2"), BASES;
-    ["radix" "b"] => Meaning::Option("base", ""), BASES;
-    ["hex" "hexadecimal"] => Meaning::Nothing, "numbers are printed in a base from 2 to 10, by `--base`";
-    ["pos" "position" "index" "at" "p"] at ["explain"] => Meaning::Option("place", ""), "the node that is explained is given by its place in the ring";
-    ["json" "csv" "fmt" "format"] at ["formula"] => Meaning::Nothing, "`nbhd formula` prints DIMACS, which solvers read, and has no other form";
-    ["json"] => Meaning::Option("format", "json"), JSON;
-    ["fmt" "output-format"] => Meaning::Option("format", ""), JSON;
-    ["yaml" "csv" "xml"] => Meaning::Nothing, "a report is in lines or in JSON, by `--format lines` or `--format json`";
-    ["o" "output" "out"] => Meaning::Output, "the answer is on the standard output";
-    ["f" "i" "file" "input" "program" "table" "text" "stdin" "proof"] => Meaning::Input, "a text is read from standard input";
-    ["v" "q" "quiet" "verbose" "silent" "debug"] => Meaning::Nothing, "a report is on the standard output, a note on the standard error; there is no option for more or less";
-    ["t" "steps" "round" "rounds"] at ["trace" "explain"] => Meaning::Nothing, "`nbhd trace` and `nbhd explain` print every round; a program says how many they are";
-    ["t" "steps" "round"] at ["formula" "refute"] => Meaning::Option("rounds", ""), "";
-    ["c" "k" "colors" "colours" "channel"] at ["formula" "refute"] => Meaning::Option("channels", ""), "";
-    ["t" "steps" "round" "rounds" "c" "k" "colors" "colours" "channels"] => Meaning::Nothing, "a program says its rounds and channels; those of a formula are given by `--rounds` and `--channels`";
-    ["s" "segment-count" "parts"] => Meaning::Option("segments", ""), "a ring is cut into segments by `--segments`, of `run`";
-    ["seed" "random" "shuffle"] => Meaning::Nothing, "nothing is random; `shuf` makes a random ring";
-    ["forbid" "problem"] at ["table"] => Meaning::Nothing, "a table does not say what its channels have to be but for near and far; `nbhd audit --problem mis` judges it";
-    ["to"] at ["migrate"] => Meaning::Nothing, "`nbhd migrate` writes the newest version only";
-    ["ids"] at ["print"] => Meaning::Nothing, "`nbhd check` tells whether a program is accepted for M identifiers";
+// Names in place of a command.
+static COMMAND_NAMES: [OtherName; 9] = names! {
+    "version v" => Meaning::Nothing, "the first line of `nbhd --help` has the version";
+    "simulate simulat simulation exec execute sim colour color" => Meaning::Command("run"), "`nbhd run` runs a program on a ring, and `nbhd trace` prints each round";
+    "verify validate test prove correct" => Meaning::Command("judge"), "`nbhd judge` judges a program on every ring, and `nbhd audit` a table";
+    "compile build make" => Meaning::Command("table"), "`nbhd table` prints the table of a program";
+    "format fmt lint parse" => Meaning::Command("print"), "`nbhd print` prints a program in its one printed form, and `nbhd check` tells whether it is accepted";
+    "solve sat cnf" => Meaning::Command("formula"), "`nbhd formula` prints a formula for a solver";
+    "show draw visualize graph plot" => Meaning::Command("trace"), "`nbhd trace` and `nbhd explain` print a run, and `nbhd-page` draws it";
+    "convert upgrade" => Meaning::Command("migrate"), "`nbhd migrate` prints a table in the newest version";
+    "debug why step" => Meaning::Command("explain"), "`nbhd trace` prints each round of a run, and `nbhd explain` how one node computes";
 };
 
-/// Names in place of commands.
-pub(crate) const COMMANDS: [OtherCommand; 14] = commands! {
-    ["nbhd" "./nbhd"] => "", "the name of the program stands twice";
-    ["man" "info" "usage" "manual" "options" "commands"] => "", HELP;
-    ["version"] => "", VERSION;
-    ["simulate" "simulat" "simulation" "exec" "execute" "sim" "colour" "color" "colours" "colors" "channels"] => "run", "`nbhd run` runs a program on a ring, and `nbhd trace` prints each round";
-    ["verify" "validate" "verification" "validation" "test" "prove" "correct"] => "judge", "`nbhd judge` judges a program on every ring, and `nbhd audit` a table";
-    ["compile" "build" "make"] => "table", "`nbhd table` prints the table of a program";
-    ["format" "fmt" "lint" "parse" "pretty"] => "print", "`nbhd print` prints a program in its one printed form, and `nbhd check` tells whether it is accepted";
-    ["solve" "sat" "cnf" "dimacs"] => "formula", "`nbhd formula` prints a formula for a solver";
-    ["show" "draw" "visualize" "graph" "dot" "plot"] => "trace", "`nbhd trace` and `nbhd explain` print a run, and `nbhd-page` draws it";
-    ["convert" "upgrade"] => "migrate", "`nbhd migrate` prints a table in the newest version";
-    ["debug" "why" "step"] => "explain", "`nbhd trace` prints each round of a run, and `nbhd explain` how one node computes";
-    ["lrat" "drat" "unsat" "certify"] => "refute", "`nbhd refute` checks a refutation";
-    ["least" "search" "find" "minimize" "optimize"] => "", "`tools/least` finds the fewest channels, by a solver";
-    ["page" "serve" "server" "gui" "web"] => "", "`nbhd-page` serves the page";
+// Other names. The first row that fits counts.
+static NAMES: [OtherName; 45] = names! {
+    "nbhd ./nbhd" => Meaning::Nothing, "the name of the program stands twice";
+    "help man info usage manual options commands ?" => Meaning::Nothing, "`nbhd --help` tells of the program, and `nbhd run --help` of a command";
+    "version to" at "migrate" => Meaning::Nothing, "`nbhd migrate` writes the newest version only";
+    "version" => Meaning::Nothing, "the first line of `nbhd --help` has the version";
+    "<command>" => Meaning::Nothing, "one command is given at a time";
+    "<number>" => Meaning::Nothing, "each number is the value of an option, as in `--ids 8`";
+    "| || ; & && 2>&1" => Meaning::End, "`|`, `;` and `&` are read by the shell, outside of quotes";
+    "<" => Meaning::Input, SHELL;
+    "> >>" => Meaning::Output, SHELL;
+    "<file> -" at "formula" => Meaning::Nothing, "`nbhd formula` reads no file";
+    "<file> - f i file input program table text" => Meaning::Input, "a text is read from standard input";
+    "o output out" => Meaning::Output, "the answer is on the standard output";
+    "ids rounds channels near far n m" at "audit apply migrate" => Meaning::Nothing, "the numbers of a table are in its text";
+    "ids" at "print" => Meaning::Nothing, "`nbhd check` tells whether a program is accepted for M identifiers";
+    "node id" at "explain" => Meaning::Nothing, "the node that is explained is given by its place in the ring, as in `--place 0`";
+    "pos position index p" at "explain" => Meaning::Option("place", ""), "the node that is explained is given by its place in the ring";
+    "n m size max count number id identifiers nodes" => Meaning::Option("ids", ""), "the number of identifiers is given by `--ids`";
+    "<ring> r cycle" => Meaning::Option("ring", ""), "a ring is given by `--ring`";
+    "ring" => Meaning::Option("ring", ""), "`--ring` is an option of `run`, `trace`, `explain`, `plan` and `apply`";
+    "place" => Meaning::Option("place", ""), "`--place` is an option of `explain`";
+    "segments" at "table judge plan" => Meaning::Option("workers", ""), "the number of threads is given by `--workers`";
+    "workers w j threads jobs cores" at "run" => Meaning::Option("segments", ""), "a run has a thread for each segment";
+    "w j threads jobs cores" => Meaning::Option("workers", ""), "the number of threads is given by `--workers`, of `table`, `judge` and `plan`";
+    "workers" => Meaning::Option("workers", ""), "`--workers` is an option of `table`, `judge` and `plan`";
+    "segments s parts" => Meaning::Option("segments", ""), "`--segments` is an option of `run`";
+    "l21" => Meaning::Option("near", "2,1"), LABELLING;
+    "l lambda distance separation p" => Meaning::Option("near", ""), LABELLING;
+    "near" => Meaning::Option("near", ""), "`--near` is an option of `table`, `judge`, `formula` and `refute`";
+    "far" => Meaning::Option("far", ""), "`--far` is an option of `table`, `judge`, `formula` and `refute`";
+    "forbid problem" at "table" => Meaning::Nothing, "a table does not say what its channels have to be but for near and far; `nbhd audit --problem mis` judges it";
+    "mis independent-set maximal-independent-set" => Meaning::Option("problem", "mis"), PROBLEMS;
+    "matching maximal-matching" => Meaning::Option("problem", "matching"), PROBLEMS;
+    "problem" => Meaning::Option("problem", ""), "`--problem` is an option of `judge`, `audit`, `formula` and `refute`";
+    "<pattern> pattern patterns forbidden avoid" => Meaning::Option("forbid", ""), "a pattern of channels is given by `--forbid`";
+    "forbid" => Meaning::Option("forbid", ""), "`--forbid` is an option of `judge`, `audit`, `formula` and `refute`";
+    "bits binary bin" => Meaning::Option("base", "2"), "numbers are printed in another base by `--base`";
+    "base b radix" => Meaning::Option("base", ""), "`--base` is an option of `trace` and `explain`";
+    "json csv format" at "formula" => Meaning::Nothing, "`nbhd formula` prints DIMACS, which solvers read, and has no other form";
+    "json" => Meaning::Option("format", "json"), "a report is in JSON by `--format json`";
+    "fmt" => Meaning::Option("format", ""), "a report is in JSON by `--format json`";
+    "v q quiet verbose" => Meaning::Nothing, "a report is on the standard output, a note on the standard error; there is no option for more or less";
+    "t steps round rounds" at "trace explain" => Meaning::Nothing, "`nbhd trace` and `nbhd explain` print every round; a program says how many they are";
+    "t steps" at "formula refute" => Meaning::Option("rounds", ""), "";
+    "c k colors colours" at "formula refute" => Meaning::Option("channels", ""), "";
+    "t steps round rounds c k colors colours channels" => Meaning::Nothing, "a program says its rounds and channels; those of a formula are given by `--rounds` and `--channels`";
 };
+
+/// Returns the command with this name.
+pub(crate) fn own_command(name: &str) -> Option<CommandRow> {
+    command_in(&COMMANDS, name)
+}
+
+// Returns the row of the command with this name.
+fn command_in(rows: &[CommandRow], name: &str) -> Option<CommandRow> {
+    let mut rows = rows.iter();
+    let row = rows.find(|row| row.name.eq_ignore_ascii_case(name));
+    row.copied()
+}
+
+/// Returns what a name in place of a command means.
+pub(crate) fn other_command(name: &str) -> Option<Meant> {
+    meant_in(&COMMAND_NAMES, "nbhd", name)
+}
+
+/// Returns what a name means at a command: an option whose name it begins, or that of a row.
+pub(crate) fn meaning_of(command: &CommandRow, name: &str) -> Option<Meant> {
+    match option_in(command.options, name) {
+        Some(option) => Some(Meant {
+            meaning: Meaning::Option(option.name, ""),
+            fact: "",
+        }),
+        None => meant_in(&NAMES, command.name, name),
+    }
+}
+
+/// Returns the option with this name, or whose name begins with it.
+pub(crate) fn option_in(options: &[OptionRow], name: &str) -> Option<OptionRow> {
+    for option in options {
+        let begins = name.len() > 1 && option.name.starts_with(name);
+        if begins || option.name.eq_ignore_ascii_case(name) {
+            return Some(*option);
+        }
+    }
+    None
+}
+
+// Returns what a name means by the first row that counts at this command.
+fn meant_in(rows: &[OtherName], command: &str, name: &str) -> Option<Meant> {
+    for row in rows {
+        let mut names = row.names.split(' ');
+        let counts = row.commands.is_empty() || row.commands.contains(command);
+        if counts && names.any(|other| other.eq_ignore_ascii_case(name)) {
+            return Some(row.meant);
+        }
+    }
+    None
+}

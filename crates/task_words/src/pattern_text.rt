@@ -114,7 +114,7 @@ fn is_numeral(text: &str) -> bool
 }
 
 // Returns whether each byte of a text is a decimal digit.
-fn are_digits(text: &str) -> bool
+pub(crate) fn are_digits(text: &str) -> bool
     ensures { result ≡ list_all is_ascii_digit text.now }
 {
     text.bytes().all(|byte| byte.is_ascii_digit())

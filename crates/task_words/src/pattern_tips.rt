@@ -4,9 +4,8 @@ ghost use Rattle.std.specs.Prelude.{◌≡◌, IfOk, map, option_map, string_byt
 ghost use Rattle.task_words.specs.PatternTips as texts;
 
 use crate::demand_fault::PatternFault;
-use crate::option_words::option_value;
 use crate::pattern_text::pattern_fault;
-use crate::ring_tips::seen;
+use crate::ring_tips::{option_value, seen};
 use std::alloc::{AllocError, Global};
 
 /// Returns a line on the first value of `--forbid` among words that is not a pattern text, or `None` if
@@ -31,20 +30,13 @@ pub fn pattern_tip(alloc: Global, words: &[String]) -> Result<Option<String>, Al
 fn word_tip(alloc: Global, last: &str, word: &str) -> Result<Option<String>, AllocError>
     ensures { IfOk result (λ tip. option_map string_bytes tip ≡ texts.word_tip last.now word.now) }
 {
-    match option_value("--forbid", "--forbid=", last, word) {
-        Some(text) => text_tip(alloc, text),
-        None => Ok(None),
-    }
-}
-
-// Returns the line on a text, if it is not a pattern text.
-fn text_tip(alloc: Global, text: &str) -> Result<Option<String>, AllocError>
-    ensures { IfOk result (λ tip. option_map string_bytes tip ≡ texts.text_tip text.now) }
-{
-    let Some(cause) = pattern_fault(alloc, text)? else {
+    let Some(text) = option_value("--forbid", "--forbid=", last, word) else {
         return Ok(None);
     };
-    Ok(Some(text_line(alloc, text, cause)?))
+    match pattern_fault(alloc, text)? {
+        Some(cause) => Ok(Some(text_line(alloc, text, cause)?)),
+        None => Ok(None),
+    }
 }
 
 // Returns the line on a text that is not a pattern text for this cause.

@@ -5,9 +5,9 @@ ghost use Rattle.task_words.specs.Task.{IsRunnable};
 ghost use Rattle.task_words.specs.WordsFault.{words_fault_code};
 
 use crate::demand_fault::DemandFault;
-use crate::mended::advice_line;
+use crate::mended::advice_on;
 use crate::pattern_tips::pattern_tip;
-use crate::refused::{CARRIAGE, has_carriage, usage_text};
+use crate::refused::usage_text;
 use crate::request::Request;
 use crate::ring_tips::{ring_tip, ring_word};
 use crate::words::{WordsFault, request_of, words_fault};
@@ -69,27 +69,16 @@ pub fn print_words_fault<T: AllocGlobal + Env + Eprint>(rt: &T, fault: &WordsFau
 // Prints the fault of these words, with its cause and advice.
 fn print_with_advice<T: AllocGlobal + Eprint>(rt: &T, fault: &WordsFault, words: &[String]) {
     let alloc = rt.alloc();
-    let advice = match has_advice(fault) {
-        true => advice_line(alloc, words).unwrap_or(None),
-        false => None,
+    let advice = match fault {
+        WordsFault::Help(_) | WordsFault::OutOfMemory => String::new(alloc),
+        _ => advice_on(alloc, words).unwrap_or(String::new(alloc)),
     };
-    print_fault(rt, fault, advice.is_some());
+    print_fault(rt, fault, !advice.is_empty());
     if let Ok(Some(cause)) = cause_line(alloc, words, fault) {
         let _ = eprintln!(rt; "{cause}");
     }
-    if let Some(advice) = advice {
-        let _ = eprintln!(rt; "{advice}");
-    }
-    if has_advice(fault) && has_carriage(words) {
-        let _ = eprintln!(rt; "{CARRIAGE}");
-    }
-}
-
-// Returns whether words with this fault could be others.
-fn has_advice(fault: &WordsFault) -> bool {
-    match fault {
-        WordsFault::Usage(_) | WordsFault::BadRing | WordsFault::BadDemand(_) => true,
-        WordsFault::Help(_) | WordsFault::OutOfMemory => false,
+    if !advice.is_empty() {
+        let _ = eprintln!(rt; "nbhd: {advice}");
     }
 }
 

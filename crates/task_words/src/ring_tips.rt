@@ -1,13 +1,13 @@
-//! The tip on a text that is no ring text.
+//! The tip on a text that is no ring text, and the values of an option among words.
 
 ghost use Rattle.std.specs.Prelude.{◌≡◌, map, All, IfOk, IfSome, IfNone, option_map, string_bytes};
 ghost use Rattle.source_places.specs.Shown.{escaped_bytes};
 ghost use Rattle.task_words.specs.Decimal.{IsNumber};
+ghost use Rattle.task_words.specs.OptionWords as values;
 ghost use Rattle.task_words.specs.RingText.{IsRingText};
 ghost use Rattle.task_words.specs.RingTips as texts;
 ghost use Rattle.task_words.specs.RingTips.{IsFirstBad, IsRingTip};
 
-use crate::option_words::option_value;
 use crate::ring_text::{number_of, parts};
 use source_places::write_escaped;
 use std::alloc::{AllocError, Global};
@@ -67,7 +67,7 @@ pub fn ring_word(words: &[String]) -> Option<&str>
     let mut last = "";
     for word in words {
         let word = word.as_str();
-        if let Some(text) = ring_value(last, word) {
+        if let Some(text) = option_value("--ring", "--ring=", last, word) {
             return Some(text);
         }
         last = word;
@@ -75,9 +75,18 @@ pub fn ring_word(words: &[String]) -> Option<&str>
     None
 }
 
-// Returns the value of `--ring` that a word is or has, by the word before it.
-fn ring_value<'a>(last: &str, word: &'a str) -> Option<&'a str>
-    ensures { option_map (λ text. text.now) result ≡ texts.ring_value last.now word.now }
+// Returns the value of an option that a word is or has, by the word before it. `beginning` is the name
+// of the option and `=`.
+pub(crate) fn option_value<'a>(
+    name: &str,
+    beginning: &str,
+    last: &str,
+    word: &'a str,
+) -> Option<&'a str>
+    ensures { option_map (λ text. text.now) result ≡ values.option_value name.now beginning.now last.now word.now }
 {
-    option_value("--ring", "--ring=", last, word)
+    if last == name {
+        return Some(word);
+    }
+    word.strip_prefix(beginning)
 }

@@ -16,9 +16,6 @@ use std::io;
 use std::io::ErrorKind;
 use thiserror::Error;
 
-/// The text for words that are not UTF-8.
-const NOT_UTF8: &str = "nbhd: words are not UTF-8\n";
-
 /// Why words give no request.
 #[derive(Debug, Drop, Error)]
 pub enum WordsFault {
@@ -82,7 +79,7 @@ pub fn words_fault(alloc: Global, error: io::Error) -> Result<WordsFault, AllocE
     match error.kind() {
         ErrorKind::OutOfMemory => Ok(WordsFault::OutOfMemory),
         _ => {
-            let text = String::from_str(alloc, NOT_UTF8)?;
+            let text = String::from_str(alloc, "nbhd: words are not UTF-8\n")?;
             Ok(WordsFault::Usage(text))
         }
     }
