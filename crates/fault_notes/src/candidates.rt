@@ -1,18 +1,13 @@
 //! Edits that can mend a fault of a program text.
 
-use crate::edits::Edit;
-use crate::names::{begins_comment, is_known, is_strange, like_operation};
-use crate::operators::scaled;
-use crate::rewrites::{Step, edit_of};
-use crate::rows::SCALED;
-use crate::tokens::{
-    Tokens, after, after_marks, before, begins_line, begins_operand, end_of, ends_operand, is_mark,
-    open_operation, operand_end, part, start_of, text_of, token_of, word_of,
-};
+use crate::edits::{Edit, edit_of};
+use crate::forms::{Form, earlier, thousands, tried};
+use crate::rows::Part;
+use crate::tokens::{Spot, after, before, is_known, part};
 use node_lang::Expected::{self, This};
 use node_lang::Token;
 use source_places::{first_line_len, is_one_of, last_line_len};
-use std::alloc::{AllocError, Global};
+use std::alloc::AllocError;
 
 // The registers, and the digits.
 const REGISTERS: &[u8] = b"r0r1r2r3r4r5r6r7";
@@ -51,363 +46,243 @@ fn register_text(register: u32) -> &'static [u8] {
     part(REGISTERS, at, after(at, 2))
 }
 
-// Returns the word or mark that can stand where this is expected in the place of a token that is there, an
-// empty text if the token is not one that is taken for it.
-fn instead_of(tokens: Tokens, number: usize, expected: Expected) -> &'static [u8] {
-    let is_assigned = token_of(tokens, after(number, 1)) == Some(Token::Equals);
-    match (token_of(tokens, number), expected) {
-        (Some(Token::Left | Token::FromRight), This(Token::Right)) => b"right",
-        (Some(Token::Right | Token::FromLeft), This(Token::Left)) => b"left",
-        (Some(Token::Comma), This(Token::Close)) => b")",
-        (Some(Token::Close), This(Token::Comma)) => b",",
-        (Some(Token::Comma | Token::Close), This(Token::Open)) => b"(",
-        (Some(Token::Comma), This(Token::Send)) => b"send",
-        (Some(Token::FromRight), This(Token::Register(register))) => register_text(register),
-        (Some(Token::Unknown), This(Token::Register(register))) if is_assigned => {
-            register_text(register)
+// Returns whether a word of three letters differs from a name by one letter, or by two that are exchanged.
+fn is_alike(word: &[u8], name: &[u8]) -> bool {
+    let same = word
+        .iter()
+        .zip(name)
+        .filter(|pair| pair.0 == pair.1)
+        .count();
+    let is_turned = same == 1 && word.iter().all(|letter| name.contains(letter));
+    word.len() == 3 && (same == 2 || is_turned)
+}
+
+impl Spot<'_> {
+    // Returns what can stand in the place of a word that is not of the language, an empty text if nothing can.
+    fn instead(self) -> &'static [u8] {
+        let is_assigned = self.token(after(self.number, 1)) == Some(Token::Equals);
+        let is_none = self.is_inside()
+            || matches!(self.expected, Expected::Expression | Expected::Number);
+        match self.expected {
+            _ if is_none || !self.is_strange(self.number) => b"",
+            This(Token::Register(register)) if is_assigned => register_text(register),
+            expected => missing(expected).first().copied().unwrap_or(b""),
         }
-        (Some(Token::Unknown), This(_)) if is_taken_for(tokens, number, expected) => {
-            missing(expected).first().copied().unwrap_or(b"")
+    }
+
+    // Returns whether a mark within a line is expected.
+    fn is_inside(self) -> bool {
+        let token = match self.expected {
+            This(token) => token,
+            _ => return false,
+        };
+        matches!(
+            token,
+            Token::Open | Token::Close | Token::Comma | Token::Equals
+        )
+    }
+
+    // Returns whether an operand of the language stands behind another one on its line.
+    fn is_operand_behind(self) -> bool {
+        !matches!(self.token(self.number), Some(Token::Unknown | Token::Open))
+            && self.begins_operand(self.number)
+            && self.ends_operand(before(self.number, 1))
+            && !self.begins_line(self.number)
+    }
+
+    // Returns whether marks begin a comment in another language, at the start of a line, before a word, or behind `start` or
+    // `round`.
+    pub(crate) fn begins_comment(self) -> bool {
+        let marks = self.marks(self.number);
+        let is_word = self.is_strange(self.after_marks(self.number));
+        let last = self.token(before(self.number, 1));
+        if self.begins_line(self.number) && is_one_of("; ' ''' ! \" \"\"\" // /* -- % %%", marks) {
+            return true;
         }
-        _ => b"",
+        is_one_of("// /* -- ; ;; % %% {- <!--", marks)
+            && (is_word || matches!(last, Some(Token::Start | Token::Round)))
     }
 }
 
-// Returns whether a word, or marks of another language, stand for what is expected.
-fn is_taken_for(tokens: Tokens, number: usize, expected: Expected) -> bool {
-    let marks = text_of(tokens, number, after_marks(tokens, number));
-    match expected {
-        This(Token::Equals) => is_one_of(":= <- : =: is <-", marks),
-        This(Token::Comma) => is_one_of("; : .", marks),
-        This(Token::Open) => is_one_of("[ {", marks),
-        This(Token::Close) => is_one_of("] }", marks),
-        _ => !is_mark(tokens, number),
-    }
-}
-
-// Returns whether an operand of the language stands behind another one on its line.
-fn is_operand_behind(tokens: Tokens, number: usize) -> bool {
-    !matches!(token_of(tokens, number), Some(Token::Unknown | Token::Open))
-        && begins_operand(tokens, number)
-        && ends_operand(tokens, before(number, 1))
-        && !begins_line(tokens, number)
-}
-
-// Returns whether a token can be left out.
-fn is_too_much(tokens: Tokens, number: usize, expected: Expected) -> bool {
-    let (last, word) = (word_of(tokens, before(number, 1)), word_of(tokens, number));
-    let next = after(number, 1);
-    let is_word = is_strange(tokens, number);
-    if is_operand_behind(tokens, number) {
-        return word == last || expected == This(Token::Start);
-    }
-    let is_open = matches!(word, [b'(' | b'[' | b'{' | b'|' | b'-' | b'\\' | b'?']);
-    match expected {
-        Expected::Expression if is_word => {
-            begins_operand(tokens, next) && token_of(tokens, next) != Some(Token::Open)
-        }
-        Expected::Expression => !is_open || last == b"(".as_slice(),
-        Expected::Number => !is_word,
-        _ => true,
-    }
-}
-
-// Returns whether marks begin a comment in another language: at the start of a line, or behind a blank.
-fn is_comment(tokens: Tokens, number: usize) -> bool {
-    let end = after_marks(tokens, number);
-    let marks = text_of(tokens, number, end);
-    if begins_line(tokens, number) {
-        return is_one_of("// /* -- ; ;; % %% {- <!-- ' ''' ! \" \"\"\"", marks);
-    }
-    let is_apart = start_of(tokens, number) != end_of(tokens, before(number, 1));
-    let is_mark = marks == b";".as_slice() && is_strange(tokens, end);
-    is_apart && (is_mark || begins_comment(tokens, number))
-}
-
-// Edits at a token of a text, where this is expected.
+// Edits at a token of a text.
 #[derive(Drop)]
-struct Edits<'a> {
-    alloc: Global,
-    tokens: Tokens<'a>,
-    number: usize,
-    expected: Expected,
-    all: Vec<Edit>,
+pub(crate) struct Edits<'a> {
+    pub(crate) spot: Spot<'a>,
+    pub(crate) all: Vec<Edit>,
 }
 
 impl<'a> Edits<'a> {
     // Adds that pieces are put in the place of the tokens from one up to another, before the first if both are one.
     fn put(&mut self, first: usize, end: usize, pieces: &[&[u8]]) -> Result<(), AllocError> {
-        let from = start_of(self.tokens, first);
-        let to = end_of(self.tokens, before(end, 1));
-        self.put_between(from, if first < end { to } else { from }, pieces)
+        self.all.push(self.spot.put(first, end, pieces)?)?;
+        Ok(())
     }
 
-    // Adds that pieces are put between two places.
-    fn put_between(&mut self, from: usize, to: usize, pieces: &[&[u8]]) -> Result<(), AllocError> {
-        self.all.push(edit_of(self.alloc, from, to, pieces)?)?;
+    // Adds forms at a token.
+    fn put_forms(&mut self, start: usize, forms: &[Form]) -> Result<(), AllocError> {
+        for form in forms {
+            if let Some(edit) = self.spot.formed(start, *form)? {
+                self.all.push(edit)?;
+            }
+        }
+        Ok(())
+    }
+
+    // Adds that each of these pieces is put in the place of the tokens from one up to the token, between a front and a back.
+    fn put_each(
+        &mut self,
+        first: usize,
+        front: &[u8],
+        pieces: &[&[u8]],
+        back: &[u8],
+    ) -> Result<(), AllocError> {
+        for piece in pieces {
+            self.put(first, self.spot.number, &[front, piece, back])?;
+        }
         Ok(())
     }
 
     // Adds what can be missing before the token, or before the register that was read as an expression.
     fn put_missing(&mut self) -> Result<(), AllocError> {
-        let (tokens, number, expected) = (self.tokens, self.number, self.expected);
+        let (spot, number) = (self.spot, self.spot.number);
         let previous = before(number, 1);
-        let register = word_of(tokens, previous);
-        if token_of(tokens, number) == Some(Token::Equals) && begins_line(tokens, previous) {
-            self.put(previous, number, &[b"\0 ", register])?;
-            self.put(previous, number, &[b") ", register])?;
-            self.put(previous, number, &[b")) ", register])?;
+        if spot.token(number) == Some(Token::Equals) && spot.begins_line(previous) {
+            let pieces = [b"\0 ".as_slice(), b") ", b")) "];
+            self.put_each(previous, b"", &pieces, spot.word(previous))?;
         }
-        let is_mark = matches!(
-            expected,
-            This(Token::Open | Token::Close | Token::Comma | Token::Equals)
-        );
-        if is_mark || !is_operand_behind(tokens, number) {
-            for piece in missing(expected) {
-                self.put(number, number, &[piece])?;
-            }
+        if spot.is_inside() || !spot.is_operand_behind() {
+            self.put_each(number, b"", missing(spot.expected), b"")?;
         }
-        if let This(Token::Register(register)) = expected {
-            let name = register_text(register);
-            self.put(number, number, &[name])?;
-            self.put(number, number, &[name, b" ="])?;
-            self.put(number, number, &[name, b" = \0"])?;
+        if let This(Token::Register(register)) = spot.expected {
+            let pieces = [b"".as_slice(), b" =", b" = \0"];
+            self.put_each(number, register_text(register), &pieces, b"")?;
         }
         Ok(())
     }
 
-    // Adds what can stand in the place of the token, that it is left out, or that it is exchanged with the next or
-    // the last one.
+    // Adds what can stand in the place of the token, and that it is left out.
     fn put_instead(&mut self) -> Result<(), AllocError> {
-        let (tokens, number, expected) = (self.tokens, self.number, self.expected);
-        let previous = before(number, 1);
-        let next = after_marks(tokens, number);
-        let word = text_of(tokens, number, next);
-        if is_too_much(tokens, number, expected) {
+        let (spot, number) = (self.spot, self.spot.number);
+        let next = spot.after_marks(number);
+        let is_last = spot.is_strange(number) && spot.begins_line(next);
+        let is_value = is_last && matches!(spot.expected, Expected::Expression | Expected::Number);
+        let is_twice = spot.word(number) == spot.word(before(number, 1));
+        if !is_value && (is_twice || !spot.is_operand_behind()) {
             self.put(number, next, &[])?;
         }
-        let instead = instead_of(tokens, number, expected);
+        let instead = spot.instead();
         if !instead.is_empty() {
             self.put(number, next, &[instead])?;
         }
-        let other = word_of(tokens, next);
-        if expected == This(Token::Finish) && other == b"=".as_slice() {
+        if spot.expected == This(Token::Finish) && spot.token(next) == Some(Token::Equals) {
             self.put(number, after(next, 1), &[b"finish"])?;
         }
-        self.put(number, after(next, 1), &[other, b" ", word])?;
-        self.put(previous, next, &[word, b" ", word_of(tokens, previous)])
+        if spot.begins_comment() {
+            self.put(number, next, &[b"#"])?;
+        }
+        Ok(())
     }
 
-    // Adds the words that a word can be: two words, an operation and its first operand, or an operation of a name
-    // alike.
+    // Adds the words that a word can be: two words, an operation and its first operand, or an operation of three letters with
+    // a name alike.
     fn put_parted(&mut self) -> Result<(), AllocError> {
-        let (tokens, number) = (self.tokens, self.number);
-        let word = word_of(tokens, number);
-        let next = after(number, 1);
-        if !is_strange(tokens, number) || word.len() > LONGEST_PART {
+        let (spot, number) = (self.spot, self.spot.number);
+        let (word, next) = (spot.word(number), after(number, 1));
+        if !spot.is_strange(number) || word.len() > LONGEST_PART {
             return Ok(());
         }
-        let mark = token_of(tokens, next);
         for len in 1..word.len() {
             let (front, back) = (part(word, 0, len), part(word, len, word.len()));
             if is_known(front) && is_known(back) {
                 self.put(number, next, &[front, b" ", back])?;
-                if matches!(mark, Some(Token::Comma | Token::Close | Token::Open)) {
-                    self.put(number, next, &[front, b"(", back])?;
-                }
+                self.put(number, next, &[front, b"(", back])?;
             }
         }
-        match (like_operation(word), mark) {
+        let mut names = "not and xor shl shr add sub min max ldb bit".split(' ');
+        let is_like = |name: &&str| is_alike(word, name.as_bytes());
+        match (names.find(is_like), spot.token(next)) {
             (Some(name), Some(Token::Open)) => self.put(number, next, &[name.as_bytes()]),
             _ => Ok(()),
         }
     }
 
-    // Adds that a side stands before its expression, and that marks around an operand, or brackets behind one, are
-    // left out.
-    fn put_turned(&mut self) -> Result<(), AllocError> {
-        let (tokens, number) = (self.tokens, self.number);
-        let next = after(number, 1);
-        let side = operand_end(tokens, number);
-        if matches!(token_of(tokens, side), Some(Token::Left | Token::Right)) {
-            let expression = text_of(tokens, number, side);
-            self.put(
-                number,
-                after(side, 1),
-                &[word_of(tokens, side), b" ", expression],
-            )?;
-        }
-        let mark = word_of(tokens, number);
-        if !matches!(mark, [b'(' | b'[' | b'{' | b'"' | b'\'' | b'`']) {
-            return Ok(());
-        }
-        let is_empty = token_of(tokens, next) == Some(Token::Close);
-        let close = if is_empty {
-            next
-        } else {
-            operand_end(tokens, next)
-        };
-        self.put(number, after(close, 1), &[text_of(tokens, next, close)])?;
-        if mark == b"(".as_slice() && ends_operand(tokens, before(number, 1)) {
-            self.put(number, after(close, 1), &[])?;
-        }
-        Ok(())
-    }
-
     // Adds that the operands before the token are those of one more operation of the same name.
     fn put_joined(&mut self) -> Result<(), AllocError> {
-        let Some(operation) = open_operation(self.tokens, self.number) else {
+        let (spot, number) = (self.spot, self.spot.number);
+        let Some(operation) = spot.open_operation(number) else {
             return Ok(());
         };
-        let first = after(operation, 2);
-        let name = word_of(self.tokens, operation);
-        let operands = text_of(self.tokens, first, self.number);
+        let (first, name) = (after(operation, 2), spot.word(operation));
         if is_one_of("and or xor add min max", name) {
-            self.put(first, self.number, &[name, b"(", operands, b")"])?;
+            let operands = spot.words(first, number);
+            self.put(first, number, &[name, b"(", operands, b")"])?;
         }
         Ok(())
     }
 
-    // Adds a number whose parts stand here: `1_000`, `1,000`, `1 000`, or a product, `2 r0`.
-    fn put_number(&mut self) -> Result<(), AllocError> {
-        let (tokens, number) = (self.tokens, self.number);
-        let (previous, next) = (before(number, 1), after(number, 1));
-        let (front, word) = (word_of(tokens, previous), word_of(tokens, number));
-        let back = word_of(tokens, next);
-        let is_number = matches!(token_of(tokens, previous), Some(Token::Number(_)));
-        let is_comma = token_of(tokens, number) == Some(Token::Comma);
-        if is_number && back.len() == 3 && is_comma || word == b"_".as_slice() {
-            self.put(previous, after(next, 1), &[front, back])?;
-        }
-        if front == b"000".as_slice() && is_comma {
-            let thousands = before(number, 3);
-            self.put(thousands, number, &[word_of(tokens, thousands), front])?;
-        }
-        if front == word {
-            return Ok(());
-        }
-        if is_number && matches!(token_of(tokens, number), Some(Token::Number(_))) {
-            self.put(previous, next, &[front, word])?;
-        }
-        let end = operand_end(tokens, number);
-        match scaled(b"shl", SCALED, front, text_of(tokens, number, end)) {
-            Some((x, k)) => self.put(previous, end, &[b"shl(", x, b", ", k, b")"]),
-            None => Ok(()),
-        }
-    }
-
-    // Adds a register whose parts stand here: `r 0`, `r[0]`, `r_{0}`, `r(0)`.
-    fn put_register(&mut self) -> Result<(), AllocError> {
-        let (tokens, number) = (self.tokens, self.number);
-        let next = after(number, 1);
-        if word_of(tokens, number) != b"r".as_slice() {
-            return Ok(());
-        }
-        let mut digit = next;
-        for _ in 0..2 {
-            if matches!(word_of(tokens, digit), [b'[' | b'_' | b'{' | b'(']) {
-                digit = after(digit, 1);
-            }
-        }
-        let is_closed = matches!(word_of(tokens, after(digit, 1)), [b']' | b'}' | b')']);
-        let end = after(digit, if is_closed && digit > next { 2 } else { 1 });
-        self.put(number, end, &[b"r", word_of(tokens, digit)])?;
-        if self.expected == Expected::Expression {
-            self.put(number, next, &[b"R"])?;
-        }
-        Ok(())
-    }
-
-    // Adds that a comment begins, that a line is left out, or that it is exchanged with the next one.
+    // Adds that a line is left out, or that it is exchanged with the next one.
     fn put_line(&mut self) -> Result<(), AllocError> {
-        let (tokens, number) = (self.tokens, self.number);
-        let text = tokens.text;
-        let from = start_of(tokens, number);
+        let (text, from) = (self.spot.text, self.spot.span(self.spot.number).0);
         let line = before(from, last_line_len(part(text, 0, from)));
         let end = after(from, first_line_len(part(text, from, text.len())));
-        if is_comment(tokens, number) {
-            self.put(number, after_marks(tokens, number), &[b"#"])?;
-        }
         if before(end, line) > LONGEST_PART {
             return Ok(());
         }
         let stop = after(end, 1);
         let next = after(stop, first_line_len(part(text, stop, text.len())));
         let lines = [part(text, stop, next), b"\n", part(text, line, end)];
-        self.put_between(line, next, &lines)?;
-        self.put_between(line, end, &[])
+        let alloc = self.spot.alloc;
+        self.all.push(edit_of(alloc, line, next, &lines)?)?;
+        self.all.push(edit_of(alloc, line, end, &[])?)?;
+        Ok(())
     }
 
     // Adds other numbers of rounds and of registers in the header.
     fn put_counts(&mut self) -> Result<(), AllocError> {
-        let tokens = self.tokens;
-        if self.number < 7 {
+        let spot = self.spot;
+        if spot.number < 7 {
             return Ok(());
         }
-        let all = tokens.all.iter();
+        let all = spot.all.iter();
         let rounds = all.filter(|placed| placed.token == Token::Round).count();
-        if rounds < 5 {
-            self.put(0, 2, &[b"rounds ", part(DIGITS, rounds, after(rounds, 1))])?;
-        }
-        let count = match (self.expected, token_of(tokens, self.number)) {
+        self.put(0, 2, &[b"rounds ", part(DIGITS, rounds, after(rounds, 1))])?;
+        let count = match (spot.expected, spot.token(spot.number)) {
             (This(Token::Register(register)), _) => register as usize,
             (_, Some(Token::Register(register))) => after(register as usize, 1),
-            _ => 0,
+            _ => return Ok(()),
         };
-        if count > 0 && count < 9 {
-            self.put(4, 6, &[b"registers ", part(DIGITS, count, after(count, 1))])?;
-        }
-        Ok(())
+        self.put(4, 6, &[b"registers ", part(DIGITS, count, after(count, 1))])
     }
 
     // Adds that what stands before the program or behind its end is left out.
     fn put_around(&mut self) -> Result<(), AllocError> {
-        let (tokens, number) = (self.tokens, self.number);
-        if self.expected == Expected::End && begins_line(tokens, number) {
-            return self.put(number, tokens.all.len(), &[]);
-        }
-        if self.expected != This(Token::Rounds) {
-            return Ok(());
-        }
-        for at in number..tokens.all.len() {
-            if token_of(tokens, at) == Some(Token::Rounds) && begins_line(tokens, at) {
-                return self.put(number, at, &[]);
+        let spot = self.spot;
+        let end = match spot.expected {
+            This(Token::Rounds) => {
+                let mut all = 0..spot.all.len();
+                all.find(|at| spot
+                    .form_end(*at, &[Part::LineEnd, Part::One("rounds")])
+                    .is_some())
+                .unwrap_or(0)
             }
-        }
-        Ok(())
+            Expected::End if spot.begins_line(spot.number) => spot.all.len(),
+            _ => 0,
+        };
+        self.put(spot.number, end, &[])
     }
-}
 
-// Returns edits that can mend the fault at a token, where this is expected. Of two that help as much
-// the earlier one is told.
-pub(crate) fn candidates(
-    alloc: Global,
-    tokens: Tokens,
-    number: usize,
-    expected: Expected,
-) -> Result<Vec<Edit>, AllocError> {
-    let all = Vec::new(alloc);
-    let mut edits = Edits {
-        alloc,
-        tokens,
-        number,
-        expected,
-        all,
-    };
-    edits.put_missing()?;
-    edits.put_number()?;
-    edits.put_register()?;
-    if expected == This(Token::Open) {
-        if let Some(edit) = (Step { alloc, tokens }).wrapped(number)? {
-            edits.all.push(edit)?;
-        }
+    // Adds all edits. Of two that help as much the earlier one is told.
+    pub(crate) fn put_all(&mut self) -> Result<(), AllocError> {
+        let number = self.spot.number;
+        self.put_missing()?;
+        self.put_forms(before(number, 3), thousands())?;
+        self.put_forms(number, tried())?;
+        self.put_instead()?;
+        self.put_forms(before(number, 1), earlier())?;
+        self.put_parted()?;
+        self.put_joined()?;
+        self.put_line()?;
+        self.put_around()?;
+        self.put_counts()
     }
-    edits.put_instead()?;
-    edits.put_parted()?;
-    edits.put_turned()?;
-    edits.put_joined()?;
-    edits.put_line()?;
-    edits.put_around()?;
-    edits.put_counts()?;
-    Ok(edits.all)
 }

@@ -7,7 +7,7 @@ ghost use Rattle.node_lang.specs.Grammar.{Reads};
 ghost use Rattle.node_lang.specs.Faults.{FaultsAt};
 ghost use Rattle.fault_notes.specs.Repairs as repair;
 
-use node_lang::{FaultKind, TextFault, parse};
+use node_lang::{Expected, FaultKind, TextFault, parse};
 use node_program::OutOfMemory;
 use source_places::{first_of, write_shown};
 use std::alloc::{AllocError, Global};
@@ -20,6 +20,27 @@ pub struct Edit {
     pub from: usize,
     pub to: usize,
     pub put: Vec<u8>,
+}
+
+// A fault, and what is expected there: nothing in a text that is too long or not ASCII.
+#[derive(Clone, Copy)]
+pub(crate) struct Misread {
+    pub(crate) fault: TextFault,
+    pub(crate) expected: Option<Expected>,
+}
+
+// Returns the edit of a part of a text that puts these pieces there.
+pub(crate) fn edit_of(
+    alloc: Global,
+    from: usize,
+    to: usize,
+    pieces: &[&[u8]],
+) -> Result<Edit, AllocError> {
+    let mut put = Vec::new(alloc);
+    for piece in pieces {
+        put.extend_from_slice(piece)?;
+    }
+    Ok(Edit { from, to, put })
 }
 
 // Returns a byte of an edit as it is tried.

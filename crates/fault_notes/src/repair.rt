@@ -3,15 +3,13 @@
 ghost use Rattle.std.specs.Prelude.{◌≤◌, length, IfOk, IfSome};
 ghost use Rattle.fault_notes.specs.Repairs as repair;
 
-use crate::candidates::candidates;
-use crate::edits::{Edit, fault_in, left_after};
-use crate::facts::{Fact, fact_at};
-use crate::misread::Misread;
-use crate::names::is_known;
-use crate::rewrites::{edit_of, rewrite};
+use crate::candidates::Edits;
+use crate::edits::{Edit, Misread, edit_of, fault_in, left_after};
+use crate::facts::{Fact, fact_on_sign};
+use crate::rewrites::rewrite;
 use crate::rows::Told;
-use crate::tokens::{Tokens, before, number_at, part, tokens_in};
-use node_lang::{Expected, FaultKind, TextFault, expected_in};
+use crate::tokens::{Spot, before, is_known, part, tokens_in};
+use node_lang::{FaultKind, TextFault, expected_in};
 use node_program::OutOfMemory;
 use source_places::write_shown;
 use std::alloc::{AllocError, Global};
@@ -32,72 +30,39 @@ pub(crate) fn advice_on(alloc: Global, text: &[u8], misread: Misread) -> Result<
     requires { misread.fault.offset ≤ length text.now }
     ensures { IfOk result (λ advice. IfSome advice.repair (repair.IsRepair text.now misread.fault.offset)) }
 {
+    let offset = misread.fault.offset;
     let all = tokens_in(alloc, text)?;
-    let tokens = Tokens { text, all: &all };
-    let fact = fact_at(tokens, misread);
-    let repair = repair_of(alloc, tokens, misread, fact)?;
+    let mut edits = rewritten(alloc, text, misread)?;
+    let mut fact = Some(fact_on_sign(part(text, offset, text.len())));
+    if let Some(expected) = misread.expected {
+        let spot = Spot::new(alloc, text, &all, offset, expected);
+        fact = spot.fact();
+        let mut tried = Edits { spot, all: edits };
+        if !matches!(fact, Some(fact) if fact.told == Told::Alone) {
+            tried.put_all()?;
+        }
+        edits = tried.all;
+    }
+    let repair = best_of(alloc, text, offset, edits)?;
     let fact = told(alloc, fact, repair.is_some())?;
     Ok(Advice { fact, repair })
-}
-
-// Returns an edit that helps, if there is one.
-fn repair_of(
-    alloc: Global,
-    tokens: Tokens,
-    misread: Misread,
-    fact: Option<Fact>,
-) -> Result<Option<Edit>, OutOfMemory>
-    requires { misread.fault.offset ≤ length tokens.text.now }
-    ensures { IfOk result (λ found. IfSome found (repair.IsRepair tokens.entry.text.now misread.fault.offset)) }
-{
-    let offset = misread.fault.offset;
-    let steps = rewritten(alloc, tokens.text, misread)?;
-    let repair = first_that_helps(alloc, tokens.text, offset, steps)?;
-    if repair.is_some() {
-        return Ok(repair);
-    }
-    match (fact, misread.expected) {
-        (Some(fact), _) if fact.told == Told::Alone => Ok(None),
-        (_, Some(expected)) => {
-            let edits = candidates(alloc, tokens, number_at(tokens, offset), expected)?;
-            best_of(alloc, tokens.text, offset, edits)
-        }
-        (_, None) => Ok(None),
-    }
 }
 
 // Returns the text of a fact, an empty one if it is not told beside an edit.
 fn told(alloc: Global, fact: Option<Fact>, is_mended: bool) -> Result<String, AllocError> {
     let mut out = String::new(alloc);
     match fact {
-        Some(fact) if !is_mended || fact.told != Told::Without => {
-            let (head, tail) = fact.text.split_once("{}").unwrap_or((fact.text, ""));
-            out.push_str(head)?;
-            write_shown(&mut out, fact.word)?;
-            out.push_str(tail)?;
-        }
+        Some(fact) if !is_mended || fact.told != Told::Without => match fact.text.split_once("{}") {
+            Some((head, tail)) => {
+                out.push_str(head)?;
+                write_shown(&mut out, fact.word)?;
+                out.push_str(tail)?;
+            }
+            None => out.push_str(fact.text)?,
+        },
         _ => {}
     }
     Ok(out)
-}
-
-// Returns an edit if it helps.
-fn first_that_helps(
-    alloc: Global,
-    text: &[u8],
-    offset: usize,
-    edit: Option<Edit>,
-) -> Result<Option<Edit>, OutOfMemory>
-    requires { offset ≤ length text.now }
-    ensures { IfOk result (λ found. IfSome found (repair.IsRepair text.now offset)) }
-{
-    let Some(edit) = edit else {
-        return Ok(None);
-    };
-    match left_after(alloc, text, offset, &edit)? {
-        Some(_) => Ok(Some(edit)),
-        None => Ok(None),
-    }
 }
 
 // Returns the first edit after which the least is left, if one helps.
@@ -142,15 +107,6 @@ fn most_left(text: &[u8], edit: &Edit) -> usize {
     0
 }
 
-// Returns a text after an edit, without blanks around what is put.
-fn spliced(alloc: Global, text: &[u8], edit: &Edit) -> Result<Vec<u8>, AllocError> {
-    let mut new = Vec::new(alloc);
-    new.extend_from_slice(part(text, 0, edit.from))?;
-    new.extend_from_slice(&edit.put)?;
-    new.extend_from_slice(part(text, edit.to, text.len()))?;
-    Ok(new)
-}
-
 // Returns whether a fault stands on a line behind what was edited. A sign over 127 is no such fault, since those of a
 // text are met first.
 fn is_behind(now: &[u8], fault: TextFault, tail: usize) -> bool {
@@ -159,7 +115,8 @@ fn is_behind(now: &[u8], fault: TextFault, tail: usize) -> bool {
 }
 
 // Returns the edit that several steps make, if there is one.
-fn rewritten(alloc: Global, text: &[u8], misread: Misread) -> Result<Option<Edit>, OutOfMemory> {
+fn rewritten(alloc: Global, text: &[u8], misread: Misread) -> Result<Vec<Edit>, OutOfMemory> {
+    let mut all = Vec::new(alloc);
     let mut now = Vec::from_slice(alloc, text)?;
     let mut stop = misread;
     let mut from = text.len();
@@ -170,7 +127,8 @@ fn rewritten(alloc: Global, text: &[u8], misread: Misread) -> Result<Option<Edit
         };
         from = from.min(edit.from);
         tail = tail.min(now.len().saturating_sub(edit.to));
-        now = spliced(alloc, &now, &edit)?;
+        let (front, back) = (part(&now, 0, edit.from), part(&now, edit.to, now.len()));
+        now = edit_of(alloc, 0, 0, &[front, &edit.put, back])?.put;
         let Some(fault) = fault_in(alloc, &now)? else {
             break;
         };
@@ -180,9 +138,9 @@ fn rewritten(alloc: Global, text: &[u8], misread: Misread) -> Result<Option<Edit
         let expected = expected_in(alloc, &now)?;
         stop = Misread { fault, expected };
     }
-    if from == text.len() {
-        return Ok(None);
+    if from < text.len() {
+        let put = part(&now, from, now.len().saturating_sub(tail));
+        all.push(edit_of(alloc, from, text.len().saturating_sub(tail), &[put])?)?;
     }
-    let put = part(&now, from, now.len().saturating_sub(tail));
-    Ok(Some(edit_of(alloc, from, text.len().saturating_sub(tail), &[put])?))
+    Ok(all)
 }

@@ -1,11 +1,11 @@
-//! What words and signs of other notations stand for, in rows.
+//! Facts on what stands where it cannot, and signs of other notations, in rows.
+//!
+//! A proof unfolds a table in each goal of a function that names it, so one function returns each, and none has more than 24 rows.
 
-use source_places::is_one_of;
-
-// Words, separated by blanks, and what stands beside them, in one row for each line.
-macro_rules! rows {
-    ($($words:literal => $($value:expr),+;)+) => { [$(($words, ($($value),+))),+] };
-}
+use node_lang::Token::{
+    self, Channels, Close, Comma, Equals, Finish, Left, Open, Registers, Right, Round, Rounds,
+    Send, Start,
+};
 
 // When a fact is told: in the place of an edit, unless the text is written in another notation; before an edit; or
 // where no edit helps.
@@ -16,195 +16,305 @@ pub(crate) enum Told {
     Without,
 }
 
-/// Returns what stands in a table beside a word.
-pub(crate) fn row_of<T: Copy>(rows: &[(&str, T)], word: &[u8]) -> Option<T> {
-    for row in rows {
-        if is_one_of(row.0, word) {
-            return Some(row.1);
-        }
-    }
-    None
+// A place in a text, by what is expected there.
+#[derive(Clone, Copy)]
+pub(crate) enum Place {
+    Any,
+    Expression,
+    Number,
+    End,
+    // A register in `start`.
+    First,
+    // A register in a round.
+    Register,
+    // Any place behind an expression on its line.
+    Behind,
+    At(Token),
 }
 
-pub(crate) const CHOICE: &str = "; a choice is written `if(c, a, b)`";
+// What stands at a token.
+#[derive(Clone, Copy)]
+pub(crate) enum Part {
+    // One of these words or marks, with blanks between them.
+    One(&'static str),
+    Operand,
+    // Operands with operators between them.
+    Operands,
+    Number,
+    // A number of three digits.
+    Thousand,
+    Register,
+    Message,
+    Operation,
+    // A word that is not of the language.
+    Strange,
+    // Such a word that begins with a digit.
+    StrangeNumber,
+    Mark,
+    Any,
+    // The end of a line, before the token.
+    LineEnd,
+}
 
-pub(crate) const PRODUCT: &str = "; there is no product: twice x is `shl(x, 1)`";
+// A row of facts: where it counts, what the token before is, what stands there, and a fact and what is written in the place of the
+// token, which both can be empty. `{}` in a fact stands for the word that is wrong.
+#[derive(Clone, Copy)]
+pub(crate) struct Row {
+    pub(crate) places: &'static [Place],
+    pub(crate) last: Option<Part>,
+    pub(crate) parts: &'static [Part],
+    pub(crate) told: Told,
+    pub(crate) fact: &'static str,
+    pub(crate) put: &'static str,
+}
 
-pub(crate) const QUOTIENT: &str = "; there is no quotient: half of x is `shr(x, 1)`";
+// Signs that may be no tokens, with blanks between them, a fact, and what is written in their place.
+#[derive(Clone, Copy)]
+pub(crate) struct Sign {
+    pub(crate) signs: &'static str,
+    pub(crate) fact: &'static str,
+    pub(crate) put: &'static str,
+}
 
-const REMAINDER: &str =
-    "; there is no remainder but by powers of two: by 2 it is `and(x, 1)`, by 16 `and(x, 15)`";
+macro_rules! rows {
+    ($([$($place:expr),+] $(after $last:expr,)? [$($part:expr),*] => $told:ident, $fact:literal, $put:literal;)+) => {
+        [$(Row { places: &[$($place),+], last: last!($($last)?), parts: &[$($part),*], told: Told::$told, fact: $fact, put: $put }),+]
+    };
+}
 
-pub(crate) const POWER: &str = "; there is no power: 2 to the power k is `shl(1, k)`";
+macro_rules! last {
+    () => { None };
+    ($last:expr) => { Some($last) };
+}
 
-const ABSOLUTE: &str = "; |a - b| is `sub(max(a, b), min(a, b))`";
+macro_rules! signs {
+    ($($signs:literal => $fact:literal, $put:literal;)+) => { [$(Sign { signs: $signs, fact: $fact, put: $put }),+] };
+}
 
-const SENT: &str = "; `L` and `R` are what the neighbours sent in this round, one number each";
+use Part::{LineEnd, Mark, Message, One, Operand, Operands, Operation, Strange, StrangeNumber};
+use Place::{Any, At, Behind, End, Expression, First};
 
-pub(crate) const SETS: &str =
-    "; there are no sets: compare with each number, as in `or(eq(x, 5), eq(x, 6))`";
-
-pub(crate) const LEFT: &str =
-    "; the message from the left is `L`, which the assignments of a round read";
-
-pub(crate) const RIGHT: &str =
-    "; the message from the right is `R`, which the assignments of a round read";
-
-const OWN: &str = "; the identifier is `id`, which is read in `start` alone: a register keeps it";
-
-pub(crate) const NOTHING: &str = "; there is no empty value: each is a number";
-
-const STOPS: &str = "; `sub` stops at 0";
-
-pub(crate) const BITWISE: &str = "; `not` is bit by bit: `eq(x, 0)` exchanges 0 and 1";
-
-pub(crate) const BRACKETS: &str = "; brackets are only written after the name of an operation";
-
-pub(crate) const BEHIND: &str = "; an operation is written before its operands, as in `add(a, b)`";
-
-pub(crate) const SIDES: &str = "; each side has a `send` of its own";
-
-/// Facts on words that have nothing of the kind, wherever they are met.
-pub(crate) const WORDS: [(&str, &str); 19] = rows! {
-    "while for do repeat until loop foreach" => "; there are no loops: the block of a round is written out as often as `rounds` says";
-    "def fn func function lambda" => "; there are no functions";
-    "print echo printf puts" => "; nothing is printed: the channel is the expression of `finish`";
-    "rand random" => "; nothing is random";
-    "wait sync synchronize barrier" => "; all nodes do each round at once: nothing waits";
-    "receive received receives recv listen get message messages msg" => SENT;
-    "neighbor neighbour neighbors neighbours nbr parent child" => SENT;
-    "broadcast both" => SIDES;
-    "mul times mult multiply product" => PRODUCT;
-    "div divide quotient" => QUOTIENT;
-    "mod rem modulo" => REMAINDER;
-    "pow power exp" => POWER;
-    "then else elif elsif elseif endif fi case switch when match" => CHOICE;
-    "in" => SETS;
-    "nand" => "; write `not(and(a, b))`, or `eq(and(a, b), 0)` for 0 and 1";
-    "nor" => "; write `not(or(a, b))`, or `eq(or(a, b), 0)` for 0 and 1";
-    "neg negate" => "; numbers have no sign: `not(a)` is 4294967295 - a";
-    "abs" => ABSOLUTE;
-    "mex" => "; there is no operation for the least number that is missing: compare with `eq`";
+static VALUES: [Row; 17] = rows! {
+    [Expression] [One("r"), One("_ _{ [ ( { 0 1 2 3 4 5 6 7")] => Without, "; registers are `r0` to `r7`", "";
+    [Expression] [One("r")] =>
+        Beside, "; the message from the right is `R`, which the assignments of a round read", "";
+    [Expression] [One("m n t T M N delta degree deg size count")] =>
+        Alone, "; there is no word for the number of rounds, of nodes or of identifiers", "";
+    [Expression] [One("len length log log2 msb clz")] =>
+        Alone, "; there is no word for the number of nodes or of bits: compare with powers of 2, as in `le(4, x)`", "";
+    [Expression] [One("LL RR LR RL")] => Alone, "; what is farther away than the neighbours takes one more round", "";
+    [Expression] [One("old")] =>
+        Alone, "; a round reads the registers from before it: the old value of r0 is `r0`", "";
+    [Expression] [One("let where")] =>
+        Alone, "; values have no names: an expression is written out wherever it is read", "";
+    [Expression] [One("place position pos index")] =>
+        Alone, "; a node knows no place, only its identifier, which `start` reads as `id`", "";
+    [Expression] [One("ids near far")] =>
+        Alone, "; this is an option of the commands, as in `nbhd judge --ids 8 --near 2`", "";
+    [Expression] [One("left Left LEFT l prev pred previous fromLeft msgL LeftMsg leftMsg L0 L1 L2")] =>
+        Beside, "; the message from the left is `L`, which the assignments of a round read", "L";
+    [Expression] [One("right Right RIGHT next succ fromRight msgR RightMsg rightMsg")] =>
+        Beside, "; the message from the right is `R`, which the assignments of a round read", "R";
+    [Expression] [One("self me my uid ident identifier myid node ID Id iD")] =>
+        Beside, "; the identifier is `id`, which is read in `start` alone: a register keeps it", "id";
+    [Expression] [One("null nil none None NULL pass skip nop idle empty void nothing")] =>
+        Beside, "; there is no empty value: each is a number", "0";
+    [Expression] [One("ro rO")] => Beside, "; `r0` is written with the digit 0", "r0";
+    [Expression] [One("true True TRUE yes")] => Beside, "", "1";
+    [Expression] [One("false False FALSE no O o MIN Min")] => Beside, "", "0";
+    [Expression] [One("minimum")] => Beside, "; `min` and `max` take two operands: `min(a, min(b, c))`", "min";
 };
 
-/// Facts on words in an expression.
-pub(crate) const VALUES: [(&str, (Told, &str)); 18] = rows! {
-    "m n t T M N delta degree deg size count" => Told::Alone, "; there is no word for the number of rounds, of nodes or of identifiers";
-    "len length log log2 msb clz" => Told::Alone, "; there is no word for the number of nodes or of bits: compare with powers of 2, as in `le(4, x)`";
-    "lsb ctz ffs" => Told::Alone, "; the least index of a bit that is 1 in x is `ldb(x, 0)`";
-    "popcount bitcount" => Told::Alone, "; there is no such operation: add `bit(x, 0)`, `bit(x, 1)` and so on";
-    "LL RR LR RL" => Told::Alone, "; what is farther away than the neighbours takes one more round";
-    "old" => Told::Alone, "; a round reads the registers from before it: the old value of r0 is `r0`";
-    "let where" => Told::Alone, "; values have no names: an expression is written out wherever it is read";
-    "input" => Told::Alone, OWN;
-    "place position pos index" => Told::Alone, "; a node knows no place, only its identifier, which `start` reads as `id`";
-    "ids near far" => Told::Alone, "; this is an option of the commands, as in `nbhd judge --ids 8 --near 2`";
-    "implies" => Told::Alone, "; for 0 and 1, write `le(a, b)`";
-    "left Left LEFT l prev pred previous fromLeft msgL" => Told::Beside, LEFT;
-    "right Right RIGHT next succ fromRight msgR r" => Told::Beside, RIGHT;
-    "self me my uid ident identifier myid node ID Id iD" => Told::Beside, OWN;
-    "minus diff subtract" => Told::Beside, STOPS;
-    "minimum maximum" => Told::Beside, "; `min` and `max` take two operands: `min(a, min(b, c))`";
-    "null nil none None NULL pass skip nop idle empty void nothing" => Told::Beside, NOTHING;
-    "ro rO" => Told::Beside, "; `r0` is written with the digit 0";
+// Words in the place of an expression.
+pub(crate) fn values() -> &'static [Row] {
+    &VALUES
+}
+
+static MARKS: [Row; 13] = rows! {
+    [Expression] [One("plus sum")] => Without, "; there is no operation `{}`: LANGUAGE.md lists all", "add";
+    [Expression] [One("leq lte")] => Without, "; there is no operation `{}`: LANGUAGE.md lists all", "le";
+    [Expression] [One("neq unequal")] => Without, "; there is no operation `{}`: LANGUAGE.md lists all", "ne";
+    [Expression] [One("ite select mux choose cond iff")] =>
+        Without, "; there is no operation `{}`: LANGUAGE.md lists all", "if";
+    [Expression] [One("{"), Operands, One(",")] =>
+        Alone, "; there are no sets: compare with each number, as in `or(eq(x, 5), eq(x, 6))`", "";
+    [Expression] [One("("), Operands, One(",")] => Without, "; the name of an operation is missing before it", "";
+    [Expression] [One("- _ ."), LineEnd] => Beside, "; there is no empty value: each is a number", "0";
+    [Expression] [One("-")] => Alone, "; numbers have no sign, and `sub(a, b)` stops at 0", "";
+    [Expression] [One("? .. ... ??")] => Alone, "; where this stands in an example, an expression is written", "";
+    [Expression] [One("!")] => Beside, "; `not` is bit by bit: `eq(x, 0)` exchanges 0 and 1", "";
+    [Expression] [One("( [ {")] => Beside, "; brackets are only written after the name of an operation", "";
+    [Expression] [One("+")] => Beside, "; numbers have no sign", "";
+    [Expression] [One("\" '")] => Beside, "; programs have no quotation marks", "";
 };
 
-/// Facts on signs behind an expression.
-pub(crate) const SIGNS_BEHIND: [(&str, &str); 8] = rows! {
-    "-" => STOPS;
-    "&&" => "; `and` is bit by bit: a number is made 0 or 1 by `ne(a, 0)`";
-    "^" => "; `xor` is bit by bit, and 2 to the power k is `shl(1, k)`";
-    "*" => PRODUCT;
-    "/ //" => QUOTIENT;
-    "%" => REMAINDER;
-    "** ^{" => POWER;
-    "` \\" => BEHIND;
+// Operations by other names, and marks, in the place of an expression.
+pub(crate) fn expression_marks() -> &'static [Row] {
+    &MARKS
+}
+
+static WORDS: [Row; 16] = rows! {
+    [Any] [One("while for do repeat until loop foreach")] =>
+        Alone, "; there are no loops: the block of a round is written out as often as `rounds` says", "";
+    [Any] [One("def fn func function lambda")] => Alone, "; there are no functions", "";
+    [Any] [One("print echo printf puts")] =>
+        Alone, "; nothing is printed: the channel is the expression of `finish`", "";
+    [Any] [One("rand random")] => Alone, "; nothing is random", "";
+    [Any] [One("receive received receives recv listen get message messages msg neighbor neighbour neighbors neighbours nbr")] =>
+        Alone, "; `L` and `R` are what the neighbours sent in this round, one number each", "";
+    [Any] [One("broadcast both")] => Alone, "; each side has a `send` of its own", "";
+    [Expression, Behind] [One("mul times mult multiply product *")] =>
+        Alone, "; there is no product: twice x is `shl(x, 1)`", "";
+    [Expression, Behind] [One("div divide quotient / //")] =>
+        Alone, "; there is no quotient: half of x is `shr(x, 1)`", "";
+    [Expression, Behind] [One("mod rem modulo %")] =>
+        Alone, "; there is no remainder but by powers of two: by 2 it is `and(x, 1)`, by 16 `and(x, 15)`", "";
+    [Expression, Behind] [One("pow power exp ** ^{")] =>
+        Alone, "; there is no power: 2 to the power k is `shl(1, k)`", "";
+    [Any] [One("then else elif elsif elseif endif fi case switch when match")] =>
+        Alone, "; a choice is written `if(c, a, b)`", "";
+    [Any] [One("in")] => Alone, "; there are no sets: compare with each number, as in `or(eq(x, 5), eq(x, 6))`", "";
+    [Any] [One("neg negate")] => Alone, "; numbers have no sign: `not(a)` is 4294967295 - a", "";
+    [Expression] [One("abs |")] => Alone, "; |a - b| is `sub(max(a, b), min(a, b))`", "";
+    [Any] [One("mex")] =>
+        Alone, "; there is no operation for the least number that is missing: compare with `eq`", "";
+    [Any] [One("_")] => Without, "; words, numbers and registers have no `_`", "";
 };
 
-/// Facts on signs before an expression, or in its place.
-pub(crate) const SIGNS_BEFORE: [(&str, (Told, &str)); 8] = rows! {
-    "-" => Told::Alone, "; numbers have no sign, and `sub(a, b)` stops at 0";
-    "|" => Told::Alone, ABSOLUTE;
-    "? .. ... ??" => Told::Alone, "; where this stands in an example, an expression is written";
-    "!" => Told::Beside, BITWISE;
-    "[ {" => Told::Beside, BRACKETS;
-    "+" => Told::Beside, "; numbers have no sign";
-    "--" => Told::Beside, STOPS;
-    "\" '" => Told::Beside, "; programs have no quotation marks";
+// Words of other languages, most of them wherever they are met.
+pub(crate) fn words() -> &'static [Row] {
+    &WORDS
+}
+
+static OTHERS: [Row; 13] = rows! {
+    [At(Round)] [One("end End END done")] => Alone, "; no word ends a block: the next line begins what follows", "";
+    [Expression] after One("( ,"), [Strange, One("= :")] => Beside, "; operands have no names", "";
+    [Expression] [Strange, One("(")] => Without, "; there is no operation `{}`: LANGUAGE.md lists all", "";
+    [Expression] [StrangeNumber] => Without, "; a number has only digits, and is decimal", "";
+    [Expression] [Strange] => Without, "; registers are `r0` to `r7`, and values have no other names", "";
+    [Expression] [Mark] => Without, "; a mark stands where an expression is written", "";
+    [Any] after One("left"), [One(", right")] => Beside, "; each side has a `send` of its own", "";
+    [Any] [One(","), One("right")] => Beside, "; each side has a `send` of its own", "";
+    [Expression] [LineEnd] => Without, "", "";
+    [Expression] [Part::Any] => Without, "; `{}` has no value", "";
+    [Place::Number] [One("-")] => Alone, "; numbers have no sign", "";
+    [Place::Number, At(Channels), At(Registers), At(Start)] [Mark] => Without, "; one number is written here, in digits", "";
+    [Place::Number] [] => Without, "; a number is written in digits", "";
 };
 
-/// Words for values.
-pub(crate) const NAMED_VALUES: [(&str, &[u8]); 7] = rows! {
-    "true True TRUE yes" => b"1";
-    "false False FALSE no null nil none None NULL O o MIN Min" => b"0";
-    "left Left LEFT l prev pred previous fromLeft msgL LeftMsg" => b"L";
-    "right Right RIGHT next succ fromRight msgR RightMsg" => b"R";
-    "self me my uid ident identifier myid node" => b"id";
-    "ro rO" => b"r0";
-    "inf Inf infinity Infinity infty maxint MAXINT MAX Max" => b"4294967295";
+// What else is met in the place of an expression or of a number.
+pub(crate) fn other_values() -> &'static [Row] {
+    &OTHERS
+}
+
+static SIGNS_BEHIND: [Row; 17] = rows! {
+    [At(Equals)] [Strange, LineEnd] =>
+        Alone, "; an assignment is written `r0 = ..`, as in `r0 = r0` where it stays", "";
+    [At(Equals)] [One(":= <- =: is")] => Beside, "", "=";
+    [At(Equals)] [One("|")] => Beside, "; a choice is written `if(c, a, b)`", "";
+    [At(Equals)] [One(":")] => Without, "; registers have no types", "=";
+    [At(Open)] [One("[ {")] => Without, "; the operands of `{}` are written in brackets", "(";
+    [At(Close)] [One("] }")] => Beside, "", ")";
+    [Behind] after Message, [One(". -> _ ::")] => Beside, "; a message is one number, without parts", "";
+    [At(Comma)] [One("; : .")] => Beside, "", ",";
+    [Behind] [One("[")] => Alone, "; bit i of it is `bit({}, i)`", "";
+    [Behind] after Part::Number, [One(".")] => Without, "; numbers are whole", "";
+    [Behind] [One("."), LineEnd] => Without, "", "";
+    [Behind] [One(".")] =>
+        Alone, "; values have no parts, and an operation is written before its operands, as in `bit(a, i)`", "";
+    [Behind] [One("-")] => Beside, "; `sub` stops at 0", "";
+    [Behind] [One("&&")] => Beside, "; `and` is bit by bit: a number is made 0 or 1 by `ne(a, 0)`", "";
+    [Behind] [One("^")] => Beside, "; `xor` is bit by bit, and 2 to the power k is `shl(1, k)`", "";
+    [Behind] [One("` \\")] => Beside, "; an operation is written before its operands, as in `add(a, b)`", "";
+    [Behind] [One("-> =>")] => Without, "; a program has no arrows", "";
 };
 
-/// Words for operations, and whether their two operands are exchanged.
-pub(crate) const NAMED_OPERATIONS: [(&str, (&[u8], bool)); 16] = rows! {
-    "plus sum" => b"add", false;
-    "minus diff subtract" => b"sub", false;
-    "lsh lshift sll bsl" => b"shl", false;
-    "rsh rshift srl bsr" => b"shr", false;
-    "leq lte" => b"le", false;
-    "less" => b"lt", false;
-    "neq unequal" => b"ne", false;
-    "equals equal xnor" => b"eq", false;
-    "maximum" => b"max", false;
-    "minimum" => b"min", false;
-    "bitand band" => b"and", false;
-    "bitor bor" => b"or", false;
-    "bitxor bxor" => b"xor", false;
-    "gt greater" => b"lt", true;
-    "ge geq gte" => b"le", true;
-    "bitnot bnot inv invert" => b"not", false;
+// Marks in the place of `=`, of a bracket or of a comma, and behind an expression.
+pub(crate) fn marks_behind() -> &'static [Row] {
+    &SIGNS_BEHIND
+}
+
+static BEHIND: [Row; 14] = rows! {
+    [Behind] [Mark] => Without, "", "";
+    [Behind] after One("id"), [One("(")] => Alone, "; `id` is the identifier of the node, and no operation", "";
+    [Behind] [One("(")] => Beside, "; no bracket follows a number, a register, `id`, `L` or `R`", "";
+    [Behind, At(Equals)] [Strange] => Without, "; one expression is written here, and a comment begins with `#`", "";
+    [At(Equals)] [] => Without, "; an assignment is written `r0 = ..`", "";
+    [At(Open)] after One("not"), [] => Beside, "; `not` is bit by bit: `eq(x, 0)` exchanges 0 and 1", "";
+    [At(Open)] after One("if"), [] => Beside, "; a choice is written `if(c, a, b)`", "";
+    [At(Open)] [] => Without, "; the operands of `{}` are written in brackets", "";
+    [End] [LineEnd] => Without, "; the expression of `finish` ends the program", "";
+    [End] [] => Without, "; `finish` has one expression, which ends the program", "";
+    [Behind] [Operand] => Without, "; an operation is written before its operands, as in `add(a, b)`", "";
+    [At(Comma), At(Close)] [] => Without, "; a bracket is open", "";
+    [Any] [One("{ }")] => Beside, "; a program has no such brackets", "";
+    [Any] [One("(")] => Without, "; no brackets are allowed here", "";
 };
 
-/// How tight comparisons bind.
-pub(crate) const COMPARED: u32 = 3;
+// What else is met behind an expression, or in the place of a bracket.
+pub(crate) fn behind() -> &'static [Row] {
+    &BEHIND
+}
 
-/// How tight products, quotients and remainders bind, which are operations with a power of two alone.
-pub(crate) const SCALED: u32 = 9;
-
-/// How tight powers bind, which are operations of 2 alone.
-pub(crate) const RAISED: u32 = 10;
-
-/// Signs and words between operands: the operation that each is, how tight it binds, and whether the operands are
-/// exchanged.
-pub(crate) const OPERATORS: [(&str, (&[u8], u32, bool)); 19] = rows! {
-    "&&" => b"and", 2, false;
-    "||" => b"or", 1, false;
-    "<< bsl lsl" => b"shl", 7, false;
-    ">>" => b"shr", 7, false;
-    "&" => b"and", 6, false;
-    "|" => b"or", 4, false;
-    "^" => b"xor", 5, false;
-    "+ plus" => b"add", 8, false;
-    "- minus" => b"sub", 8, false;
-    "* times" => b"shl", SCALED, false;
-    "/ // div" => b"shr", SCALED, false;
-    "% mod rem" => b"and", SCALED, false;
-    "**" => b"shl", RAISED, false;
-    "= == === is equals" => b"eq", COMPARED, false;
-    "!= /= ~= <>" => b"ne", COMPARED, false;
-    "<= =<" => b"le", COMPARED, false;
-    "<" => b"lt", COMPARED, false;
-    ">= => ge geq" => b"le", COMPARED, true;
-    "> gt" => b"lt", COMPARED, true;
+static LINES: [Row; 20] = rows! {
+    [At(Rounds)] [Part::Number] => Without, "; the lines have no numbers", "";
+    [At(Rounds), At(Channels), At(Registers), At(Start)] [Strange, Part::Register] => Without, "", "";
+    [At(Rounds), At(Channels), At(Registers), At(Start)] [] =>
+        Without, "; a program begins with `rounds`, `channels`, `registers` and `start`", "";
+    [At(Right)] [One("left R")] => Without, "", "right";
+    [At(Left)] [One("right")] => Beside, "; `send left` comes first, then `send right`", "";
+    [At(Left)] [One("L")] => Without, "", "left";
+    [At(Left)] [Part::Register] => Beside, "; each side has a `send` of its own", "";
+    [At(Left)] [Part::Number] => Beside, "; each side has a `send` of its own", "";
+    [At(Send)] after One("round"), [Part::Number] => Beside, "; rounds have no numbers", "";
+    [Any] [Strange, Part::Register] => Without, "", "";
+    [At(Send), At(Left), At(Right)] [] => Without, "; a round begins with `send left ..` and `send right ..`", "";
+    [First, Place::Register] [Strange, One("= ( [")] => Beside, "; registers are `r0` to `r7`, and have no other names", "";
+    [Any] [One("L R id"), One("=")] =>
+        Alone, "; only registers are assigned: a value is sent by `send left` and `send right`", "";
+    [Any] [Operation] => Beside, "; one expression is assigned to each register, as in `r0 = if(c, a, b)`", "";
+    [First] [] => Beside, "; each register is assigned once, in order", "";
+    [Place::Register] [] => Beside, "; each register is assigned once, in order, as in `r0 = r0` where it stays", "";
+    [At(Round)] [One("finish round send")] =>
+        Beside, "; there are as many rounds as `rounds` says: write the missing ones if that is right", "";
+    [At(Finish)] [One("finish round send")] => Beside, "; there are as many rounds as `rounds` says", "";
+    [Any] [Part::Register] => Beside, "; each register is assigned once, and `registers` says how many there are", "";
+    [At(Finish)] [] => Without, "; each register is assigned once, then comes `finish`", "";
 };
 
-/// Powers of two, their exponents, and the numbers below them.
-pub(crate) const POWERS: [(&str, (&[u8], &[u8])); 8] = rows! {
-    "2" => b"1", b"1";
-    "4" => b"2", b"3";
-    "8" => b"3", b"7";
-    "16" => b"4", b"15";
-    "32" => b"5", b"31";
-    "64" => b"6", b"63";
-    "128" => b"7", b"127";
-    "256" => b"8", b"255";
+// What is met where a line of a program begins.
+pub(crate) fn line_beginnings() -> &'static [Row] {
+    &LINES
+}
+
+static SIGNS: [Sign; 24] = signs! {
+    "\u{a0} \u{202f}" => "; this is a blank that does not break: write a plain one", "\u{20}";
+    "\u{200b}" => "; this is a dash or a blank that is not ASCII", "";
+    "\u{feff}" => "; this is a byte order mark: save the file without one", "";
+    "\u{2010} \u{2013} \u{2014}" => "; this is a dash or a blank that is not ASCII", "-";
+    "\u{2212}" => "; this is a minus sign that is not ASCII", "-";
+    "\u{2018} \u{2019}" => "; this is a typographic quotation mark, and programs have no quotation marks", "'";
+    "\u{201c} \u{201d}" => "; this is a typographic quotation mark, and programs have no quotation marks", "\"";
+    "\u{2022}" => "; this is a bullet", "";
+    "\u{2190} \\leftarrow \\gets" => "", "=";
+    "\\lfloor \\rfloor \\left \\right" => "", "";
+    "\u{ac} \\neg" => "", "!";
+    "\u{2260} \\neq \\ne" => "", "!=";
+    "\u{2264} \\leq \\le" => "", "<=";
+    "\u{2265} \\geq \\ge" => "", ">=";
+    "\u{2227} \\land" => "", "&&";
+    "\u{2228} \\lor" => "", "||";
+    "\u{2295} \\oplus" => "", "^";
+    "\u{d7} \u{b7} \u{22c5} \\cdot \\times" => "; there is no product: twice x is `shl(x, 1)`", "*";
+    "\\min" => "", "min";
+    "\\max" => "", "max";
+    "&lt;" => "", "<";
+    "&gt;" => "", ">";
+    "&amp;" => "", "&";
+    "\\n" => "", "\u{20}";
 };
+
+// Signs of other notations. Of those that begin alike the longer one comes first.
+pub(crate) fn signs() -> &'static [Sign] {
+    &SIGNS
+}

@@ -10,8 +10,7 @@ ghost use Rattle.source_places.specs.Shown.{marked_line};
 ghost use Rattle.fault_notes.specs.TextNotes.{quoted, cause_of, IsAdvice, IsTextNote, IsLongNote};
 ghost use Rattle.fault_notes.specs.Repairs.{optional_text};
 
-use crate::edits::{text_from, write_repair};
-use crate::misread::Misread;
+use crate::edits::{Misread, text_from, write_repair};
 use crate::repair::{Advice, advice_on};
 use crate::word_texts::{first_word, write_wanted_part};
 use node_lang::{Expected, FaultKind, TextFault, expected_in};

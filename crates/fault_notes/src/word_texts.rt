@@ -37,7 +37,7 @@ pub(crate) fn first_word(text: &[u8]) -> &[u8]
 }
 
 // Returns the text for a word or a mark that can follow.
-fn token_text(token: Token) -> &'static str
+pub(crate) fn token_text(token: Token) -> &'static str
     ensures { result.now ≡ spelled token }
 {
     match token {
