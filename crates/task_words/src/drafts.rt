@@ -2,7 +2,9 @@
 
 use crate::commands::{CHECK, CommandRow};
 use crate::option_rows::{FORBID, RING};
-use crate::other_names::{Meaning, Meant, meaning_of, option_in, other_command, own_command};
+use crate::other_names::{
+    Fact, Kind, Meaning, Meant, meaning_of, meaning_of_kind, option_in, other_command, own_command,
+};
 use std::alloc::{AllocError, Global};
 
 /// What a part of the words means, and the text that was given as its value.
@@ -17,35 +19,41 @@ pub(crate) struct Given {
 pub(crate) struct Draft {
     pub(crate) command: CommandRow,
     pub(crate) given: Vec<Given>,
-    /// The fact on the first wrong word, which is empty if there is none.
-    pub(crate) fact: &'static str,
+    /// The fact on the first wrong word, if there is one.
+    pub(crate) fact: Option<Fact>,
     /// Whether each word was understood.
     pub(crate) is_whole: bool,
 }
 
 // Returns the command of words, the index of its word, and the fact on it: the first word that is the
 // name of a command, or the one that the first word stands for.
-fn command_in(words: &[String]) -> (Option<CommandRow>, usize, &'static str) {
+fn command_in(words: &[String]) -> (Option<CommandRow>, usize, Option<Fact>) {
     for (index, word) in words.iter().enumerate() {
         if let Some(row) = own_command(without_dashes(word.as_str())) {
-            return (Some(row), index, "");
+            return (Some(row), index, None);
         }
     }
     let [first, ..] = words else {
-        return (None, 0, "");
+        return (None, 0, None);
     };
     let first = first.as_str();
     match other_command(without_dashes(first)) {
-        Some(meant) => (own_command(meant.meaning.name()), 0, meant.fact),
+        Some(
+            Meant {
+                meaning: Meaning::Command(name),
+                fact,
+            },
+        ) => (own_command(name), 0, fact),
+        Some(meant) => (None, 0, meant.fact),
         None => (None, 0, fact_without_command(first)),
     }
 }
 
 // Returns the fact on a first word that stands for no command.
-fn fact_without_command(word: &str) -> &'static str {
+fn fact_without_command(word: &str) -> Option<Fact> {
     let bare = without_dashes(word);
-    match meaning_of(&CHECK, bare) {
-        Some(meant) if !meant.fact.is_empty() => meant.fact,
+    let text = match meaning_of(&CHECK, bare) {
+        Some(meant) if meant.fact.is_some() => return meant.fact,
         _ if word.contains(' ') => {
             "quotes around all words make them one word: leave out the quotes"
         }
@@ -53,8 +61,9 @@ fn fact_without_command(word: &str) -> &'static str {
             "the name of a command comes first, as in `nbhd check --ids 8`"
         }
         _ if word.contains('.') => "a text is read from standard input",
-        _ => "",
-    }
+        _ => return None,
+    };
+    Some(Fact::Text(text))
 }
 
 /// Reads words. Without a command nothing is given.
@@ -76,16 +85,20 @@ pub(crate) fn draft_of(alloc: Global, words: &[String]) -> Result<Draft, AllocEr
 
 impl Draft {
     // Sets the fact, unless there is one.
-    fn tell(&mut self, fact: &'static str) {
-        if self.fact.is_empty() {
-            self.fact = fact;
-        }
+    fn tell(&mut self, fact: Option<Fact>) {
+        self.fact = self.fact.or(fact);
     }
 
-    // Returns whether an option or a file is given.
+    // Returns whether an option is given.
     fn has(&self, name: &str) -> bool {
         let mut given = self.given.iter();
-        given.any(|given| given.meaning.name() == name)
+        given.any(|given| matches!(given.meaning, Meaning::Option(other, _) if other == name))
+    }
+
+    // Returns whether a file is given from which the text is read.
+    fn has_input(&self) -> bool {
+        let mut given = self.given.iter();
+        given.any(|given| matches!(given.meaning, Meaning::Input))
     }
 
     // Returns whether the command has an option that can still be given.
@@ -96,7 +109,7 @@ impl Draft {
     // Reads the parts of a word between its blanks and `=`.
     fn read_word(&mut self, word: &str) -> Result<(), AllocError> {
         if word.is_empty() {
-            self.tell("a word is empty, as of a variable without a value");
+            self.tell(Some(Fact::Text("a word is empty, as of a variable without a value")));
         }
         for part in word.split(|letter| letter == ' ' || letter == '=') {
             self.read_part(part.trim_matches(is_around))?;
@@ -114,18 +127,16 @@ impl Draft {
         if !is_name && self.takes(text) {
             return self.append(text);
         }
-        let name = match own_command(text) {
-            Some(_) => "<command>",
-            None if is_name => bare,
-            None => text,
-        };
+        if own_command(text).is_some() {
+            return self.begin(meaning_of_kind(&self.command, Kind::Command));
+        }
+        let name = if is_name { bare } else { text };
         if let Some(meant) = meaning_of(&self.command, name) {
             return self.begin(meant);
         }
-        // A word without a name is read as if its probable name stood before it.
-        match meaning_of(&self.command, self.name_before(text)) {
-            Some(meant) => {
-                self.begin(meant)?;
+        match self.kind_of(text) {
+            Some(kind) => {
+                self.begin(meaning_of_kind(&self.command, kind))?;
                 self.append(text)?;
             }
             None => self.is_whole = false,
@@ -133,24 +144,24 @@ impl Draft {
         Ok(())
     }
 
-    // Returns the name of an option that a word is probably the value of, or that of a row for it.
-    fn name_before(&self, text: &str) -> &'static str {
+    // Returns what a word without a name probably is.
+    fn kind_of(&self, text: &str) -> Option<Kind> {
         let is_list = has_comma(text);
-        if text.starts_with(is_of_name) && !is_list && !self.has("<file>") {
-            "<file>"
+        Some(if text == "-" || text.starts_with(is_of_name) && !is_list && !self.has_input() {
+            Kind::File
         } else if !begins_with_digit(without_dashes(text)) {
-            ""
+            return None;
         } else if !is_list && self.lacks("ids") {
-            "ids"
+            Kind::Ids
         } else if self.lacks("ring") {
-            "<ring>"
+            Kind::Ring
         } else if is_list && self.lacks("forbid") {
-            "<pattern>"
+            Kind::Pattern
         } else if !is_list && self.lacks("place") {
-            "place"
+            Kind::Place
         } else {
-            "<number>"
-        }
+            Kind::Number
+        })
     }
 
     // Adds what a name means.
@@ -169,7 +180,7 @@ impl Draft {
     // Adds to what was given last.
     fn append(&mut self, text: &str) -> Result<(), AllocError> {
         if text.starts_with('-') && begins_with_digit(without_dashes(text)) {
-            self.tell("numbers are written in digits, without a sign");
+            self.tell(Some(Fact::Text("numbers are written in digits, without a sign")));
         }
         if let Some(last) = self.given.last_mut() {
             last.text.push_str(" ")?;

@@ -5,9 +5,9 @@ ghost use Rattle.std.specs.Prelude.{◌≡◌, IfOk, IfSome, bytes_eq, is_ok, ma
 ghost use Rattle.task_words.specs.Mended.{IsMended, IsRequest, is_command_name, is_of_command};
 
 use crate::commands::{COMMANDS, CommandRow};
-use crate::drafts::{Draft, draft_of, is_list};
+use crate::drafts::{Draft, Given, draft_of, is_list};
 use crate::option_rows::{FAR, NEAR, OptionRow, Values};
-use crate::other_names::{Meaning, option_in};
+use crate::other_names::{Meaning, option_in, write_fact};
 use crate::pattern_text::are_digits;
 use crate::request::Request;
 use crate::words::{WordsFault, request_of};
@@ -83,7 +83,7 @@ fn meant_words(alloc: Global, words: &[String]) -> Result<Option<Vec<String>>, A
     meant.push(String::from_str(alloc, draft.command.name)?)?;
     let mut is_whole = draft.is_whole;
     for given in &draft.given {
-        if let Some(option) = option_in(draft.command.options, given.meaning.name()) {
+        if let Some(option) = option_given(&draft, given) {
             is_whole = push_given(&mut meant, &option, given.text.as_str().trim())? && is_whole;
         }
     }
@@ -91,6 +91,14 @@ fn meant_words(alloc: Global, words: &[String]) -> Result<Option<Vec<String>>, A
         return Ok(Some(meant));
     }
     Ok(None)
+}
+
+// Returns the option of the command that is given, if one is.
+fn option_given(draft: &Draft, given: &Given) -> Option<OptionRow> {
+    match given.meaning {
+        Meaning::Option(name, _) => option_in(draft.command.options, name),
+        _ => None,
+    }
 }
 
 // Returns the numbers and wildcards of a text, with commas, or `None` if it has others or none.
@@ -156,7 +164,10 @@ fn push_given(words: &mut Vec<String>, option: &OptionRow, text: &str) -> Result
 /// neither. Fails if memory was refused.
 pub(crate) fn advice_on(alloc: Global, words: &[String]) -> Result<String, AllocError> {
     let draft = draft_of(alloc, words)?;
-    let mut advice = String::from_str(alloc, draft.fact)?;
+    let mut advice = String::new(alloc);
+    if let Some(fact) = draft.fact {
+        write_fact(&mut advice, fact)?;
+    }
     match mended_words(alloc, words)? {
         Some(mended) => write_words(&mut advice, &draft, &mended)?,
         None if advice.is_empty() => write_number_fact(&mut advice, &draft)?,
@@ -204,7 +215,7 @@ fn write_files(out: &mut String, draft: &Draft) -> Result<(), AllocError> {
 fn write_number_fact(out: &mut String, draft: &Draft) -> Result<(), AllocError> {
     for given in &draft.given {
         let text = given.text.as_str();
-        if let Some(option) = option_in(draft.command.options, given.meaning.name())
+        if let Some(option) = option_given(draft, given)
             && let Values::Numbers(low, high) = option.values
             && !are_digits(text.trim_matches(|letter| matches!(letter, ' ' | ',' | '-')))
         {

@@ -2,6 +2,8 @@
 
 use crate::commands::{COMMANDS, CommandRow};
 use crate::option_rows::OptionRow;
+use std::alloc::AllocError;
+use std::fmt::Write;
 
 /// What a name means.
 #[derive(Clone, Copy)]
@@ -20,36 +22,47 @@ pub(crate) enum Meaning {
     End,
 }
 
-impl Meaning {
-    /// Returns the name of the option or of the command, or `<file>` for one that is read.
-    pub(crate) fn name(&self) -> &'static str {
-        match self {
-            Meaning::Option(name, _) | Meaning::Command(name) => name,
-            Meaning::Input => "<file>",
-            _ => "",
-        }
-    }
+/// A fact that explains refused words.
+#[derive(Clone, Copy)]
+pub(crate) enum Fact {
+    Text(&'static str),
+    /// Of which commands this is an option.
+    OptionOf(&'static str),
 }
 
-/// What a name means, and a fact, which can be empty.
+/// What a word without a name is.
+#[derive(Clone, Copy)]
+pub(crate) enum Kind {
+    Ids,
+    Ring,
+    Pattern,
+    Place,
+    File,
+    Command,
+    /// A number or a list that the command does not take.
+    Number,
+}
+
+/// What a word means, and a fact, if there is one.
 #[derive(Clone, Copy)]
 pub(crate) struct Meant {
     pub(crate) meaning: Meaning,
-    pub(crate) fact: &'static str,
+    pub(crate) fact: Option<Fact>,
 }
 
 // Names with blanks between them, without minus signs and in small letters, the commands at which they count (none if at each),
-// and what they mean. A word without a name counts as `<number>`, for example.
+// what they mean, and a fact, which can be empty.
 struct OtherName {
     names: &'static str,
     commands: &'static str,
-    meant: Meant,
+    meaning: Meaning,
+    fact: &'static str,
 }
 
 // Rows of names.
 macro_rules! names {
     ($($names:literal $(at $commands:literal)? => $meaning:expr, $fact:expr;)+) => {
-        [$(OtherName { names: $names, commands: concat!("" $(, $commands)?), meant: Meant { meaning: $meaning, fact: $fact } }),+]
+        [$(OtherName { names: $names, commands: concat!("" $(, $commands)?), meaning: $meaning, fact: $fact }),+]
     };
 }
 
@@ -74,44 +87,34 @@ static COMMAND_NAMES: [OtherName; 9] = names! {
 };
 
 // Other names. The first row that fits counts.
-static NAMES: [OtherName; 45] = names! {
+static NAMES: [OtherName; 35] = names! {
     "nbhd ./nbhd" => Meaning::Nothing, "the name of the program stands twice";
     "help man info usage manual options commands ?" => Meaning::Nothing, "`nbhd --help` tells of the program, and `nbhd run --help` of a command";
     "version to" at "migrate" => Meaning::Nothing, "`nbhd migrate` writes the newest version only";
     "version" => Meaning::Nothing, "the first line of `nbhd --help` has the version";
-    "<command>" => Meaning::Nothing, "one command is given at a time";
-    "<number>" => Meaning::Nothing, "each number is the value of an option, as in `--ids 8`";
     "| || ; & && 2>&1" => Meaning::End, "`|`, `;` and `&` are read by the shell, outside of quotes";
     "<" => Meaning::Input, SHELL;
     "> >>" => Meaning::Output, SHELL;
-    "<file> -" at "formula" => Meaning::Nothing, "`nbhd formula` reads no file";
-    "<file> - f i file input program table text" => Meaning::Input, "a text is read from standard input";
+    "f i file input program table text" => Meaning::Input, "a text is read from standard input";
     "o output out" => Meaning::Output, "the answer is on the standard output";
     "ids rounds channels near far n m" at "audit apply migrate" => Meaning::Nothing, "the numbers of a table are in its text";
     "ids" at "print" => Meaning::Nothing, "`nbhd check` tells whether a program is accepted for M identifiers";
     "node id" at "explain" => Meaning::Nothing, "the node that is explained is given by its place in the ring, as in `--place 0`";
     "pos position index p" at "explain" => Meaning::Option("place", ""), "the node that is explained is given by its place in the ring";
     "n m size max count number id identifiers nodes" => Meaning::Option("ids", ""), "the number of identifiers is given by `--ids`";
-    "<ring> r cycle" => Meaning::Option("ring", ""), "a ring is given by `--ring`";
-    "ring" => Meaning::Option("ring", ""), "`--ring` is an option of `run`, `trace`, `explain`, `plan` and `apply`";
-    "place" => Meaning::Option("place", ""), "`--place` is an option of `explain`";
+    "r cycle" => Meaning::Option("ring", ""), "a ring is given by `--ring`";
     "segments" at "table judge plan" => Meaning::Option("workers", ""), "the number of threads is given by `--workers`";
     "workers w j threads jobs cores" at "run" => Meaning::Option("segments", ""), "a run has a thread for each segment";
     "w j threads jobs cores" => Meaning::Option("workers", ""), "the number of threads is given by `--workers`, of `table`, `judge` and `plan`";
-    "workers" => Meaning::Option("workers", ""), "`--workers` is an option of `table`, `judge` and `plan`";
-    "segments s parts" => Meaning::Option("segments", ""), "`--segments` is an option of `run`";
+    "s parts" => Meaning::Option("segments", ""), "a ring is cut into segments by `--segments`, of `run`";
     "l21" => Meaning::Option("near", "2,1"), LABELLING;
     "l lambda distance separation p" => Meaning::Option("near", ""), LABELLING;
-    "near" => Meaning::Option("near", ""), "`--near` is an option of `table`, `judge`, `formula` and `refute`";
-    "far" => Meaning::Option("far", ""), "`--far` is an option of `table`, `judge`, `formula` and `refute`";
     "forbid problem" at "table" => Meaning::Nothing, "a table does not say what its channels have to be but for near and far; `nbhd audit --problem mis` judges it";
     "mis independent-set maximal-independent-set" => Meaning::Option("problem", "mis"), PROBLEMS;
     "matching maximal-matching" => Meaning::Option("problem", "matching"), PROBLEMS;
-    "problem" => Meaning::Option("problem", ""), "`--problem` is an option of `judge`, `audit`, `formula` and `refute`";
-    "<pattern> pattern patterns forbidden avoid" => Meaning::Option("forbid", ""), "a pattern of channels is given by `--forbid`";
-    "forbid" => Meaning::Option("forbid", ""), "`--forbid` is an option of `judge`, `audit`, `formula` and `refute`";
+    "pattern patterns forbidden avoid" => Meaning::Option("forbid", ""), "a pattern of channels is given by `--forbid`";
     "bits binary bin" => Meaning::Option("base", "2"), "numbers are printed in another base by `--base`";
-    "base b radix" => Meaning::Option("base", ""), "`--base` is an option of `trace` and `explain`";
+    "b radix" => Meaning::Option("base", ""), "numbers are printed in another base by `--base`";
     "json csv format" at "formula" => Meaning::Nothing, "`nbhd formula` prints DIMACS, which solvers read, and has no other form";
     "json" => Meaning::Option("format", "json"), "a report is in JSON by `--format json`";
     "fmt" => Meaning::Option("format", ""), "a report is in JSON by `--format json`";
@@ -139,14 +142,65 @@ pub(crate) fn other_command(name: &str) -> Option<Meant> {
     meant_in(&COMMAND_NAMES, "nbhd", name)
 }
 
-/// Returns what a name means at a command: an option whose name it begins, or that of a row.
+/// Returns what a name means at a command: an option whose name it begins, that of a row, or an option of other commands.
 pub(crate) fn meaning_of(command: &CommandRow, name: &str) -> Option<Meant> {
-    match option_in(command.options, name) {
-        Some(option) => Some(Meant {
-            meaning: Meaning::Option(option.name, ""),
-            fact: "",
-        }),
-        None => meant_in(&NAMES, command.name, name),
+    if let Some(option) = option_in(command.options, name) {
+        return Some(option_meant(option.name, None));
+    }
+    match meant_in(&NAMES, command.name, name) {
+        Some(meant) => Some(meant),
+        None => {
+            let option = own_option(&COMMANDS, name)?;
+            Some(option_meant(option.name, Some(Fact::OptionOf(option.name))))
+        }
+    }
+}
+
+// Returns that an option is meant.
+fn option_meant(name: &'static str, fact: Option<Fact>) -> Meant {
+    Meant {
+        meaning: Meaning::Option(name, ""),
+        fact,
+    }
+}
+
+// Returns the option of one of these commands with this name.
+fn own_option(rows: &[CommandRow], name: &str) -> Option<OptionRow> {
+    for row in rows {
+        for option in row.options {
+            if option.name.eq_ignore_ascii_case(name) {
+                return Some(*option);
+            }
+        }
+    }
+    None
+}
+
+// Returns that nothing is meant.
+fn nothing(fact: &'static str) -> Meant {
+    Meant {
+        meaning: Meaning::Nothing,
+        fact: Some(Fact::Text(fact)),
+    }
+}
+
+/// Returns what a word without a name means at a command.
+pub(crate) fn meaning_of_kind(command: &CommandRow, kind: Kind) -> Meant {
+    match kind {
+        Kind::Ids => option_meant("ids", None),
+        Kind::Place => option_meant("place", None),
+        Kind::Ring => option_meant("ring", Some(Fact::Text("a ring is given by `--ring`"))),
+        Kind::Pattern => {
+            let fact = Fact::Text("a pattern of channels is given by `--forbid`");
+            option_meant("forbid", Some(fact))
+        }
+        Kind::File if command.name == "formula" => nothing("`nbhd formula` reads no file"),
+        Kind::File => Meant {
+            meaning: Meaning::Input,
+            fact: Some(Fact::Text("a text is read from standard input")),
+        },
+        Kind::Command => nothing("one command is given at a time"),
+        Kind::Number => nothing("each number is the value of an option, as in `--ids 8`"),
     }
 }
 
@@ -167,8 +221,52 @@ fn meant_in(rows: &[OtherName], command: &str, name: &str) -> Option<Meant> {
         let mut names = row.names.split(' ');
         let counts = row.commands.is_empty() || row.commands.contains(command);
         if counts && names.any(|other| other.eq_ignore_ascii_case(name)) {
-            return Some(row.meant);
+            let fact = if row.fact.is_empty() {
+                None
+            } else {
+                Some(Fact::Text(row.fact))
+            };
+            return Some(Meant {
+                meaning: row.meaning,
+                fact,
+            });
         }
     }
     None
+}
+
+/// Writes a fact.
+pub(crate) fn write_fact(out: &mut String, fact: Fact) -> Result<(), AllocError> {
+    match fact {
+        Fact::Text(text) => out.push_str(text),
+        Fact::OptionOf(name) => {
+            write!(out, "`--{name}` is an option of")?;
+            write_commands(out, &COMMANDS, name)
+        }
+    }
+}
+
+// Writes the names of the commands that have an option.
+fn write_commands(out: &mut String, rows: &[CommandRow], name: &str) -> Result<(), AllocError> {
+    let mut left = count_with(rows, name);
+    let mut between = "";
+    for row in rows {
+        if has_option(row, name) {
+            let command = row.name;
+            write!(out, "{between} `{command}`")?;
+            left = left.saturating_sub(1);
+            between = if left == 1 { " and" } else { "," };
+        }
+    }
+    Ok(())
+}
+
+// Returns the number of commands that have an option.
+fn count_with(rows: &[CommandRow], name: &str) -> usize {
+    rows.iter().filter(|row| has_option(row, name)).count()
+}
+
+// Returns whether a command has an option with this name.
+fn has_option(command: &CommandRow, name: &str) -> bool {
+    command.options.iter().any(|option| option.name == name)
 }
