@@ -122,7 +122,7 @@ WHOLE = [
     ("audit", "nbhd table 1\nrounds 0 ids 2 channels 2\n0 : 0\n1 : 1\nend\n", "nbhd: line 1, column 1: this line does not have the form that `nbhd table` writes; its first line is `nbhd-table` and the version\n"),
     ("audit", "0 : 0\n1 : 1\nend\n", "nbhd: line 1, column 1: this line does not have the form that `nbhd table` writes; its first two lines are missing\n"),
     ("audit", "nbhd-table 1\nround 0 ids 2 channels 2\n0 : 0\n", "nbhd: line 2, column 1: this line does not have the form that `nbhd table` writes; it begins with `rounds` and a number\n"),
-    ("audit", "nbhd-table 1\nrounds 0 id 2 channels 2\n0 : 0\n", "nbhd: line 2, column 1: this line does not have the form that `nbhd table` writes; `ids` and a number come second\n"),
+    ("audit", "nbhd-table 1\nrounds 0 id 2 channels 2\n0 : 0\n", "nbhd: line 2, column 1: this line does not have the form that `nbhd table` writes; `ids` and a number come second, in this line\n"),
     ("audit", "nbhd-table 1\nrounds 0 ids 2 channels 0\n0 : 0\n", "nbhd: line 2, column 1: this line does not have the form that `nbhd table` writes; `channels` is 1 to 4096\n"),
     ("audit", "nbhd-table 1\nrounds 0 ids 2 channels 2 near 1 far 0\n0 : 0\n", "nbhd: line 2, column 1: this line does not have the form that `nbhd table` writes; version 1 ends this line with `channels` and its number\n"),
     ("audit", "nbhd-table 2\nrounds 0 ids 2 channels 2 near 0 far 0\n0 : 0\n", "nbhd: line 2, column 1: this line does not have the form that `nbhd table` writes; `near` is 1 to 4096\n"),

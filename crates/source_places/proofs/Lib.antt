@@ -1,3 +1,2 @@
 mod Lines
 mod Tables
-mod Comments

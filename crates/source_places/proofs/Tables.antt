@@ -1,34 +1,30 @@
--- The first row of a table whose beginning a text has.
-use Rattle.std.proofs.Common.{◌≡◌, ℕ, ◌==◌, Bool, true, false, cond, List, [], ◌∷◌, Option, None, Some, map, refl, ap, ◌∙◌, Bor}
+-- The first row of a table whose beginning a line has.
+use Rattle.std.proofs.Common.{◌≡◌, ℕ, Bool, true, false, cond, List, [], ◌∷◌, Option, Some, Bor, map, refl}
 use Rattle.std.specs.Option.{option_map}
-use Rattle.std.specs.List.{starts_with, find}
-use Rattle.source_places.specs.Beginnings.{by_beginning}
+use Rattle.std.specs.List.{find}
+use Rattle.source_places.specs.declared.kinds.TextKind.{TextKind}
+use Rattle.source_places.specs.ByteSets.{begins}
+use Rattle.source_places.specs.Kinds.{by_beginning}
 
--- a row that borrows its beginning
-abbrev Row : Type 0 → Type 0
-Row X = Bor (List ℕ) × X
+abbrev Row : Type 0
+Row = Bor (List ℕ) × TextKind
 
-abbrev has : {X : Type 0} → List ℕ → Row X → Bool
-has text row = starts_with (λ a b. a == b) text row.0.now
-
-abbrev of_row : {X : Type 0} → Row X → List ℕ × X
+-- a row that borrows its beginning, as one that has it
+abbrev of_row : Row → List ℕ × TextKind
 of_row row = (row.0.now, row.1)
 
-abbrev beside : {X : Type 0} → Row X → X
-beside row = row.1
+-- what stands beside the first row whose beginning the line has
+abbrev beside : List ℕ → List Row → Option TextKind
+beside line rows = option_map (λ row. row.1) (find (λ row. begins line row.0.now) rows)
 
-borrowed : {X : Type 0} (text : List ℕ) (rows : List (Row X)) → option_map beside (find (has text) rows) ≡ by_beginning (map of_row rows) text
-borrowed text [] = refl
-borrowed {X} text (row ∷ rows) = go (has text row) (borrowed text rows)
+-- the same, by the beginnings themselves
+pub beside_found : (line : List ℕ) (rows : List Row) → beside line rows ≡ by_beginning (map of_row rows) line
+beside_found line [] = refl
+beside_found line (row ∷ rows) = go (begins line row.0.now) (beside_found line rows)
   where
-    go : (b : Bool) → option_map beside (find (has text) rows) ≡ by_beginning (map of_row rows) text →
-        option_map beside (cond b (Some row) (find (has text) rows))
-        ≡ option_map {T = List ℕ × X} (λ other. other.1) (cond b (Some (of_row row)) (find (λ other. starts_with (λ a c. a == c) text other.0) (map of_row rows)))
+    go : (b : Bool) → beside line rows ≡ by_beginning (map of_row rows) line →
+        option_map {T = Row} (λ r. r.1) (cond b (Some row) (find (λ r. begins line r.0.now) rows))
+        ≡ option_map {T = List ℕ × TextKind} (λ r. r.1)
+        (cond b (Some (of_row row)) (find (λ r. begins line r.0) (map of_row rows)))
     go true rest = refl
     go false rest = rest
-
--- what stands beside the row that was found, if one was
-pub beside_found : {X : Type 0} (text : List ℕ) (rows : List (Row X)) (found : Option (Bor (Row X))) →
-    option_map (λ row. row.now) found ≡ find (has text) rows → option_map (λ row. row.now.1) found ≡ by_beginning (map of_row rows) text
-beside_found text rows None e = ap (option_map beside) e ∙ borrowed text rows
-beside_found text rows (Some row) e = ap (option_map beside) e ∙ borrowed text rows

@@ -4,7 +4,5 @@ pub mod Places
 pub mod Heads
 pub mod Shown
 pub mod Lists
-pub mod Beginnings
 pub mod Kinds
 pub mod KindAdvice
-pub mod WordLists

@@ -1,139 +1,117 @@
 //! What a text is, told from its first line.
 
-ghost use Rattle.std.specs.Prelude.{◌≡◌};
-ghost use Rattle.std.specs.List.{list_all, list_any};
+ghost use Rattle.std.specs.Prelude.{◌≡◌, map, option_map};
+ghost use Rattle.std.specs.List.{find, list_any};
+ghost use Rattle.source_places.specs.ByteSets.{begins, ends};
 ghost use Rattle.source_places.specs.Kinds as texts;
 
-use crate::beginnings::by_beginning;
-use crate::byte_sets::is_made_of;
+use crate::byte_sets::{contains_part, has_any_of, is_made_of};
 use crate::kinds::TextKind;
-use crate::parts::{
-    after_blanks, begins_with_digit, begins_with_number, contains_part, first_line, without_return,
+use crate::places::{after_line, first_line};
+
+// Rows of beginnings and what a text is that has one of them.
+macro_rules! beginnings {
+    ($($kind:ident: $($beginning:literal)+;)+) => { [$($(($beginning, TextKind::$kind)),+),+] };
+}
+
+// How the first line of a text begins that is neither blank nor a comment.
+const BEGINNINGS: [(&[u8], TextKind); 49] = beginnings! {
+    Table: b"nbhd-table";
+    Formula: b"p cnf";
+    Answer: b"s SATISFIABLE" b"s UNSATISFIABLE" b"SAT" b"UNSAT" b"v ";
+    Report: b"accepted ids " b"yes: " b"no: ring " b"refuted: " b"nbhd: " b"text fault " b"check fault " b"ring fault ";
+    Report: b"segments fault " b"table fault " b"formula fault " b"refutation fault ";
+    Command: b"./nbhd " b"$ nbhd " b"$ ./nbhd " b"nbhd check --" b"nbhd judge --" b"nbhd table --" b"nbhd run --";
+    Command: b"nbhd audit <" b"nbhd apply --" b"nbhd refute --";
+    Page: b"<svg" b"<?xml" b"<!DOCTYPE" b"<!doctype" b"<html" b"<head" b"<body" b"<pre";
+    Wide: b"\xff\xfe" b"\xfe\xff" b"\xef\xbb\xbf";
+    NoText: b"\x1f\x8b" b"\xfd7zXZ" b"PK\x03\x04" b"BZh" b"%PDF-" b"{\\rtf" b"\x89PNG" b"\xff\xd8\xff" b"GIF8";
 };
-use crate::places::after_line;
 
-// The most lines of comments that are skipped at the start of a text.
-const SKIPPED_LINES: usize = 1000;
-
-// The longest name of a file.
-const LONGEST_NAME: usize = 255;
-
-// How the first line of a text begins that is no comment.
-const BEGINNINGS: [(&[u8], TextKind); 24] = [
-    (b"nbhd-table", TextKind::Table),
-    (b"p cnf", TextKind::Formula),
-    (b"s SATISFIABLE", TextKind::Answer),
-    (b"SAT\n", TextKind::Answer),
-    (b"v ", TextKind::Answer),
-    (b"s UNSATISFIABLE", TextKind::Answer),
-    (b"UNSAT\n", TextKind::Answer),
-    (b"SATISFIABLE", TextKind::Answer),
-    (b"UNSATISFIABLE", TextKind::Answer),
-    (b"accepted ids ", TextKind::Report),
-    (b"yes: ", TextKind::Report),
-    (b"no: ring ", TextKind::Report),
-    (b"text fault ", TextKind::Report),
-    (b"check fault ", TextKind::Report),
-    (b"ring fault ", TextKind::Report),
-    (b"segments fault ", TextKind::Report),
-    (b"table fault ", TextKind::Report),
-    (b"formula fault ", TextKind::Report),
-    (b"refutation fault ", TextKind::Report),
-    (b"refuted: ", TextKind::Report),
-    (b"nbhd: ", TextKind::Report),
-    (b"./nbhd ", TextKind::Command),
-    (b"$ nbhd ", TextKind::Command),
-    (b"$ ./nbhd ", TextKind::Command),
-];
+// How the line of the place 0 of a ring begins, as `nbhd plan` and `nbhd apply` print it.
+const FIRST_PLACE: &[u8] = b"   0 ";
 
 // How names of files end.
 const ENDINGS: [&[u8]; 6] = [b".txt", b".table", b".cnf", b".lrat", b".drat", b".nbhd"];
 
-// Returns whether a line is a comment of a program or of a solver's file.
-fn is_comment(line: &[u8]) -> bool
-    ensures { result ≡ texts.is_comment line.now }
+// Returns what stands in a table beside the first beginning that a line has.
+fn beside_beginning(table: &[(&[u8], TextKind)], line: &[u8]) -> Option<TextKind>
+    ensures { result ≡ option_map (λ row. row.1) (find (λ row. begins line.now row.0.now) table.now) }
 {
-    line.starts_with(b"#") || line == b"c".as_slice() || line.starts_with(b"c ")
+    table
+        .iter()
+        .find(|row| line.starts_with(row.0))
+        .map(|row| row.1)
 }
 
-// Returns the text after at most so many comments at its start, and the blanks behind each.
-fn after_comments(text: &[u8], lines: usize) -> &[u8]
-    ensures { result.now ≡ texts.after_comments lines text.entry.now }
+// The same, by the beginnings themselves.
+fn by_beginning(table: &[(&[u8], TextKind)], line: &[u8]) -> Option<TextKind>
+    ensures { result ≡ texts.by_beginning (map (λ row. (row.0.now, row.1)) table.now) line.now }
 {
-    let mut rest = text;
-    'lines: for _line in 0..lines {
-        if !is_comment(first_line(rest)) {
-            return rest;
-        }
-        rest = after_blanks(after_line(rest));
-    }
-    rest
+    beside_beginning(table, line)
 }
 
-// Returns whether a line is the first one of a program: the number of rounds, and not the second one
-// of a table, which goes on with the number of identifiers.
-#[tactic(auto, unfolding(crate::specs::Kinds::begins_program))]
-fn begins_program(line: &[u8]) -> bool
-    ensures { result ≡ texts.begins_program line.now }
+// Returns the kind of a text whose first line has one of the beginnings.
+fn kind_by_beginning(line: &[u8]) -> Option<TextKind>
+    ensures { result ≡ texts.kind_by_beginning line.now }
 {
-    line == b"rounds".as_slice() || has_rounds_alone(line)
+    by_beginning(&BEGINNINGS, line)
 }
 
-// Returns whether a line says a number of rounds, and no number of identifiers.
-fn has_rounds_alone(line: &[u8]) -> bool
-    ensures { result ≡ texts.has_rounds_alone line.now }
+// Returns a line without the blanks at its start.
+fn trimmed(line: &[u8]) -> &[u8]
+    ensures { result.now ≡ texts.trimmed line.entry.now }
 {
-    match line.strip_prefix(b"rounds ") {
-        Some([digit, rest @ ..]) => digit.is_ascii_digit() && !rest.starts_with(b" ids "),
-        _ => false,
-    }
+    line.trim_ascii_start()
 }
 
-// Returns whether a line is a call of the program with an option.
-#[tactic(auto, unfolding(crate::specs::Kinds::is_call))]
-fn is_call(line: &[u8]) -> bool
-    ensures { result ≡ texts.is_call line.now }
+// Returns whether a line is blank, or a comment of a program or of a solver's file.
+fn is_skipped(line: &[u8]) -> bool
+    ensures { result ≡ texts.is_skipped line.now }
 {
-    line.starts_with(b"nbhd ") && contains_part(line, b"--")
+    let said = trimmed(line);
+    said.is_empty() || said.starts_with(b"#") || said == b"c".as_slice() || said.starts_with(b"c ")
 }
 
-// Returns whether a line is of numbers, of which the last one is 0.
+// Returns the first line of a text that is neither blank nor a comment.
+fn first_told(text: &[u8]) -> Option<&[u8]>
+    ensures { option_map (λ line. line.now) result ≡ texts.first_told text.entry.now }
+{
+    text.split(|byte| *byte == b'\n')
+        .find(|line| !is_skipped(line))
+}
+
+// Returns whether a line is of numbers, of which the last one is 0, and no 0 has a minus sign.
 fn is_list(line: &[u8]) -> bool
     ensures { result ≡ texts.is_list line.now }
 {
-    is_made_of(line, b"0123456789 -cdim") && (line.ends_with(b" 0") || line == b"0".as_slice())
-}
-
-// Returns whether a number 0 stands before the last one of a line.
-fn has_zero_within(line: &[u8]) -> bool
-    ensures { result ≡ texts.has_zero_within line.now }
-{
-    line.starts_with(b"0 ") || contains_part(line, b" 0 ")
+    is_made_of(line, b"0123456789 -cdim")
+        && (line.ends_with(b" 0") || line == b"0".as_slice())
+        && !contains_part(line, b" -0")
 }
 
 // Returns the kind of a list of numbers.
 fn list_kind(line: &[u8]) -> Option<TextKind>
     ensures { result ≡ texts.list_kind line.now }
 {
-    let is_numbered = begins_with_number(line);
-    if has_zero_within(line) {
-        return if is_numbered {
-            Some(TextKind::Refutation)
-        } else {
-            None
-        };
+    let has_zero_within = line.starts_with(b"0 ") || contains_part(line, b" 0 ");
+    if matches!(line, [b'1'..=b'9', ..]) && (has_zero_within || line.contains(&b'd')) {
+        return Some(TextKind::Refutation);
     }
-    if line.contains(&b'd') {
-        return Some(if is_numbered {
-            TextKind::Refutation
-        } else {
-            TextKind::Proof
-        });
-    }
-    if line.contains(&b'-') && !contains_part(line, b" -0") {
+    if !has_zero_within && has_any_of(line, b"-d") {
         return Some(TextKind::Proof);
     }
     None
+}
+
+// Returns a line without a carriage return at its end.
+fn without_return(line: &[u8]) -> &[u8]
+    ensures { result.now ≡ texts.without_return line.entry.now }
+{
+    match line.strip_suffix(b"\r") {
+        Some(rest) => rest,
+        None => line,
+    }
 }
 
 /// Returns what a line of numbers looks like that ends a list with 0: a step or a deletion of a
@@ -149,85 +127,68 @@ pub fn line_kind(line: &[u8]) -> Option<TextKind>
     list_kind(line)
 }
 
-// Returns whether all bytes are printable ASCII, and none is a blank.
-fn is_printable(word: &[u8]) -> bool
-    ensures { result ≡ list_all texts.is_printable word.now }
+// Returns whether a line ends as one of these.
+fn has_ending(line: &[u8], endings: &[&[u8]]) -> bool
+    ensures { result ≡ list_any (λ ending. ends line.now ending.now) endings.now }
 {
-    word.iter().all(|byte| matches!(*byte, b'!'..=b'~'))
+    endings.iter().any(|ending| line.ends_with(ending))
 }
 
-// Returns whether a word ends as one of these.
-fn has_ending(word: &[u8], endings: &[&[u8]]) -> bool
-    ensures { result ≡ list_any (λ ending. texts.ends word.now ending.now) endings.now }
-{
-    endings.iter().any(|ending| word.ends_with(ending))
-}
-
-// Returns whether a word is of printable ASCII and ends as names of files do.
-fn is_name(word: &[u8]) -> bool
-    ensures { result ≡ texts.is_name word.now }
-{
-    word.len() <= LONGEST_NAME
-        && is_printable(word)
-        && has_ending(word, &ENDINGS)
-        && !contains_part(word, b"//")
-}
-
-// Returns whether a whole text is the name of a file.
+// Returns whether a whole text is one word that ends as names of files do.
 #[tactic(auto, unfolding(crate::specs::Kinds::is_file_name))]
 fn is_file_name(text: &[u8]) -> bool
     ensures { result ≡ texts.is_file_name text.now }
 {
     let line = first_line(text);
-    text.len() <= line.len().saturating_add(1) && is_name(without_return(line))
+    after_line(text).is_empty() && !has_any_of(line, b" \t:") && has_ending(line, &ENDINGS)
 }
 
-// Returns whether all bytes are digits and blanks.
-#[tactic(auto, unfolding(crate::specs::Kinds::are_digits_and_blanks))]
-fn are_digits_and_blanks(line: &[u8]) -> bool
-    ensures { result ≡ texts.are_digits_and_blanks line.now }
+// Returns whether a line is one of a program that begins with `rounds`; that of a table goes on with the
+// number of identifiers.
+fn is_of_program(line: &[u8]) -> bool
+    ensures { result ≡ texts.is_of_program line.now }
 {
-    is_made_of(line, b"0123456789 ")
+    line.starts_with(b"rounds") && !contains_part(line, b" ids ")
 }
 
-// Returns whether a text begins with the lines of the places 0 and 1 of a ring, as `nbhd plan` and
-// `nbhd apply` print them: three numbers that are right-aligned in 4 places each, with blanks between them.
-#[tactic(auto, unfolding(crate::specs::Kinds::begins_places))]
-fn begins_places(text: &[u8]) -> bool
-    ensures { result ≡ texts.begins_places text.now }
+// Returns the kind of a text by its first line that is neither blank nor a comment.
+#[tactic(auto, unfolding(crate::specs::Kinds::kind_of_line))]
+fn kind_of_line(line: &[u8]) -> Option<TextKind>
+    ensures { result ≡ texts.kind_of_line line.now }
 {
-    let line = first_line(text);
-    line.len() == 14
-        && are_digits_and_blanks(line)
-        && line.starts_with(b"   0")
-        && after_line(text).starts_with(b"   1")
-}
-
-// Returns the kind of a text by what stands behind the comments at its start.
-#[tactic(auto, unfolding(crate::specs::Kinds::kind_by_line))]
-pub(crate) fn kind_by_line(text: &[u8]) -> Option<TextKind>
-    ensures { result ≡ texts.kind_by_line text.now }
-{
-    kind_of_rest(text, after_comments(after_blanks(text), SKIPPED_LINES))
-}
-
-// Returns the kind of a text; `rest` is what stands behind the comments at its start.
-#[tactic(auto, unfolding(crate::specs::Kinds::kind_of_rest))]
-fn kind_of_rest(text: &[u8], rest: &[u8]) -> Option<TextKind>
-    ensures { result ≡ texts.kind_of_rest text.now rest.now }
-{
-    let line = first_line(rest);
-    if begins_places(text) {
-        return Some(TextKind::Report);
-    }
-    if begins_program(line) {
+    if is_of_program(line) {
         return Some(TextKind::Program);
+    }
+    kind_by_beginning(line).or(line_kind(line))
+}
+
+// Returns whether a text is of pairs of bytes, one of them 0, as the ASCII of a file in UTF-16 is.
+fn is_wide(text: &[u8]) -> bool
+    ensures { result ≡ texts.is_wide text.now }
+{
+    match text {
+        [first, 0, second, 0, ..] => *first != 0 && *second != 0,
+        [0, first, 0, second, ..] => *first != 0 && *second != 0,
+        _ => false,
+    }
+}
+
+// Returns what a text looks like.
+#[tactic(auto, unfolding(crate::specs::Kinds::text_kind))]
+pub(crate) fn text_kind(text: &[u8]) -> Option<TextKind>
+    ensures { result ≡ texts.text_kind text.now }
+{
+    if is_wide(text) {
+        return Some(TextKind::Wide);
+    }
+    if text.starts_with(FIRST_PLACE) {
+        return Some(TextKind::Report);
     }
     if is_file_name(text) {
         return Some(TextKind::FileName);
     }
-    if is_call(line) {
-        return Some(TextKind::Command);
+    match first_told(text) {
+        Some(line) => kind_of_line(trimmed(line)),
+        None => None,
     }
-    by_beginning(&BEGINNINGS, rest).or(line_kind(line))
 }

@@ -2,10 +2,8 @@
 
 ghost use Rattle.std.specs.Prelude.{◌≡◌, IfSome, IfNone};
 ghost use Rattle.source_places.specs.KindAdvice.{advice_of, IsAdviceOn, IsOfKind};
-ghost use Rattle.source_places.specs.Kinds as texts;
 
-use crate::files::file_kind;
-use crate::first_lines::kind_by_line;
+use crate::first_lines::text_kind;
 
 /// A kind of text that `nbhd` or a solver reads or writes, or that is given in place of one.
 #[derive(Clone, Copy, Debug, PartialEq, Eq)]
@@ -34,14 +32,6 @@ pub enum TextKind {
     Wide,
     /// A packed file, a picture or a document.
     NoText,
-}
-
-// Returns what a text looks like.
-#[tactic(auto, unfolding(crate::specs::Kinds::text_kind))]
-fn text_kind(text: &[u8]) -> Option<TextKind>
-    ensures { result ≡ texts.text_kind text.now }
-{
-    file_kind(text).or(kind_by_line(text))
 }
 
 // Returns the advice on a text of a kind that none of the readers takes.

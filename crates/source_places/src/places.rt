@@ -1,10 +1,14 @@
-//! Lines and columns.
+//! Lines and columns, and the start of a note on a place.
 
-ghost use Rattle.std.specs.Prelude.{◌≡◌, ◌≤◌, ◌-◌, length};
+ghost use Rattle.std.specs.Prelude.{◌≡◌, ◌≤◌, ◌-◌, ◌++◌, length, OnOk, string_bytes};
 ghost use Rattle.std.specs.List.{after_first, prefix_len, suffix_len};
+ghost use Rattle.source_places.specs.Heads.{place_head};
+ghost use Rattle.source_places.specs.Kinds as texts;
 ghost use Rattle.source_places.specs.Places.{after_lines, in_line, is_feed, line_number, column, line_before as before, line_from as from};
 
 use crate::byte_sets::len_before;
+use std::alloc::AllocError;
+use std::fmt::Write;
 
 /// Returns the line of the byte at this offset, counted from 1. The offset can be the text's
 /// length.
@@ -38,6 +42,14 @@ pub fn first_line_len(text: &[u8]) -> usize
     ensures within { result ≤ length text.now }
 {
     len_before(text, b'\n')
+}
+
+/// Returns the first line of a text, without its line feed.
+#[tactic(auto, using(crate::proofs::Lines::first_is))]
+pub fn first_line(text: &[u8]) -> &[u8]
+    ensures { result.now ≡ texts.first_line text.entry.now }
+{
+    &text[..first_line_len(text)]
 }
 
 /// Returns the text after the first line, an empty one if there is no other line.
@@ -80,4 +92,17 @@ pub(crate) fn line_from(text: &[u8], offset: usize) -> &[u8]
 {
     let rest = &text[offset..];
     &rest[..first_line_len(rest)]
+}
+
+/// Writes the start of a note on the byte at this offset: `nbhd: line`, its line, `column` and its
+/// column. The offset can be the text's length.
+///
+/// Fails if memory was refused; `out` can then have a part of it.
+pub fn write_place_head(out: &mut String, text: &[u8], offset: usize) -> Result<(), AllocError>
+    requires { offset ≤ length text.now }
+    ensures { OnOk result (string_bytes out.new ≡ string_bytes out.old ++ place_head text.now offset) }
+{
+    let line = line_of(text, offset);
+    let column = column_of(text, offset);
+    write!(out, "nbhd: line {line}, column {column}: ")
 }

@@ -57,6 +57,16 @@ fn write_escape(out: &mut String, byte: u8) -> Result<(), AllocError>
     write!(out, "\\x{byte:02x}")
 }
 
+// Writes a byte so that it is seen, a tab or a carriage return too.
+fn write_seen_byte(out: &mut String, byte: u8) -> Result<(), AllocError>
+    ensures { OnOk result (string_bytes out.new ≡ string_bytes out.old ++ seen_byte byte) }
+{
+    if byte >= b' ' && byte < 127 {
+        return out.push(char::from(byte));
+    }
+    write_escape(out, byte)
+}
+
 // Writes a byte as it is shown.
 fn write_byte(out: &mut String, byte: u8) -> Result<(), AllocError>
     ensures { OnOk result (string_bytes out.new ≡ string_bytes out.old ++ shown_byte byte) }
@@ -64,10 +74,7 @@ fn write_byte(out: &mut String, byte: u8) -> Result<(), AllocError>
     if byte == b'\t' || byte == b'\r' {
         return out.push(' ');
     }
-    if byte >= b' ' && byte < 127 {
-        return out.push(char::from(byte));
-    }
-    write_escape(out, byte)
+    write_seen_byte(out, byte)
 }
 
 /// Writes bytes as they are shown: a printable ASCII byte unchanged, a tab or a carriage return as
@@ -79,16 +86,6 @@ pub fn write_shown(out: &mut String, bytes: &[u8]) -> Result<(), AllocError>
         write_byte(out, *byte)?;
     }
     Ok(())
-}
-
-// Writes a byte so that it is seen, a tab or a carriage return too.
-fn write_seen_byte(out: &mut String, byte: u8) -> Result<(), AllocError>
-    ensures { OnOk result (string_bytes out.new ≡ string_bytes out.old ++ seen_byte byte) }
-{
-    if byte >= b' ' && byte < 127 {
-        return out.push(char::from(byte));
-    }
-    write_escape(out, byte)
 }
 
 /// Writes bytes so that each is seen: a printable ASCII byte unchanged, and any other byte, a tab and
@@ -108,10 +105,7 @@ pub fn write_escaped(out: &mut String, bytes: &[u8]) -> Result<(), AllocError>
 fn blanks_of(byte: u8) -> &'static str
     ensures { result.now ≡ replicate (length (shown_byte byte)) 32 }
 {
-    if byte == b'\t' || byte == b'\r' {
-        return " ";
-    }
-    if byte >= b' ' && byte < 127 {
+    if matches!(byte, b'\t' | b'\r' | b' '..=b'~') {
         return " ";
     }
     "    "

@@ -23,23 +23,19 @@ set_words pattern =
     else (0, codes " is in the set, and so is its right neighbour")
 
 -- what is wrong with a matching at a node, by two channels in a row
-abbrev pub matching_words : ℕ → ℕ → ℕ × List ℕ
+abbrev pub matching_words : ℕ → ℕ → List ℕ
 matching_words first second =
-    if second == 2 then (if first == 2 then (1, codes " is matched to the left, and so is its left neighbour")
-    else (1, codes " is matched to the left, but its left neighbour is single"))
-    else (if first == 0 then (0, codes " is single, and so is its right neighbour")
-    else (if second == 0 then (0, codes " is matched to the right, but its right neighbour is single")
-    else (0, codes " is matched to the right, and so is its right neighbour")))
-
--- what is wrong with a weak colouring at a node
-abbrev pub weak_words : ℕ × List ℕ
-weak_words = (1, codes " and both its neighbours have the same channel")
+    if second == 2 then (if first == 2 then codes " is matched to the left, and so is its left neighbour"
+    else codes " is matched to the left, but its left neighbour is single")
+    else if first == 0 then codes " is single, and so is its right neighbour"
+    else if second == 0 then codes " is matched to the right, but its right neighbour is single"
+    else codes " is matched to the right, and so is its right neighbour"
 
 -- how many places after the first one the node is with which something is wrong, and what
 abbrev pub known_words : KnownProblem → ℕ × ℕ × ℕ → Pattern → ℕ × List ℕ
 known_words IndependentSet channels pattern = set_words pattern
-known_words Matching channels pattern = matching_words channels.0 channels.1
-known_words WeakColouring channels pattern = weak_words
+known_words Matching channels pattern = (if channels.1 == 2 then 1 else 0, matching_words channels.0 channels.1)
+known_words WeakColouring channels pattern = (1, codes " and both its neighbours have the same channel")
 
 -- a node and its right neighbour with their channels
 abbrev pub pair_words : ℕ → ℕ → List ℕ

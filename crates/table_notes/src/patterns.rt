@@ -72,7 +72,6 @@ fn wrong_text(
 
 // Returns the node this many places after that of the witness, around the ring.
 fn node_after(witness: &PatternWitness, step: u32) -> u32
-    requires { step ≤ 1 }
     ensures { result ≡ words.node_after witness.now.ring.items witness.now.place step }
 {
     let ring: &[u32] = &witness.ring;
@@ -87,46 +86,29 @@ fn known_words(
 ) -> (u32, &'static str)
     ensures step { result.0 ≡ (words.known_words known channels pattern).0 }
     ensures words { result.1.now ≡ (words.known_words known channels pattern).1 }
-    ensures few { result.0 ≤ 1 }
 {
     let (first, second, _) = channels;
     match known {
-        KnownProblem::IndependentSet => set_words(pattern),
-        KnownProblem::Matching => matching_words(first, second),
+        KnownProblem::IndependentSet if pattern.span() == 3 => {
+            (1, " is not in the set, and neither is a neighbour")
+        }
+        KnownProblem::IndependentSet => (0, " is in the set, and so is its right neighbour"),
+        KnownProblem::Matching if second == 2 => (1, matching_words(first, 2)),
+        KnownProblem::Matching => (0, matching_words(first, second)),
         KnownProblem::WeakColouring => (1, " and both its neighbours have the same channel"),
     }
 }
 
-// Returns what is wrong with an independent set.
-fn set_words(pattern: Pattern) -> (u32, &'static str)
-    ensures step { result.0 ≡ (words.set_words pattern).0 }
-    ensures words { result.1.now ≡ (words.set_words pattern).1 }
-    ensures few { result.0 ≤ 1 }
-{
-    if pattern.span() == 3 {
-        return (1, " is not in the set, and neither is a neighbour");
-    }
-    (0, " is in the set, and so is its right neighbour")
-}
-
 // Returns what is wrong with a matching, by two channels in a row.
-fn matching_words(first: u32, second: u32) -> (u32, &'static str)
-    ensures step { result.0 ≡ (words.matching_words first second).0 }
-    ensures words { result.1.now ≡ (words.matching_words first second).1 }
-    ensures few { result.0 ≤ 1 }
+fn matching_words(first: u32, second: u32) -> &'static str
+    ensures { result.now ≡ words.matching_words first second }
 {
     match (first, second) {
-        (2, 2) => (1, " is matched to the left, and so is its left neighbour"),
-        (_, 2) => (
-            1,
-            " is matched to the left, but its left neighbour is single",
-        ),
-        (0, _) => (0, " is single, and so is its right neighbour"),
-        (_, 0) => (
-            0,
-            " is matched to the right, but its right neighbour is single",
-        ),
-        _ => (0, " is matched to the right, and so is its right neighbour"),
+        (2, 2) => " is matched to the left, and so is its left neighbour",
+        (_, 2) => " is matched to the left, but its left neighbour is single",
+        (0, _) => " is single, and so is its right neighbour",
+        (_, 0) => " is matched to the right, but its right neighbour is single",
+        _ => " is matched to the right, and so is its right neighbour",
     }
 }
 

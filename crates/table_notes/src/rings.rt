@@ -34,36 +34,21 @@ pub fn ring_note(
         RingFault::TooLong => Ok(format!(in alloc;
             "nbhd: a ring has at most as many places as there are identifiers, {ids}, and this one has {count}\n"
         )?),
-        RingFault::IdTooLarge(place) => id_note(alloc, ids, places, place),
-        RingFault::Repeated(first, second) => repeated_note(alloc, places, first, second),
+        RingFault::IdTooLarge(place) => {
+            let id = places[place as usize];
+            let largest = ids.saturating_sub(1);
+            Ok(format!(in alloc;
+                "nbhd: place {place} has the identifier {id}; of {ids} identifiers the largest is {largest}\n"
+            )?)
+        }
+        RingFault::Repeated(first, second) => {
+            let id = places[second as usize];
+            let end = note_end(count, first, second);
+            Ok(format!(in alloc;
+                "nbhd: places {first} and {second} have the same identifier {id}{end}"
+            )?)
+        }
     }
-}
-
-// Returns the note on an identifier that is too large.
-fn id_note(alloc: Global, ids: u32, places: &[u32], place: u32) -> Result<String, OutOfMemory>
-    requires { place < length places.now }
-    ensures { IfOk result (λ note. string_bytes note ≡ ring_note ids 0 places.now (RingFault.IdTooLarge place)) }
-{
-    let id = places[place as usize];
-    let largest = ids.saturating_sub(1);
-    Ok(format!(in alloc;
-        "nbhd: place {place} has the identifier {id}; of {ids} identifiers the largest is {largest}\n"
-    )?)
-}
-
-// Returns the note on an identifier at two places.
-fn repeated_note(
-    alloc: Global,
-    places: &[u32],
-    first: u32,
-    second: u32,
-) -> Result<String, OutOfMemory>
-    requires { second < length places.now }
-    ensures { IfOk result (λ note. string_bytes note ≡ ring_note 0 0 places.now (RingFault.Repeated first second)) }
-{
-    let id = places[second as usize];
-    let end = note_end(places.len(), first, second);
-    Ok(format!(in alloc; "nbhd: places {first} and {second} have the same identifier {id}{end}")?)
 }
 
 // Returns the end of the note: advice if the last place repeats the first one.

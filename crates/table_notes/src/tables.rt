@@ -1,25 +1,16 @@
 //! The notes on a text that is not the text of a table.
 
-ghost use Rattle.std.specs.Prelude.{◌≡◌, ◌≢◌, ◌+◌, ◌*◌, ◌<◌, ◌≤◌, ℕ, List, Some, length, slice_get, IfOk, IfSome, IfNone, string_bytes};
+ghost use Rattle.std.specs.Prelude.{◌≡◌, ◌≢◌, ◌≤◌, ℕ, List, length, IfOk, IfSome, IfNone, string_bytes};
 ghost use Rattle.table_text.specs.Faults.{IsFault};
-ghost use Rattle.win_index.specs.Windows.{windows};
 ghost use Rattle.table_notes.specs.TableNotes as notes;
-ghost use Rattle.table_notes.specs.TableNotes.{long_note, IsFormNote, IsDue, IsTableNote, IsWindowNote, line_note, doubled_text, channel_note};
+ghost use Rattle.table_notes.specs.TableNotes.{IsFormNote, IsDue, IsTableNote, IsWindowNote, line_note, doubled_text};
 
 use crate::lines::form_advice;
 use node_program::OutOfMemory;
-use source_places::{first_line_len, from_line, write_joined, write_marked_line, write_place_head};
+use source_places::{first_line, from_line, write_joined, write_marked_line, write_place_head};
 use std::alloc::{AllocError, Global};
 use std::fmt::Write;
 use table_text::{LONGEST_TABLE_TEXT, TableFault, shape_in};
-use win_index::Shape;
-
-// Returns the note on a text that is too long. Fails if memory was refused.
-fn long_note(alloc: Global) -> Result<String, OutOfMemory>
-    ensures { IfOk result (λ note. string_bytes note ≡ long_note) }
-{
-    Ok(format!(in alloc; "nbhd: the text of a table has at most 134217728 bytes\n")?)
-}
 
 // Returns the note on the line at this offset, which does not have its form. Fails if memory was
 // refused.
@@ -36,17 +27,6 @@ fn form_note(alloc: Global, text: &[u8], offset: usize) -> Result<String, OutOfM
     Ok(note)
 }
 
-// Returns the window of this shape with this number.
-fn window_in(alloc: Global, shape: Shape, number: u32) -> Result<Vec<u32>, AllocError>
-    requires { number < length (windows (2 * shape.rounds + 1) shape.ids) }
-    ensures { IfOk result (λ window. slice_get (windows (2 * shape.rounds + 1) shape.ids) number ≡ Some window.items) }
-{
-    let rounds = shape.rounds();
-    let mut window = vec![in alloc; 0u32; 2 * rounds as usize + 1]?;
-    shape.window(rounds, number, &mut window);
-    Ok(window)
-}
-
 // Returns the window that a line of a table text is to have.
 fn due_window(alloc: Global, text: &[u8], line: u32) -> Result<Option<Vec<u32>>, AllocError>
     ensures window { IfOk result (λ due. IfSome due (λ window. IsDue text.now line window.items)) }
@@ -55,13 +35,16 @@ fn due_window(alloc: Global, text: &[u8], line: u32) -> Result<Option<Vec<u32>>,
     let Some(shape) = shape_in(text) else {
         return Ok(None);
     };
+    let rounds = shape.rounds();
     if line < 3 {
         return Ok(None);
     }
-    if line - 3 >= shape.count(shape.rounds()) {
+    if line - 3 >= shape.count(rounds) {
         return Ok(None);
     }
-    Ok(Some(window_in(alloc, shape, line - 3)?))
+    let mut window = vec![in alloc; 0u32; 2 * rounds as usize + 1]?;
+    shape.window(rounds, line - 3, &mut window);
+    Ok(Some(window))
 }
 
 // Returns the note on a line of a table text that does not have its window, which follows from the
@@ -69,8 +52,7 @@ fn due_window(alloc: Global, text: &[u8], line: u32) -> Result<Option<Vec<u32>>,
 fn window_note(alloc: Global, text: &[u8], line: u32) -> Result<String, OutOfMemory>
     ensures { IfOk result (λ note. IsWindowNote text.now line (string_bytes note)) }
 {
-    let due = due_window(alloc, text, line)?;
-    match due {
+    match due_window(alloc, text, line)? {
         Some(window) => line_note(alloc, line, &window, doubled_text(text, line)),
         None => Ok(format!(in alloc;
             "nbhd: line {line} is not the line of the window that follows there\n"
@@ -82,8 +64,7 @@ fn window_note(alloc: Global, text: &[u8], line: u32) -> Result<String, OutOfMem
 fn line_at(text: &[u8], line: u64) -> &[u8]
     ensures { result.now ≡ notes.line_at text.entry.now line }
 {
-    let rest = from_line(text, line);
-    &rest[..first_line_len(rest)]
+    first_line(from_line(text, line))
 }
 
 // Returns what the note on a line says if it is the line before it once more.
@@ -110,16 +91,6 @@ fn line_note(alloc: Global, line: u32, window: &[u32], end: &str) -> Result<Stri
     Ok(note)
 }
 
-// Returns the note on a line whose channel is too large. Lines are counted from 1. Fails if memory
-// was refused.
-fn channel_note(alloc: Global, line: u32) -> Result<String, OutOfMemory>
-    ensures { IfOk result (λ note. string_bytes note ≡ channel_note line) }
-{
-    Ok(format!(in alloc;
-        "nbhd: line {line} has a channel that is not below the number of channels of line 2\n"
-    )?)
-}
-
 /// Returns the note on the fault of a table text. Fails if memory was refused.
 pub fn table_note(alloc: Global, text: &[u8], fault: TableFault) -> Result<String, OutOfMemory>
     requires own { fault ≢ TableFault.OutOfMemory }
@@ -127,10 +98,14 @@ pub fn table_note(alloc: Global, text: &[u8], fault: TableFault) -> Result<Strin
     ensures { IfOk result (λ note. IsTableNote text.now fault (string_bytes note)) }
 {
     match fault {
-        TableFault::Syntax(_) if text.len() > LONGEST_TABLE_TEXT => long_note(alloc),
+        TableFault::Syntax(_) if text.len() > LONGEST_TABLE_TEXT => {
+            Ok(format!(in alloc; "nbhd: the text of a table has at most 134217728 bytes\n")?)
+        }
         TableFault::Syntax(offset) => form_note(alloc, text, offset as usize),
         TableFault::WrongWindow(line) => window_note(alloc, text, line),
-        TableFault::ChannelTooLarge(line) => channel_note(alloc, line),
+        TableFault::ChannelTooLarge(line) => Ok(format!(in alloc;
+            "nbhd: line {line} has a channel that is not below the number of channels of line 2\n"
+        )?),
         TableFault::OutOfMemory => unreachable!(),
     }
 }

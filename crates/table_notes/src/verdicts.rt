@@ -17,10 +17,9 @@ use std::fmt::Write;
 pub fn no_tuples_note(alloc: Global, nodes: usize, ids: u32) -> Result<String, OutOfMemory>
     ensures { IfOk result (λ note. string_bytes note ≡ no_tuples_note nodes ids) }
 {
-    let note = format!(in alloc;
+    Ok(format!(in alloc;
         "nbhd: no ring was judged: {ids} identifiers are too few for a ring of at least {nodes} nodes\n"
-    )?;
-    Ok(note)
+    )?)
 }
 
 /// Returns the note on a no of the judge with this witness: the ring, the nodes at the two places,
@@ -55,8 +54,7 @@ fn distance_text(places: (u32, u32)) -> &'static str
 
 // Writes the nodes at the two places.
 fn write_pair(out: &mut String, ring: &[u32], places: (u32, u32)) -> Result<(), AllocError>
-    requires first { places.0 < length ring.now }
-    requires second { places.1 < length ring.now }
+    requires { HasPlaces ring.now places }
     ensures { OnOk result (string_bytes out.new ≡ string_bytes out.old ++ pair_text ring.now places) }
 {
     let (first, second) = places;
@@ -79,37 +77,16 @@ fn write_channels(out: &mut String, channels: (u32, u32)) -> Result<(), AllocErr
     write!(out, "channels {first} and {second}")
 }
 
-// Returns the window of a place.
-fn window_of(alloc: Global, rounds: u32, ring: &[u32], place: u32) -> Result<Vec<u32>, AllocError>
-    requires rounds { rounds ≤ MAX_ROUNDS }
-    requires long { rounds ≤ length ring.now }
-    requires few { length ring.now ≤ MAX_IDS }
-    requires place { place < length ring.now }
-    ensures { IfOk result (λ window. window.items ≡ window_around ring.now rounds place) }
+// Returns the window of the second place, of as many rounds as the first one has nodes before it.
+fn window_of(alloc: Global, ring: &[u32], places: (u32, u32)) -> Result<Vec<u32>, AllocError>
+    requires { HasPlaces ring.now places }
+    ensures { IfOk result (λ window. window.items ≡ window_around ring.now places.0 places.1) }
 {
+    let (rounds, place) = places;
     let start = place as usize + ring.len() - rounds as usize;
-    let count = 2 * rounds as usize + 1;
-    (0..count)
+    (0..2 * rounds as usize + 1)
         .map(|step| ring[(start + step) % ring.len()])
         .collect(alloc)
-}
-
-// Writes the window of a place.
-fn write_window(
-    alloc: Global,
-    out: &mut String,
-    rounds: u32,
-    ring: &[u32],
-    place: u32,
-) -> Result<(), AllocError>
-    requires rounds { rounds ≤ MAX_ROUNDS }
-    requires long { rounds ≤ length ring.now }
-    requires few { length ring.now ≤ MAX_IDS }
-    requires place { place < length ring.now }
-    ensures { OnOk result (string_bytes out.new ≡ string_bytes out.old ++ joined (codes " ") (window_around ring.now rounds place)) }
-{
-    let window = window_of(alloc, rounds, ring, place)?;
-    write_joined(out, &window, " ")
 }
 
 // Writes the windows of the two places.
@@ -122,10 +99,10 @@ fn write_windows(
     requires { HasPlaces ring.now places }
     ensures { OnOk result (string_bytes out.new ≡ string_bytes out.old ++ windows_text ring.now places) }
 {
-    let (rounds, next) = places;
+    let (rounds, _) = places;
     out.push_str("; their windows are ")?;
-    write_window(alloc, out, rounds, ring, rounds)?;
+    write_joined(out, &window_of(alloc, ring, (rounds, rounds))?, " ")?;
     out.push_str(" and ")?;
-    write_window(alloc, out, rounds, ring, next)?;
+    write_joined(out, &window_of(alloc, ring, places)?, " ")?;
     out.push_str("\n")
 }

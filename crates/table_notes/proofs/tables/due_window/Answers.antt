@@ -22,6 +22,6 @@ returns-in_default-clause-none c window due = c.in_default.ensures.none due.roun
 pub returns-then-line-count-clause-none : goal.returns-then-line-count-clause-none
 returns-then-line-count-clause-none c =
     let shape = c.in-Some.shape in
-    let count = c.count.ensures.value ∙ ap (λ r. length (windows (2 * r + 1) shape.ids)) c.rounds.ensures in
+    let count = c.count.ensures.value ∙ ap (λ r. length (windows (2 * r + 1) shape.ids)) c.rounds-rounds.ensures in
     none_due c.args.text.now c.args.line shape.rounds shape.ids c.in-Some.ensures.one
     (subst (λ n. n ≤ c.args.line - 3) count c.if-line-count.true)

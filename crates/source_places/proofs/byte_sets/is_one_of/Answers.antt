@@ -1,7 +1,7 @@
 use Rattle.std.proofs.Common.{rules, bytes_eq, lit<}
 use Rattle.std.proofs.lemmas.Iterator.Search.{any_from_yields_List}
 use Rattle.std.proofs.lemmas.Iterator.Splits.{YieldsList-from_str_split}
-use Rattle.source_places.proofs.word_lists.is_one_of.Goals as goal
+use Rattle.source_places.proofs.byte_sets.is_one_of.Goals as goal
 
 pub returns : goal.returns
 returns c =
