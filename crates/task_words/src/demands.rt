@@ -3,7 +3,7 @@
 ghost use Rattle.std.specs.Prelude.{◌≡◌, ◌≤◌, None, is_some, length, map, IfOk, IfErr, OnOk, IfSome, nat_lt};
 ghost use Rattle.std.specs.Option.{option_and_then};
 ghost use Rattle.clap.specs.Words.{found_of, rows_of};
-ghost use Rattle.task_words.specs.DemandValues.{ArePatternsOf, IsProblemIn, are_two, demand_fault, forbidden_texts, has_separation, has_two_demands, is_from_words, is_in_words, known_problem, name_fault, patterns_fault, problem_name, texts_fault};
+ghost use Rattle.task_words.specs.DemandValues.{ArePatternsOf, IsProblemIn, demand_fault, forbidden_texts, has_two_demands, is_from_words, is_in_words, known_problem, name_fault, patterns_fault, problem_name, texts_fault};
 ghost use Rattle.task_words.specs.Task.{HasFewPatterns};
 ghost use Rattle.task_words.specs.WordsFault.{IsDemandRefusal, IsPatternRefusal};
 ghost use Rattle.task_words.specs.declared.limits.TheConstants.{MAX_PATTERNS};
@@ -45,17 +45,9 @@ pub(crate) fn problem_of(alloc: Global, options: &ArgMatches) -> Result<Option<P
 fn has_two_demands(options: &ArgMatches) -> bool
     ensures { result ≡ has_two_demands (rows_of (found_of options.now)) }
 {
-    are_two(
-        has_patterns(options),
-        has_name(options),
-        has_separation(options),
-    )
-}
-
-// Returns whether two of these are given.
-fn are_two(patterns: bool, name: bool, separation: bool) -> bool
-    ensures { result ≡ are_two patterns name separation }
-{
+    let patterns = has_patterns(options);
+    let name = has_name(options);
+    let separation = is_in_words(options, NEAR.name) || is_in_words(options, FAR.name);
     (patterns && name) || ((patterns || name) && separation)
 }
 
@@ -64,13 +56,6 @@ fn has_name(options: &ArgMatches) -> bool
     ensures { result ≡ is_some (problem_name (rows_of (found_of options.now))) }
 {
     options.get_str(PROBLEM.name).is_some()
-}
-
-// Returns whether the words give `--near` or `--far`.
-fn has_separation(options: &ArgMatches) -> bool
-    ensures { result ≡ has_separation (rows_of (found_of options.now)) }
-{
-    is_in_words(options, NEAR.name) || is_in_words(options, FAR.name)
 }
 
 // Returns whether the value of this option is in the words, and not the one by default.

@@ -1,9 +1,9 @@
 //! The request of a command, from the values of its options.
 
-ghost use Rattle.std.specs.Prelude.{◌≡◌, ◌⊎◌, ◌↔◌, IsTrue, IfErr, IfOk, IfSome, OnOk, codes, string_bytes};
+ghost use Rattle.std.specs.Prelude.{◌≡◌, ◌⊎◌, IfErr, IfOk, IfSome, OnOk, codes};
 ghost use Rattle.task_words.specs.Counts.{IsFar, IsNear};
 ghost use Rattle.task_words.specs.DemandValues.{IsProblemIn};
-ghost use Rattle.task_words.specs.Formats.{HasFormat, format_of, format_text};
+ghost use Rattle.task_words.specs.Formats.{HasFormat, format_of};
 ghost use Rattle.task_words.specs.Options.{IsBetween, IsCall, IsCallFault, IsGoodCall, IsRequestFault, IsSeparationName, IsTaken, values_of};
 ghost use Rattle.task_words.specs.Task.{HasFewPatterns, IsDemandInRange, IsInRange};
 ghost use Rattle.task_words.specs.Words.{HasNumber, HasRing, IsDemandFor, IsDemandName, IsRingBad, IsRingName, IsTaskFor};
@@ -22,7 +22,7 @@ use channel_tables::Separation;
 use clap::ArgMatches;
 use numerals::Base;
 use ring_problems::{Demand, Problem};
-use std::alloc::{AllocError, Global};
+use std::alloc::Global;
 
 // A call of a command: its name, and the values of its options.
 #[derive(Clone, Copy)]
@@ -31,21 +31,15 @@ pub(crate) struct Call<'a, 'w> {
     pub(crate) options: &'a ArgMatches<'w>,
 }
 
-// Returns the text on this value of `--format`, which is the name of no form: as that of `clap` on such a
-// value.
-fn format_text(alloc: Global, name: &str) -> Result<String, AllocError>
-    ensures { IfOk result (λ text. string_bytes text ≡ format_text name.now) }
-{
-    format!(in alloc;
-        "error: invalid value '{name}' for '--format <FORMAT>'\n  [possible values: lines, json]\n\nFor more information, try '--help'.\n"
-    )
-}
-
-// Returns the fault of words with this value of `--format`, which is the name of no form.
+// Returns the fault of words with this value of `--format`, which is the name of no form: as that of
+// `clap` on such a value.
 fn unknown_format(alloc: Global, name: &str) -> WordsFault
     ensures { IsUnknownFormat name.now result }
 {
-    match format_text(alloc, name) {
+    let text = format!(in alloc;
+        "error: invalid value '{name}' for '--format <FORMAT>'\n  [possible values: lines, json]\n\nFor more information, try '--help'.\n"
+    );
+    match text {
         Ok(text) => WordsFault::Usage(text),
         Err(_) => WordsFault::OutOfMemory,
     }
@@ -96,49 +90,20 @@ impl Call<'_, '_> {
         ensures good { OnOk result (IsGoodCall self.now.name.now (values_of self.now)) }
         ensures refused { IfErr result (IsCallFault self.now.name.now (values_of self.now)) }
     {
-        if self.takes_ring() {
-            return self.task_on_ring(alloc);
-        }
-        if self.takes_demand() {
-            return self.task_with_demand(alloc);
-        }
-        Ok(self.text_task())
-    }
-
-    // Returns whether the command takes a ring.
-    fn takes_ring(&self) -> bool
-        ensures { IsTrue result ↔ IsRingName self.now.name.now }
-    {
-        matches!(self.name, "run" | "trace" | "explain" | "plan" | "apply")
-    }
-
-    // Returns whether the command demands something of channels.
-    fn takes_demand(&self) -> bool
-        ensures { IsTrue result ↔ IsDemandName self.now.name.now }
-    {
-        matches!(self.name, "judge" | "audit" | "formula" | "refute")
-    }
-
-    // Returns the task of a command without a ring and a demand.
-    fn text_task(&self) -> Task
-        requires given { IsCall self.now }
-        requires no_ring { ¬ IsRingName self.now.name.now }
-        requires no_demand { ¬ IsDemandName self.now.name.now }
-        ensures task { IsTaskFor self.now.name.now (values_of self.now) result }
-        ensures range { IsInRange result }
-    {
         match self.name {
-            "check" => Task::Check {
+            "run" | "trace" | "explain" | "plan" | "apply" => self.task_on_ring(alloc),
+            "judge" | "audit" | "formula" | "refute" => self.task_with_demand(alloc),
+            "check" => Ok(Task::Check {
                 ids: self.number(&IDS),
-            },
-            "print" => Task::Print,
-            "migrate" => Task::Migrate,
-            "table" => Task::Table {
+            }),
+            "print" => Ok(Task::Print),
+            "migrate" => Ok(Task::Migrate),
+            "table" => Ok(Task::Table {
                 ids: self.number(&IDS),
                 workers: self.number(&WORKERS),
                 near: self.number(&NEAR),
                 far: self.number(&FAR),
-            },
+            }),
             _ => unreachable!(),
         }
     }
@@ -154,43 +119,25 @@ impl Call<'_, '_> {
         ensures refused { IfErr result (IsCallFault self.now.name.now (values_of self.now)) }
     {
         let problem = problem_of(alloc, self.options)?;
-        Ok(match self.name {
-            "judge" => Task::Judge {
+        match self.name {
+            "judge" => Ok(Task::Judge {
                 ids: self.number(&IDS),
                 workers: self.number(&WORKERS),
                 demand: self.demand(problem),
-            },
-            "audit" => Task::Audit { problem },
-            _ => self.formula_task(problem),
-        })
-    }
-
-    // Returns the task of `formula` or `refute` with this problem.
-    fn formula_task(&self, problem: Option<Problem>) -> Task
-        requires given { IsCall self.now }
-        requires named { (self.now.name.now ≡ codes "formula") ⊎ (self.now.name.now ≡ codes "refute") }
-        requires problem { IsProblemIn (values_of self.now) problem }
-        requires few { IfSome problem HasFewPatterns }
-        ensures task { IsTaskFor self.now.name.now (values_of self.now) result }
-        ensures range { IsInRange result }
-    {
-        let ids = self.number(&IDS);
-        let rounds = self.number(&ROUNDS);
-        let channels = self.number(&CHANNELS);
-        let demand = self.demand(problem);
-        if self.name == "formula" {
-            return Task::Formula {
-                ids,
-                rounds,
-                channels,
-                demand,
-            };
-        }
-        Task::Refute {
-            ids,
-            rounds,
-            channels,
-            demand,
+            }),
+            "audit" => Ok(Task::Audit { problem }),
+            "formula" => Ok(Task::Formula {
+                ids: self.number(&IDS),
+                rounds: self.number(&ROUNDS),
+                channels: self.number(&CHANNELS),
+                demand: self.demand(problem),
+            }),
+            _ => Ok(Task::Refute {
+                ids: self.number(&IDS),
+                rounds: self.number(&ROUNDS),
+                channels: self.number(&CHANNELS),
+                demand: self.demand(problem),
+            }),
         }
     }
 

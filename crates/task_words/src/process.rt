@@ -1,6 +1,6 @@
 //! The words of the process.
 ghost use Rattle.std.specs.Prelude.{◌≡◌, map, drop, IfOk, IfErr, string_bytes};
-ghost use Rattle.task_words.specs.ParsedWords.{IsCauseLine, IsParsed, IsRequestFrom, IsUnread};
+ghost use Rattle.task_words.specs.ParsedWords.{IsCauseLine, IsParsed, IsUnread};
 ghost use Rattle.task_words.specs.Task.{IsRunnable};
 ghost use Rattle.task_words.specs.WordsFault.{words_fault_code};
 
@@ -22,7 +22,7 @@ pub fn parse_request<T: AllocGlobal + Env>(rt: &T) -> Result<Request, WordsFault
     ensures runnable { IfOk result (λ request. IsRunnable request.task) }
 {
     let words = words(rt)?;
-    request_after_name(rt.alloc(), &words)
+    request_of(rt.alloc(), after_name(&words))
 }
 
 // Returns the words of the process, from the program's name on.
@@ -34,13 +34,6 @@ fn words<T: AllocGlobal + Env>(rt: &T) -> Result<Vec<String>, WordsFault>
         Ok(args) => Ok(args.collect::<Vec<_>>(alloc)?),
         Err(error) => Err(words_fault(alloc, error)?),
     }
-}
-
-// Returns what the words after the first one request.
-fn request_after_name(alloc: Global, words: &[String]) -> Result<Request, WordsFault>
-    ensures { IsRequestFrom (drop 1 (map string_bytes words.now)) result }
-{
-    request_of(alloc, after_name(words))
 }
 
 // Returns the words after the first one, which is the program's name.
