@@ -116,14 +116,11 @@ fn problem_named(options: &ArgMatches) -> Result<Option<KnownProblem>, WordsFaul
 fn known_problem(name: &str) -> Option<KnownProblem>
     ensures { result ≡ known_problem name.now }
 {
-    if name == "mis" {
-        Some(KnownProblem::IndependentSet)
-    } else if name == "matching" {
-        Some(KnownProblem::Matching)
-    } else if name == "weak2" {
-        Some(KnownProblem::WeakColouring)
-    } else {
-        None
+    match name {
+        "mis" => Some(KnownProblem::IndependentSet),
+        "matching" => Some(KnownProblem::Matching),
+        "weak2" => Some(KnownProblem::WeakColouring),
+        _ => None,
     }
 }
 

@@ -16,11 +16,9 @@ pub enum Format {
 pub(crate) fn format_named(name: &str) -> Option<Format>
     ensures { result ≡ known_format name.now }
 {
-    if name == "lines" {
-        Some(Format::Lines)
-    } else if name == "json" {
-        Some(Format::Json)
-    } else {
-        None
+    match name {
+        "lines" => Some(Format::Lines),
+        "json" => Some(Format::Json),
+        _ => None,
     }
 }

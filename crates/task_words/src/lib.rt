@@ -17,7 +17,6 @@ mod parsing;
 pub mod pattern_text;
 mod pattern_tips;
 mod process;
-mod refused;
 pub mod request;
 pub mod ring_text;
 mod ring_tips;

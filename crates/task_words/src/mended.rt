@@ -15,9 +15,6 @@ use source_places::write_escaped;
 use std::alloc::{AllocError, Global};
 use std::fmt::Write;
 
-// The maximum number of words that are told.
-const MOST_WORDS: usize = 40;
-
 /// Returns corrected words in place of refused ones, or `None` if none are found: words that request a
 /// task, of the same command where the first word is the name of one. Fails if memory was refused.
 pub fn mended_words(alloc: Global, words: &[String]) -> Result<Option<Vec<String>>, AllocError>
@@ -76,7 +73,7 @@ fn has_name(rows: &[CommandRow], name: &str) -> bool
     rows.iter().any(|row| row.name == name)
 }
 
-// Returns the words that were probably meant, if each word was understood, and if they are not many.
+// Returns the words that were probably meant, if each word was understood, and if they are at most 40.
 fn meant_words(alloc: Global, words: &[String]) -> Result<Option<Vec<String>>, AllocError> {
     let draft = draft_of(alloc, words)?;
     let mut meant = Vec::new(alloc);
@@ -87,7 +84,7 @@ fn meant_words(alloc: Global, words: &[String]) -> Result<Option<Vec<String>>, A
             is_whole = push_given(&mut meant, &option, given.text.as_str().trim())? && is_whole;
         }
     }
-    if is_whole && meant.len() <= MOST_WORDS {
+    if is_whole && meant.len() <= 40 {
         return Ok(Some(meant));
     }
     Ok(None)

@@ -169,43 +169,33 @@ impl Call<'_, '_> {
         ensures good { OnOk result (IsGoodCall self.now.name.now (values_of self.now)) }
         ensures refused { IfErr result (IsCallFault self.now.name.now (values_of self.now)) }
     {
-        match self.ring(alloc) {
-            Ok(ring) => Ok(self.ring_task(ring)),
-            Err(fault) => Err(fault),
-        }
-    }
-
-    // Returns the task of a command on this ring.
-    fn ring_task(&self, ring: Vec<u32>) -> Task
-        requires given { IsCall self.now }
-        requires on_ring { IsRingName self.now.name.now }
-        requires ring { HasRing (values_of self.now) ring.items }
-        ensures task { IsTaskFor self.now.name.now (values_of self.now) result }
-        ensures range { IsInRange result }
-    {
+        let ring = match self.ring(alloc) {
+            Ok(ring) => ring,
+            Err(fault) => return Err(fault),
+        };
         match self.name {
-            "run" => Task::Run {
+            "run" => Ok(Task::Run {
                 ids: self.number(&IDS),
                 ring,
                 segments: self.number(&SEGMENTS),
-            },
-            "plan" => Task::Plan {
+            }),
+            "plan" => Ok(Task::Plan {
                 ids: self.number(&IDS),
                 ring,
                 workers: self.number(&WORKERS),
-            },
-            "trace" => Task::Trace {
+            }),
+            "trace" => Ok(Task::Trace {
                 ids: self.number(&IDS),
                 ring,
                 base: Base::of(self.number(&BASE)),
-            },
-            "explain" => Task::Explain {
+            }),
+            "explain" => Ok(Task::Explain {
                 ids: self.number(&IDS),
                 ring,
                 place: self.number(&PLACE),
                 base: Base::of(self.number(&BASE)),
-            },
-            _ => Task::Apply { ring },
+            }),
+            _ => Ok(Task::Apply { ring }),
         }
     }
 

@@ -7,12 +7,12 @@ ghost use Rattle.task_words.specs.WordsFault.{words_fault_code};
 use crate::demand_fault::DemandFault;
 use crate::mended::advice_on;
 use crate::pattern_tips::pattern_tip;
-use crate::refused::usage_text;
 use crate::request::Request;
 use crate::ring_tips::{ring_tip, ring_word};
 use crate::words::{WordsFault, request_of, words_fault};
 use std::alloc::{AllocError, Global};
 use std::env;
+use std::fmt::Write;
 use std::rt::Env;
 
 /// Returns what the words after the program's name request, as `request_of` does, or the fault of the
@@ -87,6 +87,32 @@ fn print_fault<T: AllocGlobal + Eprint>(rt: &T, fault: &WordsFault, has_advice: 
             eprintln!(rt; "{fault}")
         }
     };
+}
+
+// Writes a text with each control character but line feeds as `\x` and two hexadecimal digits.
+fn write_visible(out: &mut String, text: &str) -> Result<(), AllocError> {
+    for letter in text.chars() {
+        if letter.is_control() && letter != '\n' {
+            let code = letter as u32;
+            write!(out, "\\x{code:02x}")?;
+        } else {
+            out.push(letter)?;
+        }
+    }
+    Ok(())
+}
+
+// Returns a text of `clap` on refused words as it is printed: without control characters, and where
+// there is advice without the paragraph on what is alike. Fails if memory was refused.
+fn usage_text(alloc: Global, text: &str, has_advice: bool) -> Result<String, AllocError> {
+    let mut shown = String::new(alloc);
+    for part in text.split("\n\n") {
+        if !has_advice || !part.starts_with("  tip: ") {
+            shown.push_str(if shown.is_empty() { "" } else { "\n\n" })?;
+            write_visible(&mut shown, part)?;
+        }
+    }
+    Ok(shown)
 }
 
 // Returns the line on the cause of the fault of words that are a command, if it has one. Fails if
