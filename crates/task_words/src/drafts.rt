@@ -91,14 +91,15 @@ impl Draft {
 
     // Returns whether an option is given.
     fn has(&self, name: &str) -> bool {
-        let mut given = self.given.iter();
-        given.any(|given| matches!(given.meaning, Meaning::Option(other, _) if other == name))
+        let is_it =
+            |given: &Given| matches!(given.meaning, Meaning::Option(other, _) if other == name);
+        self.given.iter().any(is_it)
     }
 
     // Returns whether a file is given from which the text is read.
     fn has_input(&self) -> bool {
-        let mut given = self.given.iter();
-        given.any(|given| matches!(given.meaning, Meaning::Input))
+        let is_input = |given: &Given| matches!(given.meaning, Meaning::Input);
+        self.given.iter().any(is_input)
     }
 
     // Returns whether the command has an option that can still be given.

@@ -66,8 +66,7 @@ impl Call<'_, '_> {
         }
     }
 
-    // Returns the form of the report, which is lines without `--format`. Fails with `Usage` if the value
-    // of `--format` is the name of no form.
+    // Returns the form of the report, by default lines. Fails with `Usage` if `--format` names no form.
     fn format(&self, alloc: Global) -> Result<Format, WordsFault>
         ensures format { IfOk result (HasFormat (values_of self.now)) }
         ensures refused { IfErr result (IsFormatRefusal (format_of (values_of self.now))) }
@@ -108,8 +107,7 @@ impl Call<'_, '_> {
         }
     }
 
-    // Returns the task of a command that demands something of channels. Fails with `BadDemand` if the
-    // values of its options are no demand.
+    // Returns the task of a command with a demand. Fails with `BadDemand` if its options are no demand.
     fn task_with_demand(&self, alloc: Global) -> Result<Task, WordsFault>
         requires given { IsCall self.now }
         requires named { IsDemandName self.now.name.now }
@@ -159,8 +157,7 @@ impl Call<'_, '_> {
         }
     }
 
-    // Returns the task of a command on a ring. Fails with `BadRing` if the value of `--ring` is not a
-    // ring text.
+    // Returns the task of a command on a ring. Fails with `BadRing` if `--ring` has no ring text.
     fn task_on_ring(&self, alloc: Global) -> Result<Task, WordsFault>
         requires given { IsCall self.now }
         requires on_ring { IsRingName self.now.name.now }
@@ -212,8 +209,7 @@ impl Call<'_, '_> {
         number
     }
 
-    // Returns the identifiers of the ring's places. Fails with `BadRing` if the text is not a ring
-    // text.
+    // Returns the identifiers of the ring's places. Fails with `BadRing` if `--ring` has no ring text.
     fn ring(&self, alloc: Global) -> Result<Vec<u32>, WordsFault>
         requires given { IsCall self.now }
         requires on_ring { IsRingName self.now.name.now }
