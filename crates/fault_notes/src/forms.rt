@@ -151,9 +151,11 @@ const MOST_OPERATORS: usize = 16;
 // Returns how tight an operator binds that is among these forms, 0 if there is none.
 fn level_in(forms: &[Form], marks: &[u8]) -> u8 {
     for form in forms {
-        match form.parts {
-            [_, One(words), ..] if is_one_of(words, marks) => return form.level,
-            _ => {}
+        if let Some(part) = form.parts.get(1)
+            && let One(words) = *part
+            && is_one_of(words, marks)
+        {
+            return form.level;
         }
     }
     0
