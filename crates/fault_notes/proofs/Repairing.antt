@@ -10,7 +10,8 @@ use Rattle.fault_notes.specs.declared.edits.Edit.{Edit}
 use Rattle.fault_notes.specs.Repairs.{edited, ends_line, whole, later, IsRepair}
 
 -- it makes a program
-pub makes_program : (text new : List ℕ) (offset : ℕ) (e : Edit) → e.from ≤ e.to → e.to ≤ length text → (e.from ≡ e.to → e.from ≡ offset) →
+pub makes_program : (text new : List ℕ) (offset : ℕ) (e : Edit) → e.from ≤ e.to → e.to ≤ length text
+    → (e.from ≡ e.to → e.from ≡ offset) →
     new ≡ edited text e →
     (p : ProgramTree) × Reads new p → IsRepair text offset e
 makes_program text new offset e ordered within there is program = record {
@@ -21,7 +22,8 @@ makes_program text new offset e ordered within there is program = record {
 }
 
 -- its fault stands on a later line
-pub faults_later : (text new : List ℕ) (offset : ℕ) (e : Edit) → e.from ≤ e.to → e.to ≤ length text → (e.from ≡ e.to → e.from ≡ offset) →
+pub faults_later : (text new : List ℕ) (offset : ℕ) (e : Edit) → e.from ≤ e.to → e.to ≤ length text
+    → (e.from ≡ e.to → e.from ≡ offset) →
     new ≡ edited text e →
     (k : FaultKind) (place : ℕ) (behind : List ℕ) → FaultsAt new k place → k ≢ kind.TooLong →
     behind ≡ drop (max offset e.to) text → ends_line behind (length new - place) ≡ true → IsRepair text offset e

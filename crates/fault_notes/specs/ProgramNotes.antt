@@ -1,5 +1,6 @@
 -- The note on a program that is not accepted.
-use Rattle.std.specs.Prelude.{◌≡◌, ℕ, ◌+◌, ◌-◌, ◌*◌, ◌<◌, ◌≤◌, ◌==◌, nat_lt, ◌++◌, Bool, true, false, List, length, codes, if◌then◌else◌}
+use Rattle.std.specs.Prelude.{◌≡◌, ℕ, ◌+◌, ◌-◌, ◌*◌, ◌<◌, ◌≤◌, ◌==◌, nat_lt, ◌++◌, Bool, true, false, List, length}
+use Rattle.std.specs.Prelude.{codes, if◌then◌else◌}
 use Rattle.std.specs.List.{list_any}
 use Rattle.std.specs.Fmt.{decimal}
 use Rattle.node_program.specs.declared.limits.TheConstants.{MAX_CHANNELS}
@@ -40,7 +41,8 @@ pub data IsIdsNote (t ids : ℕ) (note : List ℕ) : Type 0 where
 
 abbrev pub register_cause : ℕ → List ℕ
 register_cause j =
-    codes "there is no register r" ++ (decimal j ++ codes "; `registers` says how many there are, from r0 to at most r7")
+    codes "there is no register r"
+    ++ (decimal j ++ codes "; `registers` says how many there are, from r0 to at most r7")
 
 abbrev pub id_cause : List ℕ
 id_cause = codes "`id` can be read in `start` alone; keep it in a register"
@@ -50,7 +52,8 @@ message_cause = codes "`L` and `R` can be read in the assignments of a round alo
 
 -- the cap that keeps the values of `finish` below c channels, and when it changes none
 abbrev pub cap_text : ℕ → List ℕ
-cap_text c = codes "`finish min(.., " ++ (decimal (c - 1) ++ (codes ")` if none exceeds " ++ (decimal (c - 1) ++ codes "\n")))
+cap_text c = codes "`finish min(.., "
+    ++ (decimal (c - 1) ++ (codes ")` if none exceeds " ++ (decimal (c - 1) ++ codes "\n")))
 
 -- the bound of `finish` in a program with c channels, the number of channels that it requires, and a cap
 abbrev pub bound_note : ℕ → ℕ → List ℕ

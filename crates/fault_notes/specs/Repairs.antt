@@ -1,5 +1,6 @@
 -- Edits of a program text that a note tells one to make: each has been tried.
-use Rattle.std.specs.Prelude.{◌≡◌, ◌≢◌, ℕ, ◌-◌, ◌+◌, ◌≤◌, ◌==◌, ◌&&◌, nat_lt, nat_le, Bool, true, ◌++◌, List, [], ◌∷◌, length, map, take, drop, slice_index, max, codes, Option, Some, None, if◌then◌else◌}
+use Rattle.std.specs.Prelude.{◌≡◌, ◌≢◌, ℕ, ◌-◌, ◌+◌, ◌≤◌, ◌==◌, ◌&&◌, nat_lt, nat_le, Bool, true, ◌++◌, List, [], ◌∷◌}
+use Rattle.std.specs.Prelude.{length, map, take, drop, slice_index, max, codes, Option, Some, None, if◌then◌else◌}
 use Rattle.std.specs.List.{flat_map, list_any}
 use Rattle.node_program.specs.Term.{ProgramTree}
 use Rattle.node_lang.specs.declared.fault.FaultKind.{FaultKind}
@@ -9,8 +10,8 @@ use Rattle.node_lang.specs.Faults.{FaultsAt}
 use Rattle.source_places.specs.Shown.{shown_byte}
 use Rattle.fault_notes.specs.declared.edits.Edit.{Edit}
 
--- A byte of an edit as it is tried: 0 stands for an expression that is still to be written, in whose place the number 0 is tried,
--- and 1 for a number of the header, in whose place 1 is tried.
+-- A byte of an edit as it is tried: 0 stands for an expression that is still to be written, in whose place the
+-- number 0 is tried, and 1 for a number of the header, in whose place 1 is tried.
 abbrev pub tried_byte : ℕ → ℕ
 tried_byte b = if nat_lt b 2 then b + 48 else b
 
@@ -22,14 +23,16 @@ edited text e = take e.from text ++ (32 ∷ (map tried_byte e.put.items ++ (32 �
 abbrev pub ends_line : List ℕ → ℕ → Bool
 ends_line text left = list_any (λ b. b == 10) (take (length text - left) text)
 
--- The edited text is a program; or its first fault stands on a later line: behind the edit, and not before the old fault, a line
--- ends before it. What is behind the edit is the same in both texts, so the places are counted from their ends.
+-- The edited text is a program; or its first fault stands on a later line: behind the edit, and not before the old
+-- fault, a line ends before it. What is behind the edit is the same in both texts, so the places are counted from
+-- their ends.
 pub data GoesFurther (text : List ℕ) (offset : ℕ) (e : Edit) : Type 0 where
   whole : (p : ProgramTree) → Reads (edited text e) p → GoesFurther text offset e
   later : (k : FaultKind) (place : ℕ) → k ≢ kind.TooLong → FaultsAt (edited text e) k place →
       ends_line (drop (max offset e.to) text) (length (edited text e) - place) ≡ true → GoesFurther text offset e
 
--- an edit within a text that goes further than its fault at this offset; what is put in the place of nothing is put there
+-- an edit within a text that goes further than its fault at this offset; what is put in the place of nothing is put
+-- there
 pub record IsRepair (text : List ℕ) (offset : ℕ) (e : Edit) : Type 0 where
   pub ordered : e.from ≤ e.to
   pub within : e.to ≤ length text

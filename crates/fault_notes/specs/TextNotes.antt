@@ -30,7 +30,8 @@ cause_of kind.TooManyNodes word w = codes "the expressions of a program have at 
 cause_of kind.EndOfText word w = codes "unexpected end of the text" ++ wanted_part w
 cause_of kind.OutOfMemory word w = []
 
--- Advice is a fact on the language, which may be empty, and then perhaps what an edit tells one to do, which has been tried.
+-- Advice is a fact on the language, which may be empty, and then perhaps what an edit tells one to do, which has
+-- been tried.
 pub record IsAdvice (text : List ℕ) (offset : ℕ) (advice : List ℕ) : Type 0 where
   pub fact : List ℕ
   pub repair : Option Edit

@@ -90,8 +90,8 @@ impl Spot<'_> {
             && !self.begins_line(self.number)
     }
 
-    // Returns whether marks begin a comment in another language, at the start of a line, before a word, or behind `start` or
-    // `round`.
+    // Returns whether marks begin a comment in another language, at the start of a line, before a word, or behind
+    // `start` or `round`.
     pub(crate) fn begins_comment(self) -> bool {
         let marks = self.marks(self.number);
         let is_word = self.is_strange(self.after_marks(self.number));
@@ -128,7 +128,8 @@ impl<'a> Edits<'a> {
         Ok(())
     }
 
-    // Adds that each of these pieces is put in the place of the tokens from one up to the token, between a front and a back.
+    // Adds that each of these pieces is put in the place of the tokens from one up to the token, between a front
+    // and a back.
     fn put_each(
         &mut self,
         first: usize,
@@ -183,8 +184,8 @@ impl<'a> Edits<'a> {
         Ok(())
     }
 
-    // Adds the words that a word can be: two words, an operation and its first operand, or an operation of three letters with
-    // a name alike.
+    // Adds the words that a word can be: two words, an operation and its first operand, or an operation of three
+    // letters with a name alike.
     fn put_parted(&mut self) -> Result<(), AllocError> {
         let (spot, number) = (self.spot, self.spot.number);
         let (word, next) = (spot.word(number), after(number, 1));

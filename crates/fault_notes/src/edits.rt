@@ -1,6 +1,7 @@
 //! Edits of a program text, and whether they help.
 
-ghost use Rattle.std.specs.Prelude.{◌≡◌, ◌≢◌, ◌≤◌, ◌-◌, true, ◌++◌, length, map, drop, codes, IfOk, IfSome, IfNone, OnOk, string_bytes};
+ghost use Rattle.std.specs.Prelude.{◌≡◌, ◌≢◌, ◌≤◌, ◌-◌, true, ◌++◌, length, map, drop, codes, IfOk, IfSome, IfNone};
+ghost use Rattle.std.specs.Prelude.{OnOk, string_bytes};
 ghost use Rattle.node_lang.specs.declared.fault.FaultKind.TheVariants as kind;
 ghost use Rattle.node_program.specs.Term.{ProgramTree};
 ghost use Rattle.node_lang.specs.Grammar.{Reads};
@@ -123,7 +124,8 @@ pub(crate) fn fault_in(alloc: Global, text: &[u8]) -> Result<Option<TextFault>, 
     }
 }
 
-// Returns the number of bytes from a fault on, counted from 1, if a line ends before it in the text that is behind an edit.
+// Returns the number of bytes from a fault on, counted from 1, if a line ends before it in the text that is behind
+// an edit.
 fn left_behind(new: &[u8], fault: TextFault, behind: &[u8]) -> Option<usize>
     ensures { IfSome result (λ _. (fault.kind ≢ kind.TooLong)
         × (repair.ends_line behind.now (length new.now - fault.offset) ≡ true)) }
@@ -171,7 +173,8 @@ fn write_abridged(out: &mut String, part: &[u8]) -> Result<(), AllocError>
 
 // Writes a part of a text behind a head, and the end of the quotation.
 fn write_quoted(out: &mut String, head: &str, part: &[u8]) -> Result<(), AllocError>
-    ensures { OnOk result (string_bytes out.new ≡ string_bytes out.old ++ (head.now ++ (repair.abridged part.now ++ codes "`"))) }
+    ensures { OnOk result (string_bytes out.new
+        ≡ string_bytes out.old ++ (head.now ++ (repair.abridged part.now ++ codes "`"))) }
 {
     out.push_str(head)?;
     write_abridged(out, part)?;

@@ -162,13 +162,17 @@ impl<'a> Spot<'a> {
             matches!(marks, [0..=31 | 127, ..]) => Alone "; this byte does not belong in a text";
             self.begins_comment() => Beside "; a comment begins with `#`";
             is_end => Beside "; lines end without a mark";
-            self.assigns() && self.begins_line(before(number, 1)) => Beside "; the register before it was read as the expression that is missing";
-            self.assigns() => Alone "; an assignment has one register, and a branch of `if` has none: `eq(a, b)` compares";
-            self.is_behind() && self.is_chained(number) => Alone "; a comparison has two sides, as in `and(lt(a, b), lt(b, c))`";
+            self.assigns() && self.begins_line(before(number, 1)) => Beside
+                "; the register before it was read as the expression that is missing";
+            self.assigns() => Alone
+                "; an assignment has one register, and a branch of `if` has none: `eq(a, b)` compares";
+            self.is_behind() && self.is_chained(number) => Alone
+                "; a comparison has two sides, as in `and(lt(a, b), lt(b, c))`";
             is_early => Beside "; messages are sent only in rounds";
             self.counts_from_1() => Alone "; registers are `r0` to `r7`";
             self.is_second() => Alone "; each register is assigned once in a block, by one expression";
-            self.expected == Expected::Expression && self.gap(number).contains(&b'#') => Beside "; what follows `#` on a line is a comment";
+            self.expected == Expected::Expression && self.gap(number).contains(&b'#') => Beside
+                "; what follows `#` on a line is a comment";
             else match self.arity() {
                 Some(fact) => Some(fact),
                 None => self.fact_of_row(),
@@ -176,7 +180,8 @@ impl<'a> Spot<'a> {
         }
     }
 
-    // Returns the fact of the row that the token has, with its word, or with the one before it if that is what is wrong.
+    // Returns the fact of the row that the token has, with its word, or with the one before it if that is what is
+    // wrong.
     fn fact_of_row(self) -> Option<Fact<'a>> {
         let row = self.row()?;
         let (told, text) = (row.told, row.fact);

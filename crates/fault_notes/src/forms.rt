@@ -20,7 +20,8 @@ pub(crate) enum Piece {
     Nth(usize),
 }
 
-// A form of another notation: how tight its operator binds, 0 if it has none, what stands there, and what is written in its place.
+// A form of another notation: how tight its operator binds, 0 if it has none, what stands there, and what is
+// written in its place.
 #[derive(Clone, Copy)]
 pub(crate) struct Form {
     level: u8,
@@ -29,12 +30,14 @@ pub(crate) struct Form {
 }
 
 macro_rules! forms {
-    ($($level:literal, [$($part:expr),+] => $put:expr;)+) => { [$(Form { level: $level, parts: &[$($part),+], put: $put }),+] };
+    ($($level:literal, [$($part:expr),+] => $put:expr;)+) =>
+        { [$(Form { level: $level, parts: &[$($part),+], put: $put }),+] };
 }
 
 // An operation of two operands.
 macro_rules! call {
-    ($name:literal, $first:expr, $second:expr) => { &[Text(concat!($name, "(")), $first, Text(", "), $second, Text(")")] };
+    ($name:literal, $first:expr, $second:expr) => { &[Text(concat!($name,
+        "(")), $first, Text(", "), $second, Text(")")] };
 }
 
 use Part::{Message, Number, One, Operand, Operands, Register, Thousand};

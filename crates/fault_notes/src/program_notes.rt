@@ -133,7 +133,8 @@ fn bound_note(
     bound: u32,
 ) -> Result<String, OutOfMemory>
     ensures { IfOk result (λ note. string_bytes note
-        ≡ (notes.bound_note program.now.channels bound ++ growth_text program.now ids) ++ notes.not_line text.now bound) }
+        ≡ (notes.bound_note program.now.channels bound ++ growth_text program.now ids)
+        ++ notes.not_line text.now bound) }
 {
     let mut note = channels_note(alloc, program.channels(), bound)?;
     write_growth(alloc, &mut note, program, ids)?;

@@ -91,8 +91,8 @@ fn best_of(
     Ok(best)
 }
 
-// Returns how much may be left behind an edit: nothing if it leaves out a known word, a line or several words that do not
-// stand twice.
+// Returns how much may be left behind an edit: nothing if it leaves out a known word, a line or several words that
+// do not stand twice.
 fn most_left(text: &[u8], edit: &Edit) -> usize {
     let old = part(text, edit.from, edit.to);
     let last = part(text, before(edit.from, 1), edit.from);

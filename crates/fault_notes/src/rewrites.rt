@@ -31,15 +31,16 @@ fn sign_written(alloc: Global, text: &[u8], offset: usize) -> Found {
 }
 
 impl Spot<'_> {
-    // Returns the edit of the tokens from one up to another, or before the first if both are one, that puts these pieces there.
+    // Returns the edit of the tokens from one up to another, or before the first if both are one, that puts these
+    // pieces there.
     pub(crate) fn put(self, first: usize, to: usize, pieces: &[&[u8]]) -> Result<Edit, AllocError> {
         let (from, last) = (self.span(first).0, self.span(before(to, 1)).1);
         let end = if first < to { last } else { from };
         edit_of(self.alloc, from, end, pieces)
     }
 
-    // Returns whether the token is an `=` behind an expression that assigns a register: one at the start of a line, one that stands
-    // behind another `=`, or one in a branch of `if`.
+    // Returns whether the token is an `=` behind an expression that assigns a register: one at the start of a line,
+    // one that stands behind another `=`, or one in a branch of `if`.
     pub(crate) fn assigns(self) -> bool {
         let register = before(self.number, 1);
         let is_register = matches!(self.token(register), Some(Token::Register(_)));
@@ -97,8 +98,8 @@ impl Spot<'_> {
         Ok(None)
     }
 
-    // Writes a form that begins with an operand before a token, by the operator that binds tightest. A chain of comparisons is
-    // none.
+    // Writes a form that begins with an operand before a token, by the operator that binds tightest. A chain of
+    // comparisons is none.
     fn joined(self, number: usize) -> Found {
         let here = Spot { number, ..self };
         if self.operand_start(number).is_none() || self.begins_line(number) || here.assigns() {

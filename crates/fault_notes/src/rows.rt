@@ -1,6 +1,7 @@
 //! Facts on what stands where it cannot, and signs of other notations, in rows.
 //!
-//! A proof unfolds a table in each goal of a function that names it, so one function returns each, and none has more than 24 rows.
+//! A proof unfolds a table in each goal of a function that names it, so one function returns each, and none has
+//! more than 24 rows.
 
 use node_lang::Token::{
     self, Channels, Close, Comma, Equals, Finish, Left, Open, Registers, Right, Round, Rounds,
@@ -56,8 +57,8 @@ pub(crate) enum Part {
     LineEnd,
 }
 
-// A row of facts: where it counts, what the token before is, what stands there, and a fact and what is written in the place of the
-// token, which both can be empty. `{}` in a fact stands for the word that is wrong.
+// A row of facts: where it counts, what the token before is, what stands there, and a fact and what is written in
+// the place of the token, which both can be empty. `{}` in a fact stands for the word that is wrong.
 #[derive(Clone, Copy)]
 pub(crate) struct Row {
     pub(crate) places: &'static [Place],
@@ -78,7 +79,8 @@ pub(crate) struct Sign {
 
 macro_rules! rows {
     ($([$($place:expr),+] $(after $last:expr,)? [$($part:expr),*] => $told:ident, $fact:literal, $put:literal;)+) => {
-        [$(Row { places: &[$($place),+], last: last!($($last)?), parts: &[$($part),*], told: Told::$told, fact: $fact, put: $put }),+]
+        [$(Row { places: &[$($place),+], last: last!($($last)?), parts: &[$($part),*], told: Told::$told, fact: $fact,
+        put: $put }),+]
     };
 }
 
@@ -198,7 +200,8 @@ static OTHERS: [Row; 13] = rows! {
     [Expression] [LineEnd] => Without, "", "";
     [Expression] [Part::Any] => Without, "; `{}` has no value", "";
     [Place::Number] [One("-")] => Alone, "; numbers have no sign", "";
-    [Place::Number, At(Channels), At(Registers), At(Start)] [Mark] => Without, "; one number is written here, in digits", "";
+    [Place::Number, At(Channels), At(Registers), At(Start)] [Mark] => Without,
+        "; one number is written here, in digits", "";
     [Place::Number] [] => Without, "; a number is written in digits", "";
 };
 
@@ -269,7 +272,8 @@ static LINES: [Row; 20] = rows! {
     [At(Send)] after One("round"), [Part::Number] => Beside, "; rounds have no numbers", "";
     [Any] [Strange, Part::Register] => Without, "", "";
     [At(Send), At(Left), At(Right)] [] => Without, "; a round begins with `send left ..` and `send right ..`", "";
-    [First, Place::Register] [Strange, One("= ( [")] => Beside, "; registers are `r0` to `r7`, and have no other names", "";
+    [First, Place::Register] [Strange, One("= ( [")] => Beside, "; registers are `r0` to `r7`, and have no other names",
+        "";
     [Any] [One("L R id"), One("=")] =>
         Alone, "; only registers are assigned: a value is sent by `send left` and `send right`", "";
     [Any] [Operation] => Beside, "; one expression is assigned to each register, as in `r0 = if(c, a, b)`", "";

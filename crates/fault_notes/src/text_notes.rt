@@ -1,7 +1,8 @@
 //! The note on a fault of a program text.
 
 ghost use Rattle.fault_notes.specs.Words.{wanted_part, first_word as word};
-ghost use Rattle.std.specs.Prelude.{◌≡◌, ◌≢◌, ◌≤◌, ◌++◌, codes, ℕ, List, ◌∷◌, Option, length, take, drop, IfOk, IfSome, IfNone, OnOk, string_bytes};
+ghost use Rattle.std.specs.Prelude.{◌≡◌, ◌≢◌, ◌≤◌, ◌++◌, codes, ℕ, List, ◌∷◌, Option, length, take, drop, IfOk, IfSome};
+ghost use Rattle.std.specs.Prelude.{IfNone, OnOk, string_bytes};
 ghost use Rattle.node_lang.specs.declared.fault.FaultKind.TheVariants as kind;
 ghost use Rattle.node_lang.specs.declared.expected.Expected.{Expected};
 ghost use Rattle.node_lang.specs.Faults.{FaultsAt};
@@ -58,8 +59,10 @@ fn write_note(
     misread: Misread,
 ) -> Result<(), OutOfMemory>
     requires { misread.fault.offset ≤ length text.now }
-    ensures { OnOk result ((advice : List ℕ) × IsAdvice text.now misread.fault.offset advice × (string_bytes out.new ≡ string_bytes out.old ++ (place_head text.now misread.fault.offset
-        ++ (cause_of misread.fault.kind (word (drop misread.fault.offset text.now)) misread.expected ++ (advice ++ 10 ∷ marked_line text.now misread.fault.offset))))) }
+    ensures { OnOk result ((advice : List ℕ) × IsAdvice text.now misread.fault.offset advice
+        × (string_bytes out.new ≡ string_bytes out.old ++ (place_head text.now misread.fault.offset
+        ++ (cause_of misread.fault.kind (word (drop misread.fault.offset text.now)) misread.expected
+        ++ (advice ++ 10 ∷ marked_line text.now misread.fault.offset))))) }
 {
     let offset = misread.fault.offset;
     let word = word_at(text, offset);
@@ -79,7 +82,8 @@ fn write_advice(
     misread: Misread,
 ) -> Result<(), OutOfMemory>
     requires { misread.fault.offset ≤ length text.now }
-    ensures { OnOk result ((advice : List ℕ) × IsAdvice text.now misread.fault.offset advice × (string_bytes out.new ≡ string_bytes out.old ++ advice)) }
+    ensures { OnOk result ((advice : List ℕ) × IsAdvice text.now misread.fault.offset advice
+        × (string_bytes out.new ≡ string_bytes out.old ++ advice)) }
 {
     if let Some(advice) = fixed_advice(text, misread.fault.kind) {
         return Ok(out.push_str(advice)?);
@@ -91,7 +95,8 @@ fn write_advice(
 // Writes a fact and what an edit tells one to do.
 fn write_told(out: &mut String, text: &[u8], advice: &Advice) -> Result<(), AllocError>
     requires { IfSome advice.now.repair (λ e. (e.from ≤ e.to) × (e.to ≤ length text.now)) }
-    ensures { OnOk result (string_bytes out.new ≡ string_bytes out.old ++ (string_bytes advice.now.fact ++ optional_text text.now advice.now.repair)) }
+    ensures { OnOk result (string_bytes out.new
+        ≡ string_bytes out.old ++ (string_bytes advice.now.fact ++ optional_text text.now advice.now.repair)) }
 {
     out.push_str(advice.fact.as_str())?;
     match &advice.repair {
@@ -200,7 +205,8 @@ fn write_word(
     word: &[u8],
     wanted: Option<Expected>,
 ) -> Result<(), AllocError>
-    ensures { OnOk result (string_bytes out.new ≡ string_bytes out.old ++ (head.now ++ (quoted word.now ++ wanted_part wanted))) }
+    ensures { OnOk result (string_bytes out.new
+        ≡ string_bytes out.old ++ (head.now ++ (quoted word.now ++ wanted_part wanted))) }
 {
     out.push_str(head)?;
     write_quoted(out, word)?;

@@ -45,8 +45,8 @@ pub(crate) fn is_known(bytes: &[u8]) -> bool {
     }
 }
 
-// A text with its tokens, and the number of the token at which it cannot go on, with what is expected there. A number that
-// no token has stands for the end of the text.
+// A text with its tokens, and the number of the token at which it cannot go on, with what is expected there. A
+// number that no token has stands for the end of the text.
 #[derive(Clone, Copy)]
 pub(crate) struct Spot<'a> {
     pub(crate) alloc: Global,

@@ -10,8 +10,10 @@ advice_of kind.Program = codes "; this looks like a program: `nbhd judge`, `nbhd
 advice_of kind.Table = codes "; the text of a table is for `nbhd audit`, `nbhd apply` and `nbhd migrate`"
 advice_of kind.Formula = codes "; this is a formula for a solver, as in `cadical --no-binary FORMULA PROOF`"
 advice_of kind.Refutation = codes "; this looks like a refutation: `nbhd refute` takes one"
-advice_of kind.Proof = codes "; this looks like a proof in DRAT: `tools/lrat` adds the hints that it lacks, for `nbhd refute`"
-advice_of kind.Answer = codes "; this is a solver's answer: `tools/model` makes the table of a model, and a proof is a file of its own"
+advice_of kind.Proof = codes
+    "; this looks like a proof in DRAT: `tools/lrat` adds the hints that it lacks, for `nbhd refute`"
+advice_of kind.Answer = codes
+    "; this is a solver's answer: `tools/model` makes the table of a model, and a proof is a file of its own"
 advice_of kind.Report = codes "; this is output of `nbhd`, not a text that it reads"
 advice_of kind.Command = codes "; this is a command of the shell, not a text"
 advice_of kind.FileName = codes "; this looks like the name of a file: `< FILE` gives its text"

@@ -1,5 +1,6 @@
 -- A line of a text with a mark below a place, in a note.
-use Rattle.std.specs.Prelude.{ℕ, ◌-◌, ◌/◌, ◌%◌, ◌==◌, false, ◌&&◌, ◌||◌, ◌++◌, nat_lt, nat_le, List, [], ◌∷◌, length, take, drop, codes, replicate, if◌then◌else◌}
+use Rattle.std.specs.Prelude.{ℕ, ◌-◌, ◌/◌, ◌%◌, ◌==◌, false, ◌&&◌, ◌||◌, ◌++◌, nat_lt, nat_le, List, [], ◌∷◌, length}
+use Rattle.std.specs.Prelude.{take, drop, codes, replicate, if◌then◌else◌}
 use Rattle.std.specs.List.{flat_map}
 use Rattle.std.specs.Fmt.{digit_glyph}
 use Rattle.source_places.specs.declared.shown.TheConstants.{SHOWN_BYTES}

@@ -1,5 +1,6 @@
-//! What notes are made of: the bytes and the parts of a text, the place of a byte in it (its line and its column, and its
-//! line with a mark below it), lists of numbers, and advice on a text that is given in place of another one.
+//! What notes are made of: the bytes and the parts of a text, the place of a byte in it (its line and its column,
+//! and its line with a mark below it), lists of numbers, and advice on a text that is given in place of another
+//! one.
 #![tactic(auto)]
 
 mod byte_sets;

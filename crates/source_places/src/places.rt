@@ -4,7 +4,8 @@ ghost use Rattle.std.specs.Prelude.{◌≡◌, ◌≤◌, ◌-◌, ◌++◌, len
 ghost use Rattle.std.specs.List.{after_first, prefix_len, suffix_len};
 ghost use Rattle.source_places.specs.Heads.{place_head};
 ghost use Rattle.source_places.specs.Kinds as texts;
-ghost use Rattle.source_places.specs.Places.{after_lines, in_line, is_feed, line_number, column, line_before as before, line_from as from};
+ghost use Rattle.source_places.specs.Places.{after_lines, in_line, is_feed, line_number, column};
+ghost use Rattle.source_places.specs.Places.{line_before as before, line_from as from};
 
 use crate::byte_sets::len_before;
 use std::alloc::AllocError;

@@ -1,7 +1,8 @@
 //! A line of a text, with a mark below one of its bytes.
 
 ghost use Rattle.std.specs.Prelude.{◌≡◌, ◌≤◌, ◌++◌, length, take, replicate, OnOk, string_bytes};
-ghost use Rattle.source_places.specs.Shown.{escaped, escaped_bytes, shown_byte, shown, seen_byte, marked_line, last_bytes};
+ghost use Rattle.source_places.specs.Shown.{escaped, escaped_bytes, shown_byte, shown, seen_byte};
+ghost use Rattle.source_places.specs.Shown.{marked_line, last_bytes};
 
 use crate::places::{line_before, line_from};
 use std::alloc::AllocError;

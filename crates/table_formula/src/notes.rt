@@ -64,15 +64,24 @@ fn write_cause(out: &mut String, fault: LineFault) -> Result<(), AllocError>
     ensures { OnOk result (string_bytes out.new ≡ string_bytes out.old ++ notes.line_cause fault) }
 {
     told! { fault to out:
-        LineFault::Form => "this line is not a step of LRAT, as `5 -1 2 0 3 4 0`, a deletion, as `5 d 3 4 0`, or a comment";
-        LineFault::NumberNotAscending => "the number of this step is not above those of the steps before it, or not above those of the formula's clauses: then the options may be those of another formula";
-        LineFault::UnknownVariable => "this clause has a variable that the formula lacks; the numbers may be those of another formula";
-        LineFault::Exchange => "tables need not stay right by this exchange: identifiers are below `--ids` and channels below `--channels`, and two channels are exchanged only if near and far are at most 1";
-        LineFault::NoHints => "this step has no hints: behind the 0 of its clause stand the numbers of the clauses from which it follows, and then 0";
+        LineFault::Form =>
+            "this line is not a step of LRAT, as `5 -1 2 0 3 4 0`, a deletion, as `5 d 3 4 0`, or a comment";
+        LineFault::NumberNotAscending =>
+            "the number of this step is not above those of the steps before it, or not above those of the formula's clauses: then the options may be those of another formula";
+        LineFault::UnknownVariable =>
+            "this clause has a variable that the formula lacks; the numbers may be those of another formula";
+        LineFault::Exchange =>
+            "tables need not stay right by this exchange: identifiers are below `--ids` and channels below `--channels`, and two channels are exchanged only if near and far are at most 1";
+        LineFault::NoHints =>
+            "this step has no hints: behind the 0 of its clause stand the numbers of the clauses from which it follows, and then 0";
         LineFault::NoEmptyClause => "the text ends here, before the empty clause";
-        LineFault::UnknownHint(hint) => "hint {hint} names no clause: there is none of its number yet, or it was deleted; the options may be those of another formula";
-        LineFault::SeveralLeft(hint) => "several literals of the clause of hint {hint}, or one twice, are not yet known to be false, where at most one may be: a hint is missing before it or stands behind it, or the options may be those of another formula";
-        LineFault::EarlyConflict(hint) => "all literals of the clause of hint {hint} are known to be false, so it has to be the last one: leave out those behind it; the options may be those of another formula";
-        LineFault::OneLeft(hint) => "the clause of hint {hint}, the last one, has a literal that is not known to be false: a hint is missing or wrong, or the options may be those of another formula";
+        LineFault::UnknownHint(hint) =>
+            "hint {hint} names no clause: there is none of its number yet, or it was deleted; the options may be those of another formula";
+        LineFault::SeveralLeft(hint) =>
+            "several literals of the clause of hint {hint}, or one twice, are not yet known to be false, where at most one may be: a hint is missing before it or stands behind it, or the options may be those of another formula";
+        LineFault::EarlyConflict(hint) =>
+            "all literals of the clause of hint {hint} are known to be false, so it has to be the last one: leave out those behind it; the options may be those of another formula";
+        LineFault::OneLeft(hint) =>
+            "the clause of hint {hint}, the last one, has a literal that is not known to be false: a hint is missing or wrong, or the options may be those of another formula";
     }
 }

@@ -1,5 +1,6 @@
 -- The notes on a no of the judge to a problem, and on patterns that never match.
-use Rattle.std.specs.Prelude.{ℕ, ◌+◌, ◌%◌, ◌==◌, ◌&&◌, ◌++◌, List, [], ◌∷◌, Option, Some, None, length, slice_index, codes, if◌then◌else◌}
+use Rattle.std.specs.Prelude.{ℕ, ◌+◌, ◌%◌, ◌==◌, ◌&&◌, ◌++◌, List, [], ◌∷◌, Option, Some, None, length, slice_index}
+use Rattle.std.specs.Prelude.{codes, if◌then◌else◌}
 use Rattle.std.specs.Fmt.{decimal}
 use Rattle.source_places.specs.Lists.{joined}
 use Rattle.ring_problems.specs.declared.idle.IdlePattern.{IdlePattern}
@@ -16,7 +17,8 @@ node_after ring place step = slice_index ring ((place + step) % length ring)
 abbrev pub node_text : List ℕ → ℕ → ℕ → List ℕ
 node_text ring place step = codes "node " ++ decimal (node_after ring place step)
 
--- what is wrong with an independent set at a node: neither it nor a neighbour is in the set, or it is and its right neighbour too
+-- what is wrong with an independent set at a node: neither it nor a neighbour is in the set, or it is and its right
+-- neighbour too
 abbrev pub set_words : Pattern → ℕ × List ℕ
 set_words pattern =
     if has_third pattern then (1, codes " is not in the set, and neither is a neighbour")
@@ -46,7 +48,8 @@ pair_words first second =
 -- a node and both its neighbours with their channels
 abbrev pub row_words : ℕ × ℕ × ℕ → List ℕ
 row_words channels =
-    if (channels.0 == channels.1) && (channels.1 == channels.2) then codes " and both its neighbours have channel " ++ decimal channels.1
+    if (channels.0 == channels.1) && (channels.1 == channels.2)
+    then codes " and both its neighbours have channel " ++ decimal channels.1
     else codes " has channel " ++ (decimal channels.1 ++ (codes ", its left neighbour " ++ (decimal channels.0
     ++ (codes " and its right neighbour " ++ decimal channels.2))))
 
@@ -77,4 +80,5 @@ idle_text (Some idle) = idle_note idle
 -- the note on a no to a problem: what is wrong on this ring, and a pattern that never matches
 abbrev pub broken_note : List ℕ → ℕ → ℕ × ℕ × ℕ → Pattern → Option KnownProblem → Option IdlePattern → List ℕ
 broken_note ring place channels pattern known idle =
-    codes "nbhd: on the ring " ++ (joined (codes ",") ring ++ (wrong_text ring place channels pattern known ++ (codes "\n" ++ idle_text idle)))
+    codes "nbhd: on the ring "
+    ++ (joined (codes ",") ring ++ (wrong_text ring place channels pattern known ++ (codes "\n" ++ idle_text idle)))

@@ -1,5 +1,6 @@
 -- The notes on a list that is not a ring, on a place that a ring has not, and on a number of segments.
-use Rattle.std.specs.Prelude.{ℕ, ◌+◌, ◌-◌, ◌*◌, ◌==◌, ◌&&◌, nat_lt, ◌++◌, List, length, slice_index, codes, if◌then◌else◌}
+use Rattle.std.specs.Prelude.{ℕ, ◌+◌, ◌-◌, ◌*◌, ◌==◌, ◌&&◌, nat_lt, ◌++◌, List, length, slice_index}
+use Rattle.std.specs.Prelude.{codes, if◌then◌else◌}
 use Rattle.std.specs.Fmt.{decimal}
 use Rattle.node_program.specs.declared.limits.TheConstants.{MAX_THREADS}
 use Rattle.win_index.specs.declared.ring.RingFault.{RingFault}

@@ -1,5 +1,6 @@
 -- The notes on a text that is not the text of a table, and the window that a line of it is to have.
-use Rattle.std.specs.Prelude.{◌≡◌, ℕ, ◌+◌, ◌-◌, ◌*◌, ◌<◌, ◌≤◌, ◌++◌, List, ◌∷◌, length, Some, slice_get, codes, bytes_eq, if◌then◌else◌}
+use Rattle.std.specs.Prelude.{◌≡◌, ℕ, ◌+◌, ◌-◌, ◌*◌, ◌<◌, ◌≤◌, ◌++◌, List, ◌∷◌, length, Some, slice_get, codes}
+use Rattle.std.specs.Prelude.{bytes_eq, if◌then◌else◌}
 use Rattle.std.specs.Fmt.{decimal}
 use Rattle.source_places.specs.Heads.{place_head}
 use Rattle.source_places.specs.Kinds.{first_line}
@@ -49,7 +50,8 @@ pub record IsDue (text : List ℕ) (line : ℕ) (window : List ℕ) : Type 0 whe
 
 -- a line with another window than it is to have; a line that is to have none has a note of its own
 pub data IsWindowNote (text : List ℕ) (line : ℕ) (note : List ℕ) : Type 0 where
-  of_window : (window : List ℕ) → IsDue text line window → note ≡ line_note line window (doubled_text text line) → IsWindowNote text line note
+  of_window : (window : List ℕ) → IsDue text line window → note ≡ line_note line window (doubled_text text line)
+      → IsWindowNote text line note
   of_none : ((window : List ℕ) → ¬ IsDue text line window) →
       note ≡ codes "nbhd: line " ++ (decimal line ++ codes " is not the line of the window that follows there\n") →
       IsWindowNote text line note
@@ -62,7 +64,8 @@ channel_note line =
 -- the note on a fault of a table text; OutOfMemory is no fault of one
 abbrev pub IsTableNote : List ℕ → TableFault → List ℕ → Type 0
 IsTableNote input (table.Syntax offset) note =
-    (LONGEST_TABLE_TEXT < length input → note ≡ long_note) × (length input ≤ LONGEST_TABLE_TEXT → IsFormNote input offset note)
+    (LONGEST_TABLE_TEXT < length input → note ≡ long_note)
+    × (length input ≤ LONGEST_TABLE_TEXT → IsFormNote input offset note)
 IsTableNote input (table.WrongWindow line) note = IsWindowNote input line note
 IsTableNote input (table.ChannelTooLarge line) note = note ≡ channel_note line
 IsTableNote input table.OutOfMemory note = ⊥

@@ -56,7 +56,8 @@ fn first_advice(text: &[u8]) -> &'static str {
     let kind = kind_advice(text, TextKind::Table);
     let layout = layout_advice(line);
     first! {
-        line.starts_with(b"rounds ") && contains_part(line, b" ids ") => "; its first line, `nbhd-table 2` or `nbhd-table 1`, is missing";
+        line.starts_with(b"rounds ") && contains_part(line, b" ids ") =>
+            "; its first line, `nbhd-table 2` or `nbhd-table 1`, is missing";
         kind.is_some() => kind.unwrap_or("");
         is_of_window(line) => "; its first two lines are missing";
         is_table_behind && is_made_of(line, b" \t") => "; its first line is blank: take it out";
@@ -96,13 +97,15 @@ fn line_advice(text: &[u8], rest: &[u8]) -> &'static str {
     let mut numbers = line.split(|byte| !byte.is_ascii_digit());
     first! {
         is_made_of(line, b" \t") => "; the line is blank";
-        is_end && is_of_window(first_line(after_line(rest))) => "; `end` comes after the line of the last window, and lines of windows follow this one";
+        is_end && is_of_window(first_line(after_line(rest))) =>
+            "; `end` comes after the line of the last window, and lines of windows follow this one";
         is_end => "; lines are missing before it";
         line.contains(&b'#') => "; a table has no comments";
         line.ends_with(b":") || line.ends_with(b": ") => "; its channel is missing";
         matches!(line, [b'e' | b'E', b'n' | b'N', b'd' | b'D', ..]) => "; the last line is `end`";
         channel.is_empty() => WINDOW;
-        matches!(channel, [_, more @ ..] if more.contains(&b':')) => "; a line has one ` : `, between the identifiers of a window and a channel";
+        matches!(channel, [_, more @ ..] if more.contains(&b':')) =>
+            "; a line has one ` : `, between the identifiers of a window and a channel";
         window.contains(&b',') => "; numbers are parted by single blanks";
         line.contains(&b',') => "; a channel is one number, without commas";
         layout.is_some() => layout.unwrap_or("");

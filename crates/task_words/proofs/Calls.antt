@@ -1,10 +1,12 @@
 -- The command that was parsed, and the result of its request.
-use Rattle.std.proofs.Common.{◌≡◌, ◌⊎◌, List, Option, Some, None, Result, Ok, Err, Bor, false, inl, inr, refl, sym, ◌∙◌, ap, ap₂, subst, codes, Global}
+use Rattle.std.proofs.Common.{◌≡◌, ◌⊎◌, List, Option, Some, None, Result, Ok, Err, Bor, false, inl, inr, refl, sym, ◌∙◌}
+use Rattle.std.proofs.Common.{ap, ap₂, subst, codes, Global}
 use Rattle.std.specs.Prelude.{◌↔◌, Box, IfErr, IfOk, OnOk, IsErrOf, IsOk, bytes_eq, option_map}
 use Rattle.std.proofs.lemmas.Bool.Decides.{not_from_Decides}
 use Rattle.std.proofs.lemmas.Result.{IfOk-weaker}
 use Rattle.std.proofs.lemmas.Slice.Eq.{bytes_eq-Decides}
-use Rattle.clap.specs.Words.{Row, Text, first_of, found_of, rows_of, subcommand_name_of, subcommand_of, subcommand_rows, subcommand_rows_of}
+use Rattle.clap.specs.Words.{Row, Text, first_of, found_of, rows_of, subcommand_name_of, subcommand_of}
+use Rattle.clap.specs.Words.{subcommand_rows, subcommand_rows_of}
 use Rattle.clap.specs.declared.parser.matches.ArgMatches.{ArgMatches}
 use Rattle.clap.specs.declared.parser.matches.ArgMatches.TheViews.{out-ArgMatches, out-SubCommand}
 use Rattle.clap.specs.declared.parser.matches.SubCommand.{SubCommand}
@@ -15,7 +17,8 @@ use Rattle.task_words.specs.Options.{IsCallFault, IsGoodCall, IsRequestFault}
 use Rattle.task_words.specs.Formats.{HasFormat, format_of, named_format}
 use Rattle.task_words.specs.ParsedWords.{IsParsedFrom, IsRequestFrom}
 use Rattle.task_words.specs.Task.{IsFormula, IsInRange}
-use Rattle.task_words.specs.Words.{HasBadDemand, HasBadFormat, HasBadRing, IsAccepted, IsCallOf, IsCommand, IsDemandName, IsRingBad, IsRingName, IsTaskFor, IsTaskOf}
+use Rattle.task_words.specs.Words.{HasBadDemand, HasBadFormat, HasBadRing, IsAccepted, IsCallOf, IsCommand}
+use Rattle.task_words.specs.Words.{IsDemandName, IsRingBad, IsRingName, IsTaskFor, IsTaskOf}
 use Rattle.task_words.specs.WordsFault.{IsFormatRefusal, IsHelp, IsUsage, MemoryAside}
 use Rattle.task_words.specs.declared.demand_fault.DemandFault.{DemandFault}
 use Rattle.task_words.specs.declared.format.Format.{Format}
@@ -41,7 +44,8 @@ both_same a b v w names values =
 
 met : (o : Option (Bor Text × Bor ArgMatches)) (s : Option (Box SubCommand Global))
     → option_map (λ p. p.0.now) o ≡ option_map (λ b. (out-SubCommand (box_value b)).name.now) s
-    → option_map (λ p. rows_of (found_of p.1.now)) o ≡ option_map (λ p. p.1) (subcommand_rows s) → met_of o ≡ subcommand_rows s
+    → option_map (λ p. rows_of (found_of p.1.now)) o ≡ option_map (λ p. p.1) (subcommand_rows s)
+    → met_of o ≡ subcommand_rows s
 met None None name rows = refl
 met None (Some b) name rows = absurd (no_name _ name)
   where
@@ -53,7 +57,8 @@ met (Some p) None name rows = absurd (no_name _ name)
     no_name a is = cc
 met (Some p) (Some b) name rows = both_same _ _ _ _ name rows
 
-pub call_is : (words : List Text) (m : ArgMatches) (o : Option (Bor Text × Bor ArgMatches)) → option_map (λ p. p.0.now) o ≡ subcommand_name_of m
+pub call_is : (words : List Text) (m : ArgMatches) (o : Option (Bor Text × Bor ArgMatches))
+    → option_map (λ p. p.0.now) o ≡ subcommand_name_of m
     → option_map (λ p. rows_of (found_of p.1.now)) o ≡ option_map (λ p. p.1) (subcommand_rows_of m)
     → subcommand_rows_of m ≡ subcommand_of command_line words → subcommand_of command_line words ≡ met_of o
 call_is words m o name rows is = sym (met o (out-ArgMatches m).subcommand name rows ∙ is)
@@ -62,22 +67,29 @@ call_is words m o name rows is = sym (met o (out-ArgMatches m).subcommand name r
 apart : (a b : Text) → bytes_eq a b ≡ false → (name : Text) → name ≡ a → name ≡ b → ⊥
 apart a b differ name is_a is_b = not_from_Decides _ (bytes_eq-Decides a b) differ (sym is_a ∙ is_b)
 
-demands_no_ring : (ring name : Text) → bytes_eq ring (codes "judge") ≡ false → bytes_eq ring (codes "audit") ≡ false → bytes_eq ring (codes "formula") ≡ false
+demands_no_ring : (ring name : Text) → bytes_eq ring (codes "judge") ≡ false → bytes_eq ring (codes "audit") ≡ false
+    → bytes_eq ring (codes "formula") ≡ false
     → bytes_eq ring (codes "refute") ≡ false → name ≡ ring → IsDemandName name → ⊥
 demands_no_ring ring name judge audit formula refute is (inl named) = apart ring (codes "judge") judge name is named
-demands_no_ring ring name judge audit formula refute is (inr (inl named)) = apart ring (codes "audit") audit name is named
-demands_no_ring ring name judge audit formula refute is (inr (inr (inl named))) = apart ring (codes "formula") formula name is named
-demands_no_ring ring name judge audit formula refute is (inr (inr (inr named))) = apart ring (codes "refute") refute name is named
+demands_no_ring ring name judge audit formula refute is (inr (inl named)) =
+    apart ring (codes "audit") audit name is named
+demands_no_ring ring name judge audit formula refute is (inr (inr (inl named))) =
+    apart ring (codes "formula") formula name is named
+demands_no_ring ring name judge audit formula refute is (inr (inr (inr named))) =
+    apart ring (codes "refute") refute name is named
 
 pub ring_or_demand : (name : Text) → IsRingName name → IsDemandName name → ⊥
 ring_or_demand name (inl is) demand = demands_no_ring (codes "run") name refl refl refl refl is demand
 ring_or_demand name (inr (inl is)) demand = demands_no_ring (codes "trace") name refl refl refl refl is demand
 ring_or_demand name (inr (inr (inl is))) demand = demands_no_ring (codes "explain") name refl refl refl refl is demand
-ring_or_demand name (inr (inr (inr (inl is)))) demand = demands_no_ring (codes "plan") name refl refl refl refl is demand
-ring_or_demand name (inr (inr (inr (inr is)))) demand = demands_no_ring (codes "apply") name refl refl refl refl is demand
+ring_or_demand name (inr (inr (inr (inl is)))) demand =
+    demands_no_ring (codes "plan") name refl refl refl refl is demand
+ring_or_demand name (inr (inr (inr (inr is)))) demand =
+    demands_no_ring (codes "apply") name refl refl refl refl is demand
 
 -- a fault of the ring is one of the call
-pub ring_refused : (name : Text) (values : List Row) (fault : WordsFault) → IsRingName name → (fault ≡ OutOfMemory) ⊎ ((fault ≡ BadRing) × IsRingBad values)
+pub ring_refused : (name : Text) (values : List Row) (fault : WordsFault) → IsRingName name
+    → (fault ≡ OutOfMemory) ⊎ ((fault ≡ BadRing) × IsRingBad values)
     → IsCallFault name values fault
 ring_refused name values fault on_ring (inl memory) = subst (IsCallFault name values) (sym memory) tt
 ring_refused name values fault on_ring (inr (is, bad)) = subst (IsCallFault name values) (sym is) (on_ring, bad)
@@ -87,7 +99,8 @@ IsBadMet : Option (Text × List Row) → Type 0
 IsBadMet None = ⊥
 IsBadMet (Some p) = IsRingName p.0 × IsRingBad p.1
 
-bad_met : (words : List Text) (name : Text) (values : List Row) → IsCallOf words name values → HasBadRing words → IsRingName name × IsRingBad values
+bad_met : (words : List Text) (name : Text) (values : List Row) → IsCallOf words name values → HasBadRing words
+    → IsRingName name × IsRingBad values
 unfolding IsBadMet
 bad_met words name values call bad = subst IsBadMet (sym bad.3 ∙ call) (bad.4, bad.5)
 
@@ -96,7 +109,8 @@ IsIdleMet : DemandFault → Option (Text × List Row) → Type 0
 IsIdleMet cause None = ⊥
 IsIdleMet cause (Some p) = IsDemandName p.0 × (demand_fault p.1 ≡ Some cause)
 
-idle_met : (words : List Text) (name : Text) (values : List Row) (cause : DemandFault) → IsCallOf words name values → HasBadDemand words cause
+idle_met : (words : List Text) (name : Text) (values : List Row) (cause : DemandFault) → IsCallOf words name values
+    → HasBadDemand words cause
     → IsDemandName name × (demand_fault values ≡ Some cause)
 unfolding IsIdleMet
 idle_met words name values cause call bad = subst (IsIdleMet cause) (sym bad.3 ∙ call) (bad.4, bad.5)
@@ -104,7 +118,8 @@ idle_met words name values cause call bad = subst (IsIdleMet cause) (sym bad.3 �
 one_cause : (o : Option DemandFault) (a b : DemandFault) → o ≡ Some a → o ≡ Some b → a ≡ b
 one_cause o a b is_a is_b = cc
 
-same_cause : {T : Type 0} (r : Result T WordsFault) (a b : DemandFault) → r ≡ Err (BadDemand a) → r ≡ Err (BadDemand b) → a ≡ b
+same_cause : {T : Type 0} (r : Result T WordsFault) (a b : DemandFault) → r ≡ Err (BadDemand a)
+    → r ≡ Err (BadDemand b) → a ≡ b
 same_cause r a b is_a is_b = cc
 
 -- what the words say of the result of a task
@@ -115,7 +130,8 @@ pub record IsTold {T : Type 0} (r : Result T WordsFault) (words : List Text) : T
   pub no_text : IsUsage r ⊎ IsHelp r → ⊥
 
 -- the result of the task of the call that was parsed is Ok exactly if the call is good
-pub told : {T : Type 0} (r : Result T WordsFault) (words : List Text) (name : Text) (values : List Row) → IsCommand words → IsCallOf words name values
+pub told : {T : Type 0} (r : Result T WordsFault) (words : List Text) (name : Text) (values : List Row)
+    → IsCommand words → IsCallOf words name values
     → OnOk r (IsGoodCall name values) → IfErr r (IsCallFault name values) → IsTold r words
 told (Ok x) words name values clean call good refused =
     let no_ring : ¬ HasBadRing words = λ bad. good.ring (bad_met words name values call bad) in
@@ -138,7 +154,8 @@ told (Err BadRing) words name values clean call good (on_ring, ring) =
     record {
       ok = λ aside. (λ ok. cc, λ fine. absurd (fine.1 bad));
       bad_ring = λ aside. (λ is. bad, λ _. refl);
-      bad_demand = λ cause aside. (λ is. cc, λ idle. absurd (ring_or_demand name on_ring (idle_met words name values cause call idle).0));
+      bad_demand = λ cause aside.
+          (λ is. cc, λ idle. absurd (ring_or_demand name on_ring (idle_met words name values cause call idle).0));
       no_text = λ is. elim is [ inl usage ↦ let same = usage.1 in cc | inr help ↦ let same = help.1 in cc ];
     }
 told (Err (BadDemand known)) words name values clean call good (demand, fault) =
@@ -148,20 +165,24 @@ told (Err (BadDemand known)) words name values clean call good (demand, fault) =
       bad_ring = λ aside. (λ is. cc, λ ring. absurd (ring_or_demand name (bad_met words name values call ring).0 demand));
       bad_demand = λ cause aside. (
         λ is. subst (HasBadDemand words) (same_cause _ known cause refl is) bad,
-        λ idle. ap (λ c. Err (BadDemand c)) (one_cause (demand_fault values) known cause fault (idle_met words name values cause call idle).1),
+        λ idle. ap (λ c. Err (BadDemand c))
+            (one_cause (demand_fault values) known cause fault (idle_met words name values cause call idle).1),
       );
       no_text = λ is. elim is [ inl usage ↦ let same = usage.1 in cc | inr help ↦ let same = help.1 in cc ];
     }
 told (Err (Usage text)) words name values clean call good refused = absurd refused
 told (Err (Help text)) words name values clean call good refused = absurd refused
 
-task_is : (r : Result Task WordsFault) (words : List Text) (name : Text) (values : List Row) → IsCommand words → IsCallOf words name values
+task_is : (r : Result Task WordsFault) (words : List Text) (name : Text) (values : List Row) → IsCommand words
+    → IsCallOf words name values
     → IfOk r (IsTaskFor name values) → IfOk r (λ task. IsCommand words × IsTaskOf words task)
 task_is r words name values clean call is = IfOk-weaker r _ _ (λ task is. (clean, (name, values, call, is))) is
 
 -- the result of the task of the call that was parsed is that of the words
-parsed_is : (r : Result Task WordsFault) (words : List Text) (name : Text) (values : List Row) → IsCommand words → IsCallOf words name values
-    → IfOk r (IsTaskFor name values) → IfOk r IsInRange → OnOk r (IsGoodCall name values) → IfErr r (IsCallFault name values) → IsParsedFrom words r
+parsed_is : (r : Result Task WordsFault) (words : List Text) (name : Text) (values : List Row) → IsCommand words
+    → IsCallOf words name values
+    → IfOk r (IsTaskFor name values) → IfOk r IsInRange → OnOk r (IsGoodCall name values)
+    → IfErr r (IsCallFault name values) → IsParsedFrom words r
 parsed_is r words name values clean call task range good refused =
     let said = told r words name values clean call good refused in
     record {
@@ -182,11 +203,13 @@ is_known values format has none = no_form format (sym has ∙ none)
     no_form f is = cc
 
 -- a fault of the form, and one of the task where the form is known
-pub format_refused : (name : Text) (values : List Row) (fault : WordsFault) → IsFormatRefusal (format_of values) fault → IsRequestFault name values fault
+pub format_refused : (name : Text) (values : List Row) (fault : WordsFault) → IsFormatRefusal (format_of values) fault
+    → IsRequestFault name values fault
 format_refused name values fault (inl memory) = subst (IsRequestFault name values) (sym memory) tt
 format_refused name values fault (inr (text, is, none)) = subst (IsRequestFault name values) (sym is) none
 
-pub task_refused : (name : Text) (values : List Row) (format : Format) (fault : WordsFault) → HasFormat values format → IsCallFault name values fault
+pub task_refused : (name : Text) (values : List Row) (format : Format) (fault : WordsFault) → HasFormat values format
+    → IsCallFault name values fault
     → IsRequestFault name values fault
 task_refused name values format (Usage text) has refused = absurd refused
 task_refused name values format BadRing has refused = (is_known values format has, refused)
@@ -199,31 +222,39 @@ IsFormlessMet : Option (Text × List Row) → Type 0
 IsFormlessMet None = ⊥
 IsFormlessMet (Some p) = format_of p.1 ≡ None
 
-no_bad_format : (words : List Text) (name : Text) (values : List Row) → IsCallOf words name values → ¬ (format_of values ≡ None) → ¬ HasBadFormat words
+no_bad_format : (words : List Text) (name : Text) (values : List Row) → IsCallOf words name values
+    → ¬ (format_of values ≡ None) → ¬ HasBadFormat words
 unfolding IsFormlessMet
 no_bad_format words name values call known bad = known (subst IsFormlessMet (sym bad.2 ∙ call) bad.3)
 
 -- the report of a formula is in lines, since it is called without `--format`
-formula_named : (name : Text) (values : List Row) (task : Task) → IsTaskFor name values task → IsFormula task → name ≡ codes "formula"
+formula_named : (name : Text) (values : List Row) (task : Task) → IsTaskFor name values task → IsFormula task
+    → name ≡ codes "formula"
 formula_named name values (Formula ids rounds channels demand) task is = task.0
 formula_named name values _ task is = absurd is
 
-only_lines : (values : List Row) (format : Format) → HasFormat values format → first_of (codes "format") values ≡ None → format ≡ Lines
+only_lines : (values : List Row) (format : Format) → HasFormat values format → first_of (codes "format") values ≡ None
+    → format ≡ Lines
 only_lines values format has none = same_form format (sym has ∙ ap named_format none)
   where
     same_form : (f : Format) → Some f ≡ Some Lines → f ≡ Lines
     same_form f is = cc
 
 -- the result of the request of the call that was parsed is that of the words
-pub request_is : (r : Result Request WordsFault) (words : List Text) (name : Text) (values : List Row) → IsAccepted words → IsCallOf words name values
-    → (name ≡ codes "formula" → first_of (codes "format") values ≡ None) → IfOk r (λ request. IsTaskFor name values request.task) → IfOk r (λ request. IsInRange request.task)
-    → IfOk r (λ request. HasFormat values request.format) → OnOk r (IsGoodCall name values) → IfErr r (IsRequestFault name values) → IsRequestFrom words r
+pub request_is : (r : Result Request WordsFault) (words : List Text) (name : Text) (values : List Row)
+    → IsAccepted words → IsCallOf words name values
+    → (name ≡ codes "formula" → first_of (codes "format") values ≡ None)
+    → IfOk r (λ request. IsTaskFor name values request.task) → IfOk r (λ request. IsInRange request.task)
+    → IfOk r (λ request. HasFormat values request.format) → OnOk r (IsGoodCall name values)
+    → IfErr r (IsRequestFault name values) → IsRequestFrom words r
 request_is (Ok request) words name values accepted call formless task range format good refused =
-    let clean : IsCommand words = (accepted, no_bad_format words name values call (is_known values request.format format)) in
+    let clean : IsCommand words =
+    (accepted, no_bad_format words name values call (is_known values request.format format)) in
     record {
       task = parsed_is (Ok request.task) words name values clean call task range good tt;
       format = (name, values, call, format);
-      formula = λ is. only_lines values request.format format (formless (formula_named name values request.task task is));
+      formula = λ is. only_lines values request.format format
+          (formless (formula_named name values request.task task is));
     }
 request_is (Err OutOfMemory) words name values accepted call formless task range format good refused = record {
   task = record {
@@ -258,9 +289,10 @@ request_is (Err BadRing) words name values accepted call formless task range for
   format = tt;
   formula = tt;
 }
-request_is (Err (BadDemand cause)) words name values accepted call formless task range format good (known, refused) = record {
-  task = parsed_is (Err (BadDemand cause)) words name values (accepted, no_bad_format words name values call known) call task range good refused;
-  format = tt;
-  formula = tt;
-}
+request_is (Err (BadDemand cause)) words name values accepted call formless task range format good
+    (known, refused) = record {
+      task = parsed_is (Err (BadDemand cause)) words name values (accepted, no_bad_format words name values call known) call task range good refused;
+      format = tt;
+      formula = tt;
+    }
 request_is (Err (Help text)) words name values accepted call formless task range format good refused = absurd refused

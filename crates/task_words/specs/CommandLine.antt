@@ -1,5 +1,5 @@
--- The command line of the program, as `clap` reads it: one of thirteen commands, then its options in any order. Each use of
--- an option has one value.
+-- The command line of the program, as `clap` reads it: one of thirteen commands, then its options in any order.
+-- Each use of an option has one value.
 use Rattle.std.specs.Prelude.{◌≡◌, ℕ, List, [], ◌∷◌, Some, true, false, codes, pos}
 use Rattle.clap.specs.Words.{App, Rule, Shape, new_app, new_rule, shape_of}
 use Rattle.clap.specs.declared.builder.command.Command.{Command}
@@ -8,10 +8,11 @@ use Rattle.clap.specs.declared.builder.action.ArgAction.{ArgAction}
 use Rattle.clap.specs.declared.builder.action.ArgAction.TheVariants.{Set, Append}
 use Rattle.clap.specs.declared.builder.value_parser.ValueParser.{ValueParser}
 use Rattle.clap.specs.declared.builder.value_parser.ValueParser.TheVariants.{String, Signed}
-use Rattle.task_words.specs.declared.limits.TheConstants.{MAX_BASE, MAX_CHANNELS, MAX_COUNT, MAX_DISTANCE, MAX_ROUNDS, MIN_BASE}
+use Rattle.task_words.specs.declared.limits.TheConstants.{MAX_BASE, MAX_CHANNELS, MAX_COUNT, MAX_DISTANCE}
+use Rattle.task_words.specs.declared.limits.TheConstants.{MAX_ROUNDS, MIN_BASE}
 
--- The option `--NAME`. Each use has one value, which has one name in the help and is accepted by this parser. With `Set` the
--- option is given at most once; with `Append` it may be repeated.
+-- The option `--NAME`. Each use has one value, which has one name in the help and is accepted by this parser. With
+-- `Set` the option is given at most once; with `Append` it may be repeated.
 abbrev pub option_rule : List ℕ → ArgAction → ValueParser → Rule
 option_rule name action parser = record (new_rule name) {
   long = Some name;
@@ -42,7 +43,8 @@ place_rule = required_rule (codes "place") (Signed (pos 0) (pos 4294967295))
 
 -- `--base B`: a number from MIN_BASE to MAX_BASE, 10 by default
 abbrev pub base_rule : Rule
-base_rule = record (option_rule (codes "base") Set (Signed (pos MIN_BASE) (pos MAX_BASE))) { defaults = codes "10" ∷ [] }
+base_rule = record (option_rule (codes "base") Set (Signed (pos MIN_BASE) (pos MAX_BASE)))
+    { defaults = codes "10" ∷ [] }
 
 -- `--workers W`
 abbrev pub workers_rule : Rule
@@ -102,7 +104,8 @@ table_command = command_of (codes "table") (ids_rule ∷ workers_rule ∷ near_r
 
 -- `judge --ids M [--workers W] [--near P] [--far Q] [--forbid A,B,C].. [--problem NAME] [--format FORMAT]`
 abbrev pub judge_command : Shape
-judge_command = command_of (codes "judge") (ids_rule ∷ workers_rule ∷ near_rule ∷ far_rule ∷ forbid_rule ∷ problem_rule ∷ format_rule ∷ [])
+judge_command = command_of (codes "judge") (ids_rule ∷ workers_rule ∷ near_rule ∷ far_rule ∷ forbid_rule ∷ problem_rule
+    ∷ format_rule ∷ [])
 
 -- `run --ids M --ring A,B,.. [--segments S] [--format FORMAT]`
 abbrev pub run_command : Shape
@@ -135,12 +138,14 @@ migrate_command = command_of (codes "migrate") (format_rule ∷ [])
 -- `formula --ids M --rounds T --channels C [--near P] [--far Q] [--forbid A,B,C].. [--problem NAME]`
 abbrev pub formula_command : Shape
 formula_command =
-    command_of (codes "formula") (ids_rule ∷ rounds_rule ∷ channels_rule ∷ near_rule ∷ far_rule ∷ forbid_rule ∷ problem_rule ∷ [])
+    command_of (codes "formula") (ids_rule ∷ rounds_rule ∷ channels_rule ∷ near_rule ∷ far_rule ∷ forbid_rule
+    ∷ problem_rule ∷ [])
 
 -- `refute --ids M --rounds T --channels C [--near P] [--far Q] [--forbid A,B,C].. [--problem NAME] [--format FORMAT]`
 abbrev pub refute_command : Shape
 refute_command =
-    command_of (codes "refute") (ids_rule ∷ rounds_rule ∷ channels_rule ∷ near_rule ∷ far_rule ∷ forbid_rule ∷ problem_rule ∷ format_rule ∷ [])
+    command_of (codes "refute") (ids_rule ∷ rounds_rule ∷ channels_rule ∷ near_rule ∷ far_rule ∷ forbid_rule
+    ∷ problem_rule ∷ format_rule ∷ [])
 
 -- the program without its commands: the words are those after its name, and a command is required
 abbrev pub program : App
@@ -154,6 +159,7 @@ abbrev pub command_line : App
 command_line = record {
   top = record program.top { is_leaf = false };
   subs =
-      check_command ∷ print_command ∷ table_command ∷ judge_command ∷ run_command ∷ trace_command ∷ explain_command ∷ plan_command ∷ audit_command
+      check_command ∷ print_command ∷ table_command ∷ judge_command ∷ run_command ∷ trace_command ∷ explain_command
+      ∷ plan_command ∷ audit_command
       ∷ apply_command ∷ migrate_command ∷ formula_command ∷ refute_command ∷ [];
 }

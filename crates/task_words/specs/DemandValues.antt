@@ -1,5 +1,6 @@
 -- What the values of options demand of channels, and why they are no demand.
-use Rattle.std.specs.Prelude.{◌≡◌, ◌<◌, ◌&&◌, ◌||◌, Bool, true, false, Option, Some, None, List, [], ◌∷◌, length, map, find, is_some, unwrap_or, option_map, nat_lt, codes, bytes_eq, All, if◌then◌else◌}
+use Rattle.std.specs.Prelude.{◌≡◌, ◌<◌, ◌&&◌, ◌||◌, Bool, true, false, Option, Some, None, List, [], ◌∷◌, length, map}
+use Rattle.std.specs.Prelude.{find, is_some, unwrap_or, option_map, nat_lt, codes, bytes_eq, All, if◌then◌else◌}
 use Rattle.std.specs.Option.{option_and_then, option_or}
 use Rattle.clap.specs.Words.{Row, Text, all_of, first_of}
 use Rattle.clap.specs.declared.parser.matches.ValueSource.{ValueSource}
@@ -11,7 +12,8 @@ use Rattle.ring_problems.specs.declared.problem.Problem.{Problem}
 use Rattle.ring_problems.specs.declared.problem.Problem.TheVariants.{Known, Listed}
 use Rattle.task_words.specs.PatternText.{IsPatternText, pattern_fault, pattern_in}
 use Rattle.task_words.specs.declared.demand_fault.DemandFault.{DemandFault}
-use Rattle.task_words.specs.declared.demand_fault.DemandFault.TheVariants.{TwoDemands, UnknownProblem, ManyPatterns, BadPattern}
+use Rattle.task_words.specs.declared.demand_fault.DemandFault.TheVariants.{TwoDemands, UnknownProblem}
+use Rattle.task_words.specs.declared.demand_fault.DemandFault.TheVariants.{ManyPatterns, BadPattern}
 use Rattle.task_words.specs.declared.demand_fault.PatternFault.{PatternFault}
 use Rattle.task_words.specs.declared.limits.TheConstants.{MAX_PATTERNS}
 
@@ -41,7 +43,8 @@ pub record ArePatternsOf (texts : List Text) (patterns : List Pattern) : Type 0 
 -- the values ask for this problem: by its name, or by its patterns
 abbrev pub IsProblemFor : List Row → Problem → Type 0
 IsProblemFor values (Known known) = option_and_then known_problem (problem_name values) ≡ Some known
-IsProblemFor values (Listed patterns) = (0 < length (forbidden_texts values)) × ArePatternsOf (forbidden_texts values) patterns.items
+IsProblemFor values (Listed patterns) =
+    (0 < length (forbidden_texts values)) × ArePatternsOf (forbidden_texts values) patterns.items
 
 -- the values ask for no problem: there is neither `--forbid` nor `--problem`
 pub record HasNoProblem (values : List Row) : Type 0 where
@@ -77,7 +80,8 @@ has_separation values = is_in_words (codes "near") values || is_in_words (codes 
 
 -- whether the words give two demands
 abbrev pub has_two_demands : List Row → Bool
-has_two_demands values = are_two (nat_lt 0 (length (forbidden_texts values))) (is_some (problem_name values)) (has_separation values)
+has_two_demands values =
+    are_two (nat_lt 0 (length (forbidden_texts values))) (is_some (problem_name values)) (has_separation values)
 
 -- the value of `--problem` is not the name of a problem
 abbrev pub name_fault : Option Text → Option DemandFault
@@ -91,7 +95,8 @@ texts_fault (text ∷ texts) = option_or (pattern_fault text) (texts_fault texts
 
 -- why the texts are not at most MAX_PATTERNS pattern texts
 abbrev pub patterns_fault : List Text → Option DemandFault
-patterns_fault texts = if nat_lt MAX_PATTERNS (length texts) then Some ManyPatterns else option_map BadPattern (texts_fault texts)
+patterns_fault texts = if nat_lt MAX_PATTERNS (length texts) then Some ManyPatterns
+    else option_map BadPattern (texts_fault texts)
 
 -- why the values are no demand, if they are none: two are given, the name is unknown, or the patterns are not at most
 -- MAX_PATTERNS pattern texts

@@ -25,7 +25,7 @@ named_format (Some name) = known_format name
 abbrev pub format_of : List Row → Option Format
 format_of values = named_format (first_of (codes "format") values)
 
--- The values ask for this form: JSON exactly if the value of `--format` is `json`; lines if it is `lines`, or if there is none,
--- as for a command without that option.
+-- The values ask for this form: JSON exactly if the value of `--format` is `json`; lines if it is `lines`, or if
+-- there is none, as for a command without that option.
 abbrev pub HasFormat : List Row → Format → Type 0
 HasFormat values format = format_of values ≡ Some format

@@ -1,6 +1,7 @@
--- The definitions that the contracts cite: numbers, ring texts and pattern texts, numbers of workers and segments, tasks, the
--- command line, the values of its options, the form of the report and what is demanded, the tasks of words, faults of words,
--- the commands and the rows of the tables, words that were probably meant, and what the process gets.
+-- The definitions that the contracts cite: numbers, ring texts and pattern texts, numbers of workers and segments,
+-- tasks, the command line, the values of its options, the form of the report and what is demanded, the tasks of
+-- words, faults of words, the commands and the rows of the tables, words that were probably meant, and what the
+-- process gets.
 pub mod Decimal
 pub mod RingText
 pub mod PatternText

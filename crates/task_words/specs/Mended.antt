@@ -6,8 +6,8 @@ use Rattle.task_words.specs.CommandLine.{command_line}
 use Rattle.task_words.specs.Words.{HasBadDemand, HasBadRing, IsCommand}
 use Rattle.task_words.specs.declared.demand_fault.DemandFault.{DemandFault}
 
--- the words request a task: they are a command, whose ring text, if it takes one, is one, and whose options are a demand, if it
--- demands something
+-- the words request a task: they are a command, whose ring text, if it takes one, is one, and whose options are a
+-- demand, if it demands something
 pub record IsRequest (words : List Text) : Type 0 where
   pub command : IsCommand words
   pub ring : ¬ HasBadRing words

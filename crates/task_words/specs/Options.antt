@@ -1,6 +1,7 @@
--- The options of the command that is called, and the results of a parse that `clap` accepts or refuses. No public contract
--- cites this file.
-use Rattle.std.specs.Prelude.{◌≡◌, ◌≢◌, ◌⊎◌, ◌≤◌, ◌^◌, ◌==◌, ◌&&◌, ℕ, Bool, Some, None, List, [], ◌∷◌, ⊤, false, nat_lt, codes, pos, if◌then◌else◌}
+-- The options of the command that is called, and the results of a parse that `clap` accepts or refuses. No public
+-- contract cites this file.
+use Rattle.std.specs.Prelude.{◌≡◌, ◌≢◌, ◌⊎◌, ◌≤◌, ◌^◌, ◌==◌, ◌&&◌, ℕ, Bool, Some, None, List, [], ◌∷◌, ⊤, false, nat_lt}
+use Rattle.std.specs.Prelude.{codes, pos, if◌then◌else◌}
 use Rattle.std.specs.List.{list_any}
 use Rattle.std.specs.Str.{bytes_eq}
 use Rattle.clap.specs.Facts.{parser_of_value}
@@ -29,16 +30,16 @@ values_of call = rows_of (found_of call.options.now)
 pub record IsCall (call : Call) : Type 0 where
   pub one : IsOneOf command_line.subs call.name.now (values_of call)
 
--- why the command of this name with these values has no task, unless memory was refused: it takes a ring, but the value of
--- `--ring` is not a ring text, or it demands something, but its options are no demand, for this cause
+-- why the command of this name with these values has no task, unless memory was refused: it takes a ring, but the
+-- value of `--ring` is not a ring text, or it demands something, but its options are no demand, for this cause
 abbrev pub IsCallFault : Text → List Row → WordsFault → Type 0
 IsCallFault name values BadRing = IsRingName name × IsRingBad values
 IsCallFault name values (BadDemand cause) = IsDemandName name × (demand_fault values ≡ Some cause)
 IsCallFault name values OutOfMemory = ⊤
 IsCallFault name values _ = ⊥
 
--- why the command of this name with these values has no request, unless memory was refused: the value of `--format` is neither
--- `lines` nor `json`, or it is fine, but there is no task
+-- why the command of this name with these values has no request, unless memory was refused: the value of `--format`
+-- is neither `lines` nor `json`, or it is fine, but there is no task
 abbrev pub IsRequestFault : Text → List Row → WordsFault → Type 0
 IsRequestFault name values (Usage text) = format_of values ≡ None
 IsRequestFault name values BadRing = (¬ (format_of values ≡ None)) × IsCallFault name values BadRing
@@ -62,12 +63,14 @@ IsBetween (values.Numbers low high) number = (low ≤ number) × (number ≤ hig
 
 -- whether a parser accepts the numbers that an option takes, which have 32 bits
 abbrev pub is_parser_of : Values → ValueParser → Bool
-is_parser_of (values.Numbers low high) (Signed (pos first) (pos last)) = (low == first) && ((high == last) && nat_lt high (2 ^ 32))
+is_parser_of (values.Numbers low high) (Signed (pos first) (pos last)) =
+    (low == first) && ((high == last) && nat_lt high (2 ^ 32))
 is_parser_of _ _ = false
 
 -- whether a rule is the option of this row, which takes numbers, and has a value in each call
 abbrev pub is_rule_of : OptionRow → Rule → Bool
-is_rule_of row rule = bytes_eq rule.id row.name.now && (is_parser_of row.values (parser_of_value rule.parser) && is_always_given rule)
+is_rule_of row rule = bytes_eq rule.id row.name.now
+    && (is_parser_of row.values (parser_of_value rule.parser) && is_always_given rule)
 
 -- the names of the commands with an option that passes a test
 abbrev pub names_with : (Rule → Bool) → List Shape → List Text

@@ -1,5 +1,6 @@
 -- The requests or faults that the words of the process are parsed to, and the tips on them.
-use Rattle.std.specs.Prelude.{◌≡◌, ◌↔◌, ◌⊎◌, Option, Some, None, List, Result, Ok, Err, String, IfOk, IfSome, IfNone, IsOk, IsErrOf, MatchOption, string_bytes}
+use Rattle.std.specs.Prelude.{◌≡◌, ◌↔◌, ◌⊎◌, Option, Some, None, List, Result, Ok, Err, String, IfOk, IfSome, IfNone}
+use Rattle.std.specs.Prelude.{IsOk, IsErrOf, MatchOption, string_bytes}
 use Rattle.std.specs.Option.{option_map}
 use Rattle.std.specs.declared.alloc.Global.{Global}
 use Rattle.clap.specs.Words.{Text}
@@ -22,9 +23,11 @@ use Rattle.task_words.specs.declared.words.WordsFault.TheVariants.{Usage, BadRin
 pub record IsParsedFrom (words : List Text) (result : Result Task WordsFault) : Type 0 where
   pub task : IfOk result (λ task. IsCommand words × IsTaskOf words task)
   pub range : IfOk result IsInRange
-  pub ok : MemoryAside result (IsOk result ↔ (IsCommand words × (¬ HasBadRing words) × ((cause : DemandFault) → ¬ HasBadDemand words cause)))
+  pub ok : MemoryAside result (IsOk result
+      ↔ (IsCommand words × (¬ HasBadRing words) × ((cause : DemandFault) → ¬ HasBadDemand words cause)))
   pub bad_ring : MemoryAside result (IsErrOf result BadRing ↔ HasBadRing words)
-  pub bad_demand : (cause : DemandFault) → MemoryAside result (IsErrOf result (BadDemand cause) ↔ HasBadDemand words cause)
+  pub bad_demand : (cause : DemandFault)
+      → MemoryAside result (IsErrOf result (BadDemand cause) ↔ HasBadDemand words cause)
   pub usage : IsUsage result → IsRefused words
   pub help : IsHelp result → AsksForHelp words
 
@@ -33,8 +36,8 @@ abbrev pub task_in : Result Request WordsFault → Result Task WordsFault
 task_in (Ok request) = Ok request.task
 task_in (Err fault) = Err fault
 
--- What `request_of` returns for these words: a request with their task and the form of its report, which for a formula is
--- lines, or the fault for which they have no task.
+-- What `request_of` returns for these words: a request with their task and the form of its report, which for a
+-- formula is lines, or the fault for which they have no task.
 pub record IsRequestFrom (words : List Text) (result : Result Request WordsFault) : Type 0 where
   pub task : IsParsedFrom words (task_in result)
   pub format : IfOk result (λ request. IsFormatOf words request.format)
@@ -46,13 +49,15 @@ IsUnread fault = IsNotUtf8 fault ⊎ (fault ≡ OutOfMemory)
 
 -- the result is that of `request_of` for some words, or the words of the process were not read
 abbrev pub IsParsed : Result Request WordsFault → Type 0
-IsParsed result = ((words : List Text) × IsRequestFrom words result) ⊎ ((fault : WordsFault) × (result ≡ Err fault) × IsUnread fault)
+IsParsed result = ((words : List Text) × IsRequestFrom words result)
+    ⊎ ((fault : WordsFault) × (result ≡ Err fault) × IsUnread fault)
 
--- The line on the cause of the fault of words that are a command: on a bad ring text that on the text; on a bad pattern text
--- that on the first one; on other options that are no demand that on the cause; on other faults none.
+-- The line on the cause of the fault of words that are a command: on a bad ring text that on the text; on a bad
+-- pattern text that on the first one; on other options that are no demand that on the cause; on other faults none.
 abbrev pub IsCauseLine : List Text → WordsFault → Option (String Global) → Type 0
 IsCauseLine words BadRing line =
-    MatchOption (ring_word words) (line ≡ None) (λ text. IfSome line (λ line. IsRingTip text (string_bytes line)) × IfNone line (IsRingText text))
+    MatchOption (ring_word words) (line ≡ None)
+    (λ text. IfSome line (λ line. IsRingTip text (string_bytes line)) × IfNone line (IsRingText text))
 IsCauseLine words (BadDemand (BadPattern cause)) line = option_map string_bytes line ≡ pattern_tip words
 IsCauseLine words (BadDemand cause) line = option_map string_bytes line ≡ Some (demand_line cause)
 IsCauseLine words _ line = line ≡ None

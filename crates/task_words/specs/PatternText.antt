@@ -1,5 +1,6 @@
 -- Pattern texts: a pattern of channels in one word, and why a text is none.
-use Rattle.std.specs.Prelude.{◌≡◌, ◌⊎◌, ◌≤◌, ◌^◌, ◌==◌, ◌&&◌, ℕ, Bool, not, Option, Some, None, List, [], length, slice_get, nat_lt, codes, bytes_eq, All, if◌then◌else◌}
+use Rattle.std.specs.Prelude.{◌≡◌, ◌⊎◌, ◌≤◌, ◌^◌, ◌==◌, ◌&&◌, ℕ, Bool, not, Option, Some, None, List, [], length}
+use Rattle.std.specs.Prelude.{slice_get, nat_lt, codes, bytes_eq, All, if◌then◌else◌}
 use Rattle.std.specs.Char.{is_ascii_digit}
 use Rattle.std.specs.List.{list_all, list_any}
 use Rattle.std.specs.Option.{option_and_then, option_map_or, option_or}
@@ -10,7 +11,8 @@ use Rattle.ring_problems.specs.declared.pattern.Pattern.{Pattern}
 use Rattle.task_words.specs.Decimal.{IsNumber, number_in}
 use Rattle.task_words.specs.RingText.{parts_of}
 use Rattle.task_words.specs.declared.demand_fault.PatternFault.{PatternFault}
-use Rattle.task_words.specs.declared.demand_fault.PatternFault.TheVariants.{NoEntry, Blank, ManyEntries, NoChannel, LargeChannel}
+use Rattle.task_words.specs.declared.demand_fault.PatternFault.TheVariants.{NoEntry, Blank, ManyEntries}
+use Rattle.task_words.specs.declared.demand_fault.PatternFault.TheVariants.{NoChannel, LargeChannel}
 
 -- an entry: `*`, or a number
 abbrev pub IsEntry : List ℕ → Type 0

@@ -5,9 +5,11 @@ use Rattle.source_places.specs.Shown.{escaped_bytes}
 use Rattle.task_words.specs.OptionWords.{option_value}
 use Rattle.task_words.specs.PatternText.{pattern_fault}
 use Rattle.task_words.specs.declared.demand_fault.DemandFault.{DemandFault}
-use Rattle.task_words.specs.declared.demand_fault.DemandFault.TheVariants.{TwoDemands, UnknownProblem, ManyPatterns, BadPattern}
+use Rattle.task_words.specs.declared.demand_fault.DemandFault.TheVariants.{TwoDemands, UnknownProblem}
+use Rattle.task_words.specs.declared.demand_fault.DemandFault.TheVariants.{ManyPatterns, BadPattern}
 use Rattle.task_words.specs.declared.demand_fault.PatternFault.{PatternFault}
-use Rattle.task_words.specs.declared.demand_fault.PatternFault.TheVariants.{ManyEntries, NoEntry, Blank, NoChannel, LargeChannel}
+use Rattle.task_words.specs.declared.demand_fault.PatternFault.TheVariants.{ManyEntries, NoEntry, Blank}
+use Rattle.task_words.specs.declared.demand_fault.PatternFault.TheVariants.{NoChannel, LargeChannel}
 
 -- what is wrong with a text that is no pattern text
 abbrev pub fault_text : PatternFault → List ℕ
@@ -46,4 +48,5 @@ demand_line TwoDemands =
 demand_line UnknownProblem =
     codes "nbhd: `--problem` takes mis, matching or weak2; another problem is given by its patterns, as in `--forbid 1,1`"
 demand_line ManyPatterns = codes "nbhd: `--forbid` is given at most 256 times"
-demand_line (BadPattern cause) = codes "nbhd: a pattern is one to three channels, or `*` for any, with single commas, as 1,1 or '0,*,0'"
+demand_line (BadPattern cause) =
+    codes "nbhd: a pattern is one to three channels, or `*` for any, with single commas, as 1,1 or '0,*,0'"

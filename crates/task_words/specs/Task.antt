@@ -29,8 +29,9 @@ abbrev pub IsDemandInRange : Demand → Type 0
 IsDemandInRange (Apart separation) = IsNear separation.near × IsFar separation.far
 IsDemandInRange (Solve problem) = HasFewPatterns problem
 
--- A task that can be done: its number of workers, what it demands of channels and the numbers of a formula, if it has any,
--- are in their ranges. A run in any number of segments can be done, since its report covers a number out of range.
+-- A task that can be done: its number of workers, what it demands of channels and the numbers of a formula, if it
+-- has any, are in their ranges. A run in any number of segments can be done, since its report covers a number out
+-- of range.
 abbrev pub IsRunnable : Task → Type 0
 IsRunnable (Table ids workers near far) = IsCount workers × IsNear near × IsFar far
 IsRunnable (Judge ids workers demand) = IsCount workers × IsDemandInRange demand

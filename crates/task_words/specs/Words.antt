@@ -16,7 +16,8 @@ use Rattle.task_words.specs.RingText.{IsRingText, ring_in}
 use Rattle.task_words.specs.declared.demand_fault.DemandFault.{DemandFault}
 use Rattle.task_words.specs.declared.format.Format.{Format}
 use Rattle.task_words.specs.declared.task.Task.{Task}
-use Rattle.task_words.specs.declared.task.Task.TheVariants.{Check, Print, Table, Judge, Run, Trace, Explain, Plan, Audit, Apply, Migrate, Formula, Refute}
+use Rattle.task_words.specs.declared.task.Task.TheVariants.{Check, Print, Table, Judge, Run, Trace, Explain, Plan}
+use Rattle.task_words.specs.declared.task.Task.TheVariants.{Audit, Apply, Migrate, Formula, Refute}
 
 -- `clap` accepts the words: they have no fault of any kind
 abbrev pub IsAccepted : List Text → Type 0
@@ -28,7 +29,8 @@ AsksForHelp words = IsAmong kind.DisplayHelp (fault_of command_line words)
 
 -- `clap` refuses the words, for another cause than a request for help or refused memory
 abbrev pub IsMisused : List Text → Type 0
-IsMisused words = (fault : ErrorKind) × IsAmong fault (fault_of command_line words) × (fault ≢ kind.DisplayHelp) × (fault ≢ kind.OutOfMemory)
+IsMisused words = (fault : ErrorKind) × IsAmong fault (fault_of command_line words) × (fault ≢ kind.DisplayHelp)
+    × (fault ≢ kind.OutOfMemory)
 
 -- the words are a call of the command of this name, and these are the values of its options
 abbrev pub IsCallOf : List Text → Text → List Row → Type 0
@@ -42,8 +44,8 @@ HasBadFormat words = (name : Text) × (values : List Row) × IsCallOf words name
 abbrev pub IsCommand : List Text → Type 0
 IsCommand words = IsAccepted words × ¬ HasBadFormat words
 
--- the words are no command and do not ask for help: `clap` refuses them, or it accepts them, but the value of `--format` is
--- neither `lines` nor `json`
+-- the words are no command and do not ask for help: `clap` refuses them, or it accepts them, but the value of
+-- `--format` is neither `lines` nor `json`
 abbrev pub IsRefused : List Text → Type 0
 IsRefused words = IsMisused words ⊎ (IsAccepted words × HasBadFormat words)
 
@@ -55,7 +57,8 @@ HasNumber values option number = (text : Text) × (one_of option values ≡ Some
 
 -- the value of `--ring` is a ring text, and these are its numbers
 abbrev pub HasRing : List Row → List ℕ → Type 0
-HasRing values ring = (text : Text) × (first_of (codes "ring") values ≡ Some text) × IsRingText text × (ring ≡ ring_in text)
+HasRing values ring = (text : Text) × (first_of (codes "ring") values ≡ Some text) × IsRingText text
+    × (ring ≡ ring_in text)
 
 -- the value of `--base` is this base
 abbrev pub HasBase : List Row → Base → Type 0
@@ -73,7 +76,8 @@ IsRingBad values = (text : Text) × (first_of (codes "ring") values ≡ Some tex
 
 -- the words are a command with a ring, but the value of `--ring` is not a ring text
 abbrev pub HasBadRing : List Text → Type 0
-HasBadRing words = IsCommand words × (name : Text) × (values : List Row) × IsCallOf words name values × IsRingName name × IsRingBad values
+HasBadRing words = IsCommand words × (name : Text) × (values : List Row) × IsCallOf words name values × IsRingName name
+    × IsRingBad values
 
 -- the commands that demand something of channels
 abbrev pub IsDemandName : Text → Type 0
@@ -82,7 +86,8 @@ IsDemandName name = (name ≡ codes "judge") ⊎ (name ≡ codes "audit") ⊎ (n
 -- the words are a command that demands something, but the values of its options are no demand, for this cause
 abbrev pub HasBadDemand : List Text → DemandFault → Type 0
 HasBadDemand words cause =
-    IsCommand words × (name : Text) × (values : List Row) × IsCallOf words name values × IsDemandName name × (demand_fault values ≡ Some cause)
+    IsCommand words × (name : Text) × (values : List Row) × IsCallOf words name values × IsDemandName name
+    × (demand_fault values ≡ Some cause)
 
 -- the values of the options of a formula are these numbers
 pub record HasFormulaNumbers (values : List Row) (ids rounds channels : ℕ) : Type 0 where
@@ -93,7 +98,8 @@ pub record HasFormulaNumbers (values : List Row) (ids rounds channels : ℕ) : T
 -- the values of the options demand this: a problem, or without one that channels differ by near and far
 abbrev pub IsDemandFor : List Row → Demand → Type 0
 IsDemandFor values (Apart separation) =
-    HasNoProblem values × HasNumber values (codes "near") separation.near × HasNumber values (codes "far") separation.far
+    HasNoProblem values × HasNumber values (codes "near") separation.near
+    × HasNumber values (codes "far") separation.far
 IsDemandFor values (Solve problem) = IsProblemFor values problem
 
 -- the task of the command with this name and these values of its options
@@ -104,7 +110,8 @@ IsTaskFor name values (Table ids workers near far) =
     (name ≡ codes "table") × HasNumber values (codes "ids") ids × HasNumber values (codes "workers") workers
     × HasNumber values (codes "near") near × HasNumber values (codes "far") far
 IsTaskFor name values (Judge ids workers demand) =
-    (name ≡ codes "judge") × HasNumber values (codes "ids") ids × HasNumber values (codes "workers") workers × IsDemandFor values demand
+    (name ≡ codes "judge") × HasNumber values (codes "ids") ids × HasNumber values (codes "workers") workers
+    × IsDemandFor values demand
 IsTaskFor name values (Run ids ring segments) = (name ≡ codes "run") × HasNumber values (codes "ids") ids
     × HasRing values ring.items × HasNumber values (codes "segments") segments
 IsTaskFor name values (Trace ids ring base) = (name ≡ codes "trace") × HasNumber values (codes "ids") ids

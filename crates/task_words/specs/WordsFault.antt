@@ -1,5 +1,6 @@
 -- Faults of words, and the exit status after them.
-use Rattle.std.specs.Prelude.{◌≡◌, ◌⊎◌, ℕ, List, Option, Some, None, Result, Err, IfErr, String, codes, option_map, string_bytes}
+use Rattle.std.specs.Prelude.{◌≡◌, ◌⊎◌, ℕ, List, Option, Some, None, Result, Err, IfErr, String, codes}
+use Rattle.std.specs.Prelude.{option_map, string_bytes}
 use Rattle.std.specs.declared.alloc.Global.{Global}
 use Rattle.task_words.specs.Formats.{format_text}
 use Rattle.task_words.specs.declared.demand_fault.DemandFault.{DemandFault}
@@ -19,7 +20,8 @@ FailsBy result cause = IfErr result (λ fault. (fault ≡ OutOfMemory) ⊎ ((fau
 
 -- the fault is OutOfMemory, or BadDemand, for this cause
 abbrev pub IsDemandRefusal : Option DemandFault → WordsFault → Type 0
-IsDemandRefusal cause fault = (fault ≡ OutOfMemory) ⊎ ((known : DemandFault) × (fault ≡ BadDemand known) × (cause ≡ Some known))
+IsDemandRefusal cause fault =
+    (fault ≡ OutOfMemory) ⊎ ((known : DemandFault) × (fault ≡ BadDemand known) × (cause ≡ Some known))
 
 -- the fault is OutOfMemory, or says that a text is no pattern text, for this cause
 abbrev pub IsPatternRefusal : Option PatternFault → WordsFault → Type 0
@@ -31,7 +33,8 @@ IsFormatRefusal format fault = (fault ≡ OutOfMemory) ⊎ ((text : String Globa
 
 -- the fault is OutOfMemory, or Usage with the text on this value of `--format`
 abbrev pub IsUnknownFormat : List ℕ → WordsFault → Type 0
-IsUnknownFormat name fault = (fault ≡ OutOfMemory) ⊎ ((text : String Global) × (fault ≡ Usage text) × (string_bytes text ≡ format_text name))
+IsUnknownFormat name fault =
+    (fault ≡ OutOfMemory) ⊎ ((text : String Global) × (fault ≡ Usage text) × (string_bytes text ≡ format_text name))
 
 -- the result is a fault of usage
 abbrev pub IsUsage : {T : Type 0} → Result T WordsFault → Type 0
@@ -43,7 +46,8 @@ IsHelp result = (text : String Global) × (result ≡ Err (Help text))
 
 -- the fault says that a word is not UTF-8
 abbrev pub IsNotUtf8 : WordsFault → Type 0
-IsNotUtf8 fault = (text : String Global) × (fault ≡ Usage text) × (string_bytes text ≡ codes "nbhd: words are not UTF-8\n")
+IsNotUtf8 fault = (text : String Global) × (fault ≡ Usage text)
+    × (string_bytes text ≡ codes "nbhd: words are not UTF-8\n")
 
 -- the exit status for each fault of the words
 abbrev pub words_fault_code : WordsFault → ℕ

@@ -4,7 +4,8 @@ ghost use Rattle.std.specs.Prelude.{◌≡◌, IfOk, false, map};
 ghost use Rattle.clap.specs.Words.{app_of, new_app, rule_of};
 ghost use Rattle.clap.specs.declared.builder.command.Command.TheViews.{out-Command};
 ghost use Rattle.task_words.specs.CommandLine.{IsCommandOf, command_line, program};
-ghost use Rattle.task_words.specs.Rows.{AreCommandsOf, AreOptionsOf, action_in, command_in, parser_in, rule_in, with_commands};
+ghost use Rattle.task_words.specs.Rows.{AreCommandsOf, AreOptionsOf, action_in, command_in, parser_in};
+ghost use Rattle.task_words.specs.Rows.{rule_in, with_commands};
 
 use crate::commands::{COMMANDS, CommandRow};
 use crate::help;

@@ -3,7 +3,9 @@
 ghost use Rattle.std.specs.Prelude.{◌≡◌, ◌≤◌, None, is_some, length, map, IfOk, IfErr, OnOk, IfSome, nat_lt};
 ghost use Rattle.std.specs.Option.{option_and_then};
 ghost use Rattle.clap.specs.Words.{found_of, rows_of};
-ghost use Rattle.task_words.specs.DemandValues.{ArePatternsOf, IsProblemIn, demand_fault, forbidden_texts, has_two_demands, is_from_words, is_in_words, known_problem, name_fault, patterns_fault, problem_name, texts_fault};
+ghost use Rattle.task_words.specs.DemandValues.{ArePatternsOf, IsProblemIn, demand_fault, forbidden_texts};
+ghost use Rattle.task_words.specs.DemandValues.{has_two_demands, is_from_words, is_in_words, known_problem, name_fault};
+ghost use Rattle.task_words.specs.DemandValues.{patterns_fault, problem_name, texts_fault};
 ghost use Rattle.task_words.specs.Task.{HasFewPatterns};
 ghost use Rattle.task_words.specs.WordsFault.{IsDemandRefusal, IsPatternRefusal};
 ghost use Rattle.task_words.specs.declared.limits.TheConstants.{MAX_PATTERNS};
@@ -85,10 +87,12 @@ fn has_patterns(options: &ArgMatches) -> bool
 // Returns the patterns of `--forbid`. Fails with `BadDemand` if they are too many, or if a value is not a
 // pattern text.
 fn patterns_given(alloc: Global, options: &ArgMatches) -> Result<Vec<Pattern>, WordsFault>
-    ensures patterns { IfOk result (λ patterns. ArePatternsOf (forbidden_texts (rows_of (found_of options.now))) patterns.items) }
+    ensures patterns { IfOk result
+        (λ patterns. ArePatternsOf (forbidden_texts (rows_of (found_of options.now))) patterns.items) }
     ensures few { IfOk result (λ patterns. length patterns.items ≤ MAX_PATTERNS) }
     ensures good { OnOk result (patterns_fault (forbidden_texts (rows_of (found_of options.now))) ≡ None) }
-    ensures refused { IfErr result (IsDemandRefusal (patterns_fault (forbidden_texts (rows_of (found_of options.now))))) }
+    ensures refused { IfErr result
+        (IsDemandRefusal (patterns_fault (forbidden_texts (rows_of (found_of options.now))))) }
 {
     match options.get_strs(FORBID.name) {
         Some(texts) => patterns_of(alloc, texts),
@@ -99,7 +103,8 @@ fn patterns_given(alloc: Global, options: &ArgMatches) -> Result<Vec<Pattern>, W
 // Returns the problem of `--problem`, or `None` if it is not given. Fails with `BadDemand` if its value is
 // not the name of a problem.
 fn problem_named(options: &ArgMatches) -> Result<Option<KnownProblem>, WordsFault>
-    ensures known { IfOk result (λ known. known ≡ option_and_then known_problem (problem_name (rows_of (found_of options.now)))) }
+    ensures known { IfOk result
+        (λ known. known ≡ option_and_then known_problem (problem_name (rows_of (found_of options.now)))) }
     ensures good { OnOk result (name_fault (problem_name (rows_of (found_of options.now))) ≡ None) }
     ensures refused { IfErr result (IsDemandRefusal (name_fault (problem_name (rows_of (found_of options.now))))) }
 {

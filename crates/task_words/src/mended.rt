@@ -18,7 +18,8 @@ use std::fmt::Write;
 /// Returns corrected words in place of refused ones, or `None` if none are found: words that request a
 /// task, of the same command where the first word is the name of one. Fails if memory was refused.
 pub fn mended_words(alloc: Global, words: &[String]) -> Result<Option<Vec<String>>, AllocError>
-    ensures { IfOk result (λ found. IfSome found (λ mended. IsMended (map string_bytes words.now) (map string_bytes mended.items))) }
+    ensures { IfOk result (λ found. IfSome found
+        (λ mended. IsMended (map string_bytes words.now) (map string_bytes mended.items))) }
 {
     let Some(mended) = meant_words(alloc, words)? else {
         return Ok(None);

@@ -40,41 +40,46 @@ macro_rules! option {
     };
 }
 
-pub(crate) const IDS: OptionRow =
-    option!("ids" "M", Values::Numbers(0, u32::MAX), Given::Once => "How many identifiers there are; they are 0 to M-1");
+pub(crate) const IDS: OptionRow = option!("ids" "M", Values::Numbers(0, u32::MAX), Given::Once =>
+        "How many identifiers there are; they are 0 to M-1");
 
-pub(crate) const RING: OptionRow =
-    option!("ring" "A,B,..", Values::Text, Given::Once => "The ring's identifiers, each followed by its right neighbour's");
+pub(crate) const RING: OptionRow = option!("ring" "A,B,..", Values::Text, Given::Once =>
+        "The ring's identifiers, each followed by its right neighbour's");
 
 pub(crate) const PLACE: OptionRow =
-    option!("place" "P", Values::Numbers(0, u32::MAX), Given::Once => "The place of the node in the ring, counted from 0");
+    option!("place" "P", Values::Numbers(0, u32::MAX), Given::Once =>
+        "The place of the node in the ring, counted from 0");
 
 pub(crate) const BASE: OptionRow =
-    option!("base" "B", Values::Numbers(MIN_BASE, MAX_BASE), Given::ByDefault("10") => "The base of the numbers that are printed, 2 to 10");
+    option!("base" "B", Values::Numbers(MIN_BASE, MAX_BASE), Given::ByDefault("10") =>
+        "The base of the numbers that are printed, 2 to 10");
 
 pub(crate) const WORKERS: OptionRow =
     option!("workers" "W", COUNTS, Given::ByDefault("1") => "How many threads work on the table, 1 to 64");
 
-pub(crate) const SEGMENTS: OptionRow =
-    option!("segments" "S", COUNTS, Given::ByDefault("1") => "How many segments the ring is cut into, each a thread, 1 to 64");
+pub(crate) const SEGMENTS: OptionRow = option!("segments" "S", COUNTS, Given::ByDefault("1") =>
+        "How many segments the ring is cut into, each a thread, 1 to 64");
 
 pub(crate) const NEAR: OptionRow =
-    option!("near" "P", Values::Numbers(1, MAX_DISTANCE), Given::ByDefault("1") => "By how much neighbours' channels have to differ, 1 to 4096");
+    option!("near" "P", Values::Numbers(1, MAX_DISTANCE), Given::ByDefault("1") =>
+        "By how much neighbours' channels have to differ, 1 to 4096");
 
 pub(crate) const FAR: OptionRow =
-    option!("far" "Q", Values::Numbers(0, MAX_DISTANCE), Given::ByDefault("0") => "By how much the channels at distance two have to differ, 0 to 4096");
+    option!("far" "Q", Values::Numbers(0, MAX_DISTANCE), Given::ByDefault("0") =>
+        "By how much the channels at distance two have to differ, 0 to 4096");
 
 pub(crate) const ROUNDS: OptionRow =
     option!("rounds" "T", Values::Numbers(0, MAX_ROUNDS), Given::Once => "How many rounds nodes communicate, 0 to 4");
 
 pub(crate) const CHANNELS: OptionRow =
-    option!("channels" "C", Values::Numbers(1, MAX_CHANNELS), Given::Once => "How many channels there are, 1 to 4096; they are 0 to C-1");
+    option!("channels" "C", Values::Numbers(1, MAX_CHANNELS), Given::Once =>
+        "How many channels there are, 1 to 4096; they are 0 to C-1");
 
-pub(crate) const FORBID: OptionRow =
-    option!("forbid" "A,B,C", Values::Text, Given::AnyNumber => "One to three channels, or `*` for any, that may not follow one another; may be repeated");
+pub(crate) const FORBID: OptionRow = option!("forbid" "A,B,C", Values::Text, Given::AnyNumber =>
+        "One to three channels, or `*` for any, that may not follow one another; may be repeated");
 
-pub(crate) const PROBLEM: OptionRow =
-    option!("problem" "NAME", Values::Text, Given::AtMostOnce => "The problem that channels have to solve: mis, matching or weak2");
+pub(crate) const PROBLEM: OptionRow = option!("problem" "NAME", Values::Text, Given::AtMostOnce =>
+        "The problem that channels have to solve: mis, matching or weak2");
 
 pub(crate) const FORMAT: OptionRow =
     option!("format" "FORMAT", Values::Text, Given::ByDefault("lines") => "The form of the report: lines or json");

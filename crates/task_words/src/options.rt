@@ -4,9 +4,11 @@ ghost use Rattle.std.specs.Prelude.{◌≡◌, ◌⊎◌, IfErr, IfOk, IfSome, O
 ghost use Rattle.task_words.specs.Counts.{IsFar, IsNear};
 ghost use Rattle.task_words.specs.DemandValues.{IsProblemIn};
 ghost use Rattle.task_words.specs.Formats.{HasFormat, format_of};
-ghost use Rattle.task_words.specs.Options.{IsBetween, IsCall, IsCallFault, IsGoodCall, IsRequestFault, IsSeparationName, IsTaken, values_of};
+ghost use Rattle.task_words.specs.Options.{IsBetween, IsCall, IsCallFault, IsGoodCall, IsRequestFault};
+ghost use Rattle.task_words.specs.Options.{IsSeparationName, IsTaken, values_of};
 ghost use Rattle.task_words.specs.Task.{HasFewPatterns, IsDemandInRange, IsInRange};
-ghost use Rattle.task_words.specs.Words.{HasNumber, HasRing, IsDemandFor, IsDemandName, IsRingBad, IsRingName, IsTaskFor};
+ghost use Rattle.task_words.specs.Words.{HasNumber, HasRing, IsDemandFor, IsDemandName, IsRingBad};
+ghost use Rattle.task_words.specs.Words.{IsRingName, IsTaskFor};
 ghost use Rattle.task_words.specs.WordsFault.{FailsBy, IsFormatRefusal, IsUnknownFormat};
 
 use crate::demands::problem_of;

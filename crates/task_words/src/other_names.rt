@@ -50,8 +50,8 @@ pub(crate) struct Meant {
     pub(crate) fact: Option<Fact>,
 }
 
-// Names with blanks between them, without minus signs and in small letters, the commands at which they count (none if at each),
-// what they mean, and a fact, which can be empty.
+// Names with blanks between them, without minus signs and in small letters, the commands at which they count (none
+// if at each), what they mean, and a fact, which can be empty.
 struct OtherName {
     names: &'static str,
     commands: &'static str,
@@ -76,20 +76,26 @@ const SHELL: &str = "`<` and `>` are read by the shell, outside of quotes";
 // Names in place of a command.
 static COMMAND_NAMES: [OtherName; 9] = names! {
     "version v" => Meaning::Nothing, "the first line of `nbhd --help` has the version";
-    "simulate simulat simulation exec execute sim colour color" => Meaning::Command("run"), "`nbhd run` runs a program on a ring, and `nbhd trace` prints each round";
-    "verify validate test prove correct" => Meaning::Command("judge"), "`nbhd judge` judges a program on every ring, and `nbhd audit` a table";
+    "simulate simulat simulation exec execute sim colour color" => Meaning::Command("run"),
+        "`nbhd run` runs a program on a ring, and `nbhd trace` prints each round";
+    "verify validate test prove correct" => Meaning::Command("judge"),
+        "`nbhd judge` judges a program on every ring, and `nbhd audit` a table";
     "compile build make" => Meaning::Command("table"), "`nbhd table` prints the table of a program";
-    "format fmt lint parse" => Meaning::Command("print"), "`nbhd print` prints a program in its one printed form, and `nbhd check` tells whether it is accepted";
+    "format fmt lint parse" => Meaning::Command("print"),
+        "`nbhd print` prints a program in its one printed form, and `nbhd check` tells whether it is accepted";
     "solve sat cnf" => Meaning::Command("formula"), "`nbhd formula` prints a formula for a solver";
-    "show draw visualize graph plot" => Meaning::Command("trace"), "`nbhd trace` and `nbhd explain` print a run, and `nbhd-page` draws it";
+    "show draw visualize graph plot" => Meaning::Command("trace"),
+        "`nbhd trace` and `nbhd explain` print a run, and `nbhd-page` draws it";
     "convert upgrade" => Meaning::Command("migrate"), "`nbhd migrate` prints a table in the newest version";
-    "debug why step" => Meaning::Command("explain"), "`nbhd trace` prints each round of a run, and `nbhd explain` how one node computes";
+    "debug why step" => Meaning::Command("explain"),
+        "`nbhd trace` prints each round of a run, and `nbhd explain` how one node computes";
 };
 
 // Other names. The first row that fits counts.
 static NAMES: [OtherName; 35] = names! {
     "nbhd ./nbhd" => Meaning::Nothing, "the name of the program stands twice";
-    "help man info usage manual options commands ?" => Meaning::Nothing, "`nbhd --help` tells of the program, and `nbhd run --help` of a command";
+    "help man info usage manual options commands ?" => Meaning::Nothing,
+        "`nbhd --help` tells of the program, and `nbhd run --help` of a command";
     "version to" at "migrate" => Meaning::Nothing, "`nbhd migrate` writes the newest version only";
     "version" => Meaning::Nothing, "the first line of `nbhd --help` has the version";
     "| || ; & && 2>&1" => Meaning::End, "`|`, `;` and `&` are read by the shell, outside of quotes";
@@ -97,32 +103,42 @@ static NAMES: [OtherName; 35] = names! {
     "> >>" => Meaning::Output, SHELL;
     "f i file input program table text" => Meaning::Input, "a text is read from standard input";
     "o output out" => Meaning::Output, "the answer is on the standard output";
-    "ids rounds channels near far n m" at "audit apply migrate" => Meaning::Nothing, "the numbers of a table are in its text";
+    "ids rounds channels near far n m" at "audit apply migrate" => Meaning::Nothing,
+        "the numbers of a table are in its text";
     "ids" at "print" => Meaning::Nothing, "`nbhd check` tells whether a program is accepted for M identifiers";
-    "node id" at "explain" => Meaning::Nothing, "the node that is explained is given by its place in the ring, as in `--place 0`";
-    "pos position index p" at "explain" => Meaning::Option("place", ""), "the node that is explained is given by its place in the ring";
-    "n m size max count number id identifiers nodes" => Meaning::Option("ids", ""), "the number of identifiers is given by `--ids`";
+    "node id" at "explain" => Meaning::Nothing,
+        "the node that is explained is given by its place in the ring, as in `--place 0`";
+    "pos position index p" at "explain" => Meaning::Option("place", ""),
+        "the node that is explained is given by its place in the ring";
+    "n m size max count number id identifiers nodes" => Meaning::Option("ids", ""),
+        "the number of identifiers is given by `--ids`";
     "r cycle" => Meaning::Option("ring", ""), "a ring is given by `--ring`";
     "segments" at "table judge plan" => Meaning::Option("workers", ""), "the number of threads is given by `--workers`";
     "workers w j threads jobs cores" at "run" => Meaning::Option("segments", ""), "a run has a thread for each segment";
-    "w j threads jobs cores" => Meaning::Option("workers", ""), "the number of threads is given by `--workers`, of `table`, `judge` and `plan`";
+    "w j threads jobs cores" => Meaning::Option("workers", ""),
+        "the number of threads is given by `--workers`, of `table`, `judge` and `plan`";
     "s parts" => Meaning::Option("segments", ""), "a ring is cut into segments by `--segments`, of `run`";
     "l21" => Meaning::Option("near", "2,1"), LABELLING;
     "l lambda distance separation p" => Meaning::Option("near", ""), LABELLING;
-    "forbid problem" at "table" => Meaning::Nothing, "a table does not say what its channels have to be but for near and far; `nbhd audit --problem mis` judges it";
+    "forbid problem" at "table" => Meaning::Nothing,
+        "a table does not say what its channels have to be but for near and far; `nbhd audit --problem mis` judges it";
     "mis independent-set maximal-independent-set" => Meaning::Option("problem", "mis"), PROBLEMS;
     "matching maximal-matching" => Meaning::Option("problem", "matching"), PROBLEMS;
     "pattern patterns forbidden avoid" => Meaning::Option("forbid", ""), "a pattern of channels is given by `--forbid`";
     "bits binary bin" => Meaning::Option("base", "2"), "numbers are printed in another base by `--base`";
     "b radix" => Meaning::Option("base", ""), "numbers are printed in another base by `--base`";
-    "json csv format" at "formula" => Meaning::Nothing, "`nbhd formula` prints DIMACS, which solvers read, and has no other form";
+    "json csv format" at "formula" => Meaning::Nothing,
+        "`nbhd formula` prints DIMACS, which solvers read, and has no other form";
     "json" => Meaning::Option("format", "json"), "a report is in JSON by `--format json`";
     "fmt" => Meaning::Option("format", ""), "a report is in JSON by `--format json`";
-    "v q quiet verbose" => Meaning::Nothing, "a report is on the standard output, a note on the standard error; there is no option for more or less";
-    "t steps round rounds" at "trace explain" => Meaning::Nothing, "`nbhd trace` and `nbhd explain` print every round; a program says how many they are";
+    "v q quiet verbose" => Meaning::Nothing,
+        "a report is on the standard output, a note on the standard error; there is no option for more or less";
+    "t steps round rounds" at "trace explain" => Meaning::Nothing,
+        "`nbhd trace` and `nbhd explain` print every round; a program says how many they are";
     "t steps" at "formula refute" => Meaning::Option("rounds", ""), "";
     "c k colors colours" at "formula refute" => Meaning::Option("channels", ""), "";
-    "t steps round rounds c k colors colours channels" => Meaning::Nothing, "a program says its rounds and channels; those of a formula are given by `--rounds` and `--channels`";
+    "t steps round rounds c k colors colours channels" => Meaning::Nothing,
+        "a program says its rounds and channels; those of a formula are given by `--rounds` and `--channels`";
 };
 
 /// Returns the command with this name.
@@ -142,7 +158,8 @@ pub(crate) fn other_command(name: &str) -> Option<Meant> {
     meant_in(&COMMAND_NAMES, "nbhd", name)
 }
 
-/// Returns what a name means at a command: an option whose name it begins, that of a row, or an option of other commands.
+/// Returns what a name means at a command: an option whose name it begins, that of a row, or an option of other
+/// commands.
 pub(crate) fn meaning_of(command: &CommandRow, name: &str) -> Option<Meant> {
     if let Some(option) = option_in(command.options, name) {
         return Some(option_meant(option.name, None));

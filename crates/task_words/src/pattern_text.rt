@@ -3,7 +3,9 @@
 ghost use Rattle.std.specs.Prelude.{◌≡◌, ◌↔◌, None, Some, map, IsOk, IfOk, IfErr, OnOk};
 ghost use Rattle.std.specs.Char.{is_ascii_digit};
 ghost use Rattle.std.specs.List.{list_all};
-ghost use Rattle.task_words.specs.PatternText.{IsPatternText, entry_at, entry_fault, entry_in, fault_at, has_blank, is_numeral, parts_fault, pattern_fault, pattern_in, pattern_of_parts, word_fault};
+ghost use Rattle.task_words.specs.PatternText.{IsPatternText, entry_at, entry_fault, entry_in, fault_at, has_blank};
+ghost use Rattle.task_words.specs.PatternText.{is_numeral, parts_fault, pattern_fault, pattern_in};
+ghost use Rattle.task_words.specs.PatternText.{pattern_of_parts, word_fault};
 ghost use Rattle.task_words.specs.WordsFault.{IsPatternRefusal, MemoryAside};
 
 use crate::demand_fault::{DemandFault, PatternFault};

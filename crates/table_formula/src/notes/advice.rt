@@ -59,12 +59,16 @@ fn form_advice(text: &[u8], rest: &[u8]) -> &'static str {
         line.ends_with(b"\r") => "; lines end with a carriage return, which `tr -d '\\r'` takes out";
         line.contains(&b'\r') => "; lines end with a carriage return alone, which `tr '\\r' '\\n'` makes a line feed";
         is_list && is_proof => "; `tools/lrat` adds the hints that a proof in DRAT lacks";
-        is_of_window || line.starts_with(b"rounds ") => "; this looks like a table without its first lines: a whole one is for `nbhd audit` and `nbhd apply`";
+        is_of_window || line.starts_with(b"rounds ") =>
+            "; this looks like a table without its first lines: a whole one is for `nbhd audit` and `nbhd apply`";
         line.contains(&b'\t') => "; words are parted by single blanks, and this line has a tab";
-        contains_part(line, b"  ") || matches!(line, [b' ', ..] | [.., b' ']) => "; words are parted by single blanks, and a line ends without one";
+        contains_part(line, b"  ") || matches!(line, [b' ', ..] | [.., b' ']) =>
+            "; words are parted by single blanks, and a line ends without one";
         matches!(line, [b'#' | b'%' | b'/' | b';', ..]) => "; a comment begins with `c`";
-        matches!(line, [b'd', b' ', b'1'..=b'9', ..]) => "; a deletion begins with a number, as in `5 d 3 4 0`, which one of DRAT lacks";
-        line == b"a".as_slice() || matches!(line, [b'a' | b'd', ..]) && has_control => "; this may be a proof in binary: `cadical --no-binary` writes text";
+        matches!(line, [b'd', b' ', b'1'..=b'9', ..]) =>
+            "; a deletion begins with a number, as in `5 d 3 4 0`, which one of DRAT lacks";
+        line == b"a".as_slice() || matches!(line, [b'a' | b'd', ..]) && has_control =>
+            "; this may be a proof in binary: `cadical --no-binary` writes text";
         line.contains(&b'+') => "; numbers have no `+`";
         matches!(line, [b'1'..=b'9', ..]) => step_advice(line);
         else "; a line begins with the number of its clause"
@@ -82,9 +86,11 @@ fn step_advice(line: &[u8]) -> &'static str {
         has_any_of(line, b",;") => "; words are parted by single blanks, without other marks";
         !is_made_of(&line[..len_before(line, b' ')], b"0123456789") => "; a blank follows the number of a clause";
         line.ends_with(b" d") => "; behind `d` stand the numbers of clauses, and then 0";
-        !is_made_of(lists, b"0123456789 -") => "; nothing but numbers follows there, and behind the first one `d`, `i`, `c` or `m`";
+        !is_made_of(lists, b"0123456789 -") =>
+            "; nothing but numbers follows there, and behind the first one `d`, `i`, `c` or `m`";
         contains_part(lists, b"- ") || line.ends_with(b"-") => "; a minus stands right before its number";
-        numbers.any(|number| number.len() > 9) => "; literals are at most 2147483648, and numbers of clauses at most 18446744073709551615";
+        numbers.any(|number| number.len() > 9) =>
+            "; literals are at most 2147483648, and numbers of clauses at most 18446744073709551615";
         else lists_advice(after_word(line), lists)
     }
 }
@@ -99,12 +105,15 @@ fn lists_advice(step: &[u8], lists: &[u8]) -> &'static str {
         is_deletion && count > 0 => "; the numbers of a deletion end with one 0, and nothing follows it";
         is_deletion => "; each list ends with 0";
         count > 1 && !is_ended => "; nothing follows the second list";
-        count < 2 && step.starts_with(b" i ") => "; behind `i` stand two identifiers, then two lists, and each ends with 0";
-        count < 2 && step.starts_with(b" c ") => "; behind `c` stand two channels, then two lists, and each ends with 0";
+        count < 2 && step.starts_with(b" i ") =>
+            "; behind `i` stand two identifiers, then two lists, and each ends with 0";
+        count < 2 && step.starts_with(b" c ") =>
+            "; behind `c` stand two channels, then two lists, and each ends with 0";
         count == 1 && !is_ended => "; each list ends with 0";
         count < 2 => "; a step has two lists, and each ends with 0";
         count > 2 => "; a step has two lists, and each ends with one 0";
-        lists.contains(&b'-') => "; hints have no minus sign: literals stand before the first 0, and steps by RAT are not taken";
+        lists.contains(&b'-') =>
+            "; hints have no minus sign: literals stand before the first 0, and steps by RAT are not taken";
         else ""
     }
 }

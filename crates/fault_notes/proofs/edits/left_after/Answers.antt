@@ -9,7 +9,8 @@ returns-in-Some c =
     IfSome_then c.left_behind.result c.left_behind.ensures (λ left late.
     faults_later c.args.text.now c.deref.result.now c.args.offset c.args.edit.now (omega (arith, c.if-edit.false))
     (omega (arith, c.if-edit-text.false)) (search rules) (c.deref.ensures.value ∙ c.in_ok-new.ensures)
-    c.in-Some.fault.kind c.in-Some.fault.offset c.text_from-behind.result.now (search rules) late.0 (search rules) (search rules))
+    c.in-Some.fault.kind c.in-Some.fault.offset c.text_from-behind.result.now (search rules) late.0 (search rules)
+    (search rules))
 
 -- The edited text is a program.
 pub returns : goal.returns

@@ -3,4 +3,5 @@ use Rattle.source_places.specs.Shown.{shown}
 use Rattle.source_places.proofs.shown.write_blanks.Given as goal
 
 abbrev pub invariant-bytes : goal.invariant-bytes
-invariant-bytes l = string_bytes l.out ≡ string_bytes l.initial.out ++ replicate (length (shown (take l.byte-index l.bytes))) 32
+invariant-bytes l = string_bytes l.out
+    ≡ string_bytes l.initial.out ++ replicate (length (shown (take l.byte-index l.bytes))) 32

@@ -8,7 +8,8 @@ pub returns : goal.returns
 returns c = record {
   advice = c.form_advice.result.now;
   is = four_pieces _ _ _
-      (c.in_ok-write_place_head.ensures ∙ ap (λ x. x ++ place_head c.args.text.now c.args.offset) c.new-note.ensures.bytes)
+      (c.in_ok-write_place_head.ensures
+      ∙ ap (λ x. x ++ place_head c.args.text.now c.args.offset) c.new-note.ensures.bytes)
       c.in_ok-push_str.ensures.bytes c.in_ok-push_str-2.ensures.bytes c.in_ok-push_str-3.ensures.bytes
       c.in_ok-write_marked_line.ensures;
 }

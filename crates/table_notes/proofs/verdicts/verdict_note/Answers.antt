@@ -5,7 +5,8 @@ use Rattle.table_notes.proofs.verdicts.verdict_note.Goals as goal
 
 pub returns : goal.returns
 returns c =
-    subst (λ ring. string_bytes c.write_windows.new.out ≡ verdict_note ring c.args.witness.now.places c.args.witness.now.channels)
+    subst (λ ring. string_bytes c.write_windows.new.out
+    ≡ verdict_note ring c.args.witness.now.places c.args.witness.now.channels)
     c.deref-ring.ensures.value
     (six_pieces _ _ _ _ _
     (c.in_ok-push_str.ensures.bytes ∙ ap (λ x. x ++ codes "nbhd: on the ring ") c.new-note.ensures.bytes)

@@ -5,4 +5,5 @@ use Rattle.task_words.proofs.DemandLemmas.{source-rows}
 use Rattle.task_words.proofs.demands.is_in_words.Goals as goal
 
 pub returns : goal.returns
-returns c = c.is_from_words.ensures ∙ ap is_from_words (c.value_source.ensures ∙ source-rows (found_of c.args.options.now) c.args.name.now)
+returns c = c.is_from_words.ensures
+    ∙ ap is_from_words (c.value_source.ensures ∙ source-rows (found_of c.args.options.now) c.args.name.now)

@@ -9,7 +9,12 @@ use Rattle.task_words.proofs.demands.patterns_in.Goals as goal
 pub returns-in-Err-clause-refused : goal.returns-in-Err-clause-refused
 returns-in-Err-clause-refused c = elim c.in-Err.ensures.refused [
   | inl memory ↦ inl memory
-  | inr (known, is, cause) ↦ inr (known, is, first_fault c.args.texts.now c.loop-text.text-index _ known c.loop-text-test.true c.loop-text.invariant.none cause)
+  | inr (known, is, cause) ↦ inr (
+    known,
+    is,
+    first_fault c.args.texts.now c.loop-text.text-index _ known c.loop-text-test.true
+        c.loop-text.invariant.none cause,
+  )
 ]
 
 -- One more pattern was read.
@@ -22,11 +27,13 @@ loop-text-preserved c = record {
 -- All texts were read.
 pub returns-clause-patterns : goal.returns-clause-patterns
 returns-clause-patterns c =
-    let whole : take c.loop-text.text-index c.args.texts.now ≡ c.args.texts.now = take_all c.loop-text.text-index c.args.texts.now (omega (arith, c.loop-text-test.false)) in
+    let whole : take c.loop-text.text-index c.args.texts.now ≡ c.args.texts.now =
+    take_all c.loop-text.text-index c.args.texts.now (omega (arith, c.loop-text-test.false)) in
     are_patterns c.args.texts.now c.loop-text.patterns.items (subst HaveNoFault whole c.loop-text.invariant.none)
     (c.loop-text.invariant.values ∙ ap (map (λ text. pattern_in text.now)) whole)
 
 pub returns-clause-good : goal.returns-clause-good
 returns-clause-good c =
-    let whole : take c.loop-text.text-index c.args.texts.now ≡ c.args.texts.now = take_all c.loop-text.text-index c.args.texts.now (omega (arith, c.loop-text-test.false)) in
+    let whole : take c.loop-text.text-index c.args.texts.now ≡ c.args.texts.now =
+    take_all c.loop-text.text-index c.args.texts.now (omega (arith, c.loop-text-test.false)) in
     no_first_fault c.args.texts.now (subst HaveNoFault whole c.loop-text.invariant.none)

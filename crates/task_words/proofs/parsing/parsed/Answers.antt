@@ -9,4 +9,5 @@ returns-in-Ok-clause-rows c = words_matched _ _ _ c.in_ok-command_line.ensures c
 
 pub returns-in-Err-clause-refused : goal.returns-in-Err-clause-refused
 returns-in-Err-clause-refused c =
-    words_refused _ _ _ _ c.in_ok-command_line.ensures (c.in-Err.ensures.kinds (is_simple_line _ c.in_ok-command_line.ensures)) c.refusal.ensures
+    words_refused _ _ _ _ c.in_ok-command_line.ensures
+    (c.in-Err.ensures.kinds (is_simple_line _ c.in_ok-command_line.ensures)) c.refusal.ensures

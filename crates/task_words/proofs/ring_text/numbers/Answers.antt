@@ -16,13 +16,18 @@ loop-part-preserved c =
 
 -- A part that was not read is no number.
 pub returns-in_default-clause-refused : goal.returns-in_default-clause-refused
-returns-in_default-clause-refused c = inr (refl, λ each. c.in_default.ensures (each c.loop-part.part-index _ c.loop-part-test.true))
+returns-in_default-clause-refused c =
+    inr (refl, λ each. c.in_default.ensures (each c.loop-part.part-index _ c.loop-part-test.true))
 
 -- All parts were read.
 pub returns-clause-numbers : goal.returns-clause-numbers
 returns-clause-numbers c =
-    let whole : take c.loop-part.part-index c.args.parts.now ≡ c.args.parts.now = take_all c.loop-part.part-index c.args.parts.now (omega (arith, c.loop-part-test.false)) in
-    (subst (All (λ part. IsNumber part.now)) whole c.loop-part.invariant.each, c.loop-part.invariant.values ∙ ap (map (λ part. number_in part.now)) whole)
+    let whole : take c.loop-part.part-index c.args.parts.now ≡ c.args.parts.now =
+    take_all c.loop-part.part-index c.args.parts.now (omega (arith, c.loop-part-test.false)) in (
+      subst (All (λ part. IsNumber part.now)) whole c.loop-part.invariant.each,
+      c.loop-part.invariant.values
+          ∙ ap (map (λ part. number_in part.now)) whole,
+    )
 
 -- There are no values of parts that were not all read.
 pub returns-in_default-clause-numbers : goal.returns-in_default-clause-numbers

@@ -4,4 +4,5 @@ use Rattle.task_words.specs.Decimal.{IsNumber}
 use Rattle.task_words.proofs.ring_tips.first_bad.Given as goal
 
 abbrev pub invariant-parts : goal.invariant-parts
-invariant-parts l = (k : ℕ) (other : List ℕ) → k < l.index → slice_get (map (λ part. part.now) l.parts) k ≡ Some other → IsNumber other
+invariant-parts l = (k : ℕ) (other : List ℕ) → k < l.index → slice_get (map (λ part. part.now) l.parts) k ≡ Some other
+    → IsNumber other

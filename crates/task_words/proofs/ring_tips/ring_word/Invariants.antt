@@ -5,6 +5,7 @@ use Rattle.task_words.proofs.ring_tips.ring_word.Given as goal
 
 abbrev pub invariant-loop-word : goal.invariant-loop-word
 invariant-loop-word l = record {
-  rest : texts.ring_word (map string_bytes l.words) ≡ texts.ring_after l.last (map string_bytes (drop l.word-index l.words));
+  rest : texts.ring_word (map string_bytes l.words)
+      ≡ texts.ring_after l.last (map string_bytes (drop l.word-index l.words));
   last : IsUtf8 l.last;
 }

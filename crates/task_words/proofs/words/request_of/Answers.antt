@@ -15,16 +15,20 @@ request-requires c = record {
 
 pub unreachable-requires : goal.unreachable-requires
 unreachable-requires c =
-    some_command (map string_bytes c.args.words.now) c.in_ok-matches.ensures.taken (call_is (map string_bytes c.args.words.now) c.in_ok-matches.matches c.subcommand.result c.subcommand.ensures.name c.subcommand.ensures.rows c.in_ok-matches.ensures.rows ∙ ap met_of c.in-None.is)
+    some_command (map string_bytes c.args.words.now) c.in_ok-matches.ensures.taken
+    (call_is (map string_bytes c.args.words.now) c.in_ok-matches.matches c.subcommand.result
+    c.subcommand.ensures.name c.subcommand.ensures.rows c.in_ok-matches.ensures.rows ∙ ap met_of c.in-None.is)
 
 -- the call that was parsed
-call : (c : Joined-matches) → IsCallOf (map string_bytes c.args.words.now) c.in-Some.name.now (rows_of (found_of c.in-Some.options.now))
+call : (c : Joined-matches)
+    → IsCallOf (map string_bytes c.args.words.now) c.in-Some.name.now (rows_of (found_of c.in-Some.options.now))
 call c =
     call_is (map string_bytes c.args.words.now) c.in_ok-matches.matches c.subcommand.result c.subcommand.ensures.name c.subcommand.ensures.rows c.in_ok-matches.ensures.rows ∙ ap met_of c.in-Some.is
 
 pub returns : goal.returns
 returns c =
     let ensured = c.request.ensures in
-    request_is c.request.result (map string_bytes c.args.words.now) c.in-Some.name.now (rows_of (found_of c.in-Some.options.now)) c.in_ok-matches.ensures.taken (call c)
+    request_is c.request.result (map string_bytes c.args.words.now) c.in-Some.name.now
+    (rows_of (found_of c.in-Some.options.now)) c.in_ok-matches.ensures.taken (call c)
     (no_format_given (map string_bytes c.args.words.now) c.in-Some.name.now (rows_of (found_of c.in-Some.options.now)) c.in_ok-matches.ensures.taken (call c))
     ensured.task ensured.range ensured.format ensured.good ensured.refused

@@ -7,13 +7,16 @@ use Rattle.task_words.proofs.options.Call.number.Goals.{After-get_one}
 use Rattle.task_words.proofs.options.Call.number.Goals as goal
 
 -- the number that was read
-read : (c : After-get_one) → (n : ℕ) × (c.get_one.result ≡ Some n) × HasNumber (rows_of (found_of c.args.self.now.options.now)) c.args.option.now.name.now n
+read : (c : After-get_one)
+    → (n : ℕ) × (c.get_one.result ≡ Some n)
+    × HasNumber (rows_of (found_of c.args.self.now.options.now)) c.args.option.now.name.now n
     × IsBetween c.args.option.now.values n
 read c = number_read (found_of c.args.self.now.options.now) c.args.option.now c.get_one.result c.get_one.ensures.value
     (number_given c.args.option.now c.args.self.now.name.now (rows_of (found_of c.args.self.now.options.now)) c.requires.given.one c.requires.taken)
 
 pub unreachable-requires : goal.unreachable-requires
-unreachable-requires c = let found = read (goal.at.unreachable-requires c).After-get_one in c.in_default.not-Some found.0 found.1
+unreachable-requires c =
+    let found = read (goal.at.unreachable-requires c).After-get_one in c.in_default.not-Some found.0 found.1
 
 pub returns : goal.returns
 returns c =

@@ -13,14 +13,17 @@ use Rattle.task_words.proofs.options.Call.ring.Goals.{After-ring_of}
 use Rattle.task_words.proofs.options.Call.ring.Goals as goal
 
 -- the value of `--ring` is the text that was read
-value_is : (text : Text) (values : List Row) → first_of (codes "ring") values ≡ Some text → IsRingBad values → ¬ IsRingText text
+value_is : (text : Text) (values : List Row) → first_of (codes "ring") values ≡ Some text → IsRingBad values
+    → ¬ IsRingText text
 value_is text values is bad =
     let same : bad.0 ≡ text = grind arith in
     λ good. bad.2 (subst IsRingText (sym same) good)
 
 -- a fault other than OutOfMemory is BadRing, for a bad ring
-refused : {T : Type 0} (r : Result T WordsFault) (text : Text) (values : List Row) → first_of (codes "ring") values ≡ Some text
-    → MemoryAside r (IsErrOf r BadRing ↔ (¬ IsRingText text)) → IfErr r (λ fault. (fault ≡ BadRing) ⊎ (fault ≡ OutOfMemory)) → FailsBy r (IsRingBad values)
+refused : {T : Type 0} (r : Result T WordsFault) (text : Text) (values : List Row)
+    → first_of (codes "ring") values ≡ Some text
+    → MemoryAside r (IsErrOf r BadRing ↔ (¬ IsRingText text))
+    → IfErr r (λ fault. (fault ≡ BadRing) ⊎ (fault ≡ OutOfMemory)) → FailsBy r (IsRingBad values)
 refused (Ok v) text values is told faults = tt
 refused (Err fault) text values is told (inr memory) = inl memory
 refused (Err fault) text values is told (inl bad) = inr (bad, (text, is, (told (λ memory. cc)).0 (ap Err bad)))
@@ -28,7 +31,8 @@ refused (Err fault) text values is told (inl bad) = inr (bad, (text, is, (told (
 pub unreachable-requires : goal.unreachable-requires
 unreachable-requires c =
     let given = ring_given c.args.self.now.name.now (rows_of (found_of c.args.self.now.options.now)) c.requires.given.one c.requires.on_ring in
-    let none : None ≡ Some given.0 = c.in_default.ensures ∙ (first_value-rows (found_of c.args.self.now.options.now) (codes "ring") ∙ given.1) in
+    let none : None ≡ Some given.0 =
+    c.in_default.ensures ∙ (first_value-rows (found_of c.args.self.now.options.now) (codes "ring") ∙ given.1) in
     cc
 
 -- the values of the options
@@ -48,4 +52,5 @@ returns-clause-good c =
     IfOk-weaker c.ring_of.result _ _ (λ ring read bad. value_is _ (values c) (text_is c) bad read.0) c.ring_of.ensures.ring
 
 pub returns-clause-refused : goal.returns-clause-refused
-returns-clause-refused c = refused c.ring_of.result _ (values c) (text_is c) c.ring_of.ensures.bad_ring c.ring_of.ensures.faults
+returns-clause-refused c =
+    refused c.ring_of.result _ (values c) (text_is c) c.ring_of.ensures.bad_ring c.ring_of.ensures.faults
