@@ -129,7 +129,8 @@ impl Draft {
             return self.append(text);
         }
         if own_command(text).is_some() {
-            return self.begin(meaning_of_kind(&self.command, Kind::Command));
+            let meant = meaning_of_kind(&self.command, Kind::Command);
+            return self.begin(meant);
         }
         let name = if is_name { bare } else { text };
         if let Some(meant) = meaning_of(&self.command, name) {
@@ -137,7 +138,8 @@ impl Draft {
         }
         match self.kind_of(text) {
             Some(kind) => {
-                self.begin(meaning_of_kind(&self.command, kind))?;
+                let meant = meaning_of_kind(&self.command, kind);
+                self.begin(meant)?;
                 self.append(text)?;
             }
             None => self.is_whole = false,
