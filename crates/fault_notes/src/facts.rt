@@ -137,6 +137,13 @@ impl<'a> Spot<'a> {
             && !front.ends_with(assigned)
     }
 
+    // Returns whether the token is a register that was not met before, where all are assigned.
+    fn is_extra(self) -> bool {
+        self.expected == This(Token::Finish)
+            && self.part_end(self.number, Part::Register).is_some()
+            && !self.has_before(self.number, self.token(self.number))
+    }
+
     // Returns whether the token begins the text but for a comment before it.
     fn goes_on_comment(self) -> bool {
         let is_number = matches!(self.token(1), Some(Token::Number(_)));
@@ -170,6 +177,7 @@ impl<'a> Spot<'a> {
                 "; a comparison has two sides, as in `and(lt(a, b), lt(b, c))`";
             is_early => Beside "; messages are sent only in rounds";
             self.counts_from_1() => Alone "; registers are `r0` to `r7`";
+            self.is_extra() => Alone "; `registers` says how many registers there are, and `start` and each round assign all of them";
             self.is_second() => Alone "; each register is assigned once in a block, by one expression";
             self.expected == Expected::Expression && self.gap(number).contains(&b'#') => Beside
                 "; what follows `#` on a line is a comment";

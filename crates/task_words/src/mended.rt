@@ -102,7 +102,7 @@ fn option_given(draft: &Draft, given: &Given) -> Option<OptionRow> {
 // Returns the numbers and wildcards of a text, with commas, or `None` if it has others or none.
 fn list_in(alloc: Global, text: &str) -> Result<Option<String>, AllocError> {
     let mut list = String::new(alloc);
-    if text.contains(',') && text.contains(';') {
+    if text.contains(',') && (text.contains(';') || text.contains('_')) {
         return Ok(None);
     }
     for part in text.split(is_separator) {
