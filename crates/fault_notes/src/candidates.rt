@@ -58,11 +58,14 @@ fn is_alike(word: &[u8], name: &[u8]) -> bool {
 }
 
 impl Spot<'_> {
-    // Returns what can stand in the place of a word that is not of the language, an empty text if nothing can.
+    // Returns what can stand in the place of a word that is not of the language, an empty text if nothing can, or if it stands
+    // behind the word.
     fn instead(self) -> &'static [u8] {
-        let is_assigned = self.token(after(self.number, 1)) == Some(Token::Equals);
+        let next = self.token(after(self.number, 1));
+        let is_assigned = next == Some(Token::Equals);
         let is_none = self.is_inside()
-            || matches!(self.expected, Expected::Expression | Expected::Number);
+            || matches!(self.expected, Expected::Expression | Expected::Number)
+            || matches!((self.expected, next), (This(token), Some(next)) if token == next);
         match self.expected {
             _ if is_none || !self.is_strange(self.number) => b"",
             This(Token::Register(register)) if is_assigned => register_text(register),

@@ -188,12 +188,10 @@ pub(crate) fn words() -> &'static [Row] {
     &WORDS
 }
 
-static OTHERS: [Row; 16] = rows! {
-    [At(Round), At(Finish)] [One("end End END done")] => Alone, "; no word ends a block: the next line begins what follows", "";
+static OTHERS: [Row; 15] = rows! {
+    [At(Round)] [One("end End END done")] => Alone, "; no word ends a block: the next line begins what follows", "";
     [Expression] after One("( ,"), [Strange, One("= :")] => Beside, "; operands have no names", "";
     [Expression] after One("( ,"), [One("round")] => Alone, "; no number tells the round: each has a block of its own", "";
-    [Expression] after One("( ,"), [One("finish")] => Alone,
-        "; all nodes do all rounds: a register keeps a mark, and `finish` reads it at the end", "";
     [Expression] [Strange, One("(")] => Without, "; there is no operation `{}`: LANGUAGE.md lists all", "";
     [Expression] [StrangeNumber] => Without, "; a number has only digits, and is decimal", "";
     [Expression] [Strange] => Without, "; registers are `r0` to `r7`, and values have no other names", "";
@@ -241,7 +239,7 @@ pub(crate) fn marks_behind() -> &'static [Row] {
     &SIGNS_BEHIND
 }
 
-static BEHIND: [Row; 18] = rows! {
+static BEHIND: [Row; 17] = rows! {
     [Behind] [Mark] => Without, "", "";
     [Behind] after One("id"), [One("(")] => Alone, "; `id` is the identifier of the node, and no operation", "";
     [Behind] [One("(")] => Beside, "; no bracket follows a number, a register, `id`, `L` or `R`", "";
@@ -254,7 +252,6 @@ static BEHIND: [Row; 18] = rows! {
     [End] [] => Without, "; `finish` has one expression, which ends the program", "";
     [At(Send)] [Operation] => Without,
         "; each node sends in each round, but the value can be chosen, as in `send left if(c, a, b)`", "";
-    [At(Send), At(Right)] [Operand] => Without, "; a message is one number, by one expression", "";
     [Behind] after Part::Number, [Operand] => Without, "; there is no product: twice x is `shl(x, 1)`", "";
     [Behind] [Operand] => Without, "; an operation is written before its operands, as in `add(a, b)`", "";
     [At(Comma), At(Close)] [] => Without, "; a bracket is open", "";
