@@ -233,7 +233,7 @@ PARTS = [
     ("r0 = add(shl(ldb(r0, L), 1), bit(r0, ldb(r0, L))", "if(lt(r0, L), 0, 1", "one expression is assigned to each register, as in `r0 = if(c, a, b)`; write `r0 =` before it\n"),
     ("r0 = id", "r0 = (id)", "brackets are only written after the name of an operation; write `id` in the place of `(id)`\n"),
     ("send left 0", "send left(0)", "brackets are only written after the name of an operation; write `0` in the place of `(0)`\n"),
-    ("send left 0", "send(left, 0)", "no brackets are allowed here\n"),
+    ("send left 0", "send(left, 0)", "it is written `send left r0`, without brackets\n"),
     ("\nr0 = id", "()\nr0 = id", "leave out `()`\n"),
     ("\nsend left 0", "()\nsend left 0", "leave out `()`\n"),
     ("channels 6", "channel 6", "write `channels` in the place of `channel`\n"),
