@@ -5,11 +5,11 @@ use Rattle.std.proofs.Common.{slice_index, Some, IsSome, arith, refl}
 use Rattle.std.proofs.lemmas.Bool.{OnTrue_at, OnFalse_at}
 use Rattle.win_index.specs.Arcs.{window_around}
 use Rattle.win_index.specs.Ring.{IsRing}
-use Rattle.win_index.specs.Runs.{IsReplacedByRun}
+use Rattle.win_index.specs.Buckets.{IsReplacedByBucket}
 use Rattle.win_index.specs.Successor.{IsReplaced}
 use Rattle.win_index.specs.Windows.{IsWindow}
 use Rattle.win_index.proofs.Windows.{length-windows, falling-add}
-use Rattle.channel_tables.specs.Apart.{extra, run_len, tuples, AreClose, AreApart, IsApartEverywhere, NoneIsBad}
+use Rattle.channel_tables.specs.Apart.{extra, bucket_len, tuples, AreClose, AreApart, IsApartEverywhere, NoneIsBad}
 use Rattle.channel_tables.specs.Tables.{ChannelTable, IsBegun, channel_of, windows_of}
 use Rattle.channel_tables.specs.declared.separation.Separation.{Separation}
 use Rattle.channel_tables.proofs.BegunTables
@@ -51,11 +51,12 @@ pub window_of_shape : (t : ChannelTable) (rounds ids : ℕ) (window : List ℕ) 
     → IsWindow (2 * t.rounds + 1) t.ids window → IsWindow (2 * rounds + 1) ids window
 window_of_shape t rounds ids window rounds_is ids_is is = rw (rounds_is, ids_is) is
 
--- a step to the next run for the numbers of the shape is one for the table
-pub step_of_run : (t : ChannelTable) (rounds ids : ℕ) (replaced : Bool) (old new : List ℕ)
+-- a step to the next bucket for the numbers of the shape is one for the table
+pub step_of_bucket : (t : ChannelTable) (rounds ids : ℕ) (replaced : Bool) (old new : List ℕ)
     → rounds ≡ t.rounds → ids ≡ t.ids
-    → IsReplacedByRun (2 * rounds + 1) ids replaced old new → IsReplacedByRun (2 * t.rounds + 1) t.ids replaced old new
-step_of_run t rounds ids replaced old new rounds_is ids_is is = rw (rounds_is, ids_is) at is
+    → IsReplacedByBucket (2 * rounds + 1) ids replaced old new
+    → IsReplacedByBucket (2 * t.rounds + 1) t.ids replaced old new
+step_of_bucket t rounds ids replaced old new rounds_is ids_is is = rw (rounds_is, ids_is) at is
 
 -- ---- channels that are close
 
@@ -89,8 +90,8 @@ apart_of_not_too_close = Close.apart_of_not_too_close
 -- ---- tuples
 
 -- each window is the first of as many tuples
-pub all_runs : (t : ChannelTable) (s : Separation) → length (tuples t s) ≡ length (windows_of t) * run_len t s
-all_runs t s =
+pub all_buckets : (t : ChannelTable) (s : Separation) → length (tuples t s) ≡ length (windows_of t) * bucket_len t s
+all_buckets t s =
     rw (length-windows (2 * t.rounds + 1 + extra s) t.ids, length-windows (2 * t.rounds + 1) t.ids)
     (falling-add t.ids (2 * t.rounds + 1) (extra s))
 

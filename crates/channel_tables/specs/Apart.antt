@@ -28,8 +28,8 @@ abbrev pub tuples : ChannelTable → Separation → List (List ℕ)
 tuples t s = windows (2 * t.rounds + 1 + extra s) t.ids
 
 -- the number of tuples that begin with one window
-abbrev pub run_len : ChannelTable → Separation → ℕ
-run_len t s = falling (t.ids - (2 * t.rounds + 1)) (extra s)
+abbrev pub bucket_len : ChannelTable → Separation → ℕ
+bucket_len t s = falling (t.ids - (2 * t.rounds + 1)) (extra s)
 
 -- a tuple is bad if the channels of its first and its second window are closer than near, or those of its first and its
 -- third window closer than far; if far is 0, no two channels are that close

@@ -5,7 +5,7 @@ ghost use Rattle.win_index.specs.declared.limits.TheConstants.{MAX_IDS, MAX_TUPL
 ghost use Rattle.win_index.specs.Windows.{IsWindow};
 ghost use Rattle.win_index.specs.Arcs.{part_at};
 ghost use Rattle.channel_tables.specs.Tables.{channel_of};
-ghost use Rattle.channel_tables.specs.Apart.{extra, run_len, tuples, AreClose, IsApartEverywhere, IsBad};
+ghost use Rattle.channel_tables.specs.Apart.{extra, bucket_len, tuples, AreClose, IsApartEverywhere, IsBad};
 ghost use Rattle.channel_tables.specs.Apart.{NoneIsBad, IsLeastBad};
 ghost use Rattle.channel_tables.specs.Searches.{IsLeastIn};
 ghost use Rattle.channel_tables.specs.Witnesses.{IsWitness};
@@ -77,7 +77,7 @@ impl<'a, W: Windows> Tuples<'a, W> {
     /// Returns the number of tuples that begin with one window. It is 0 if a tuple has more
     /// identifiers than there are.
     pub fn per_window(self) -> u64
-        ensures value { result ≡ run_len (W.table self.entry.windows.now) self.entry.separation }
+        ensures value { result ≡ bucket_len (W.table self.entry.windows.now) self.entry.separation }
         ensures few { result ≤ MAX_IDS * MAX_IDS }
     {
         let shape = self.windows.shape();

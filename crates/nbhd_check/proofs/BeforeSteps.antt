@@ -10,12 +10,12 @@ use Rattle.win_index.specs.Windows.{unused, IsWindow}
 use Rattle.win_index.proofs.Windows.{push_window, windows_all, one_number, back_window}
 use Rattle.channel_tables.specs.Tables.{ChannelTable, windows_of}
 use Rattle.nbhd_check.specs.ChannelsBefore.{AreBefore}
-use Rattle.nbhd_check.specs.declared.near.SecondRuns.{SecondRuns}
-use Rattle.nbhd_check.specs.MiddleRuns.{AreNextRuns, in_run}
-use Rattle.nbhd_check.specs.Runs.{second_gap, second_run, wide}
-use Rattle.nbhd_check.proofs.Runs.{first_is_free}
+use Rattle.nbhd_check.specs.declared.near.SecondBuckets.{SecondBuckets}
+use Rattle.nbhd_check.specs.MiddleBuckets.{AreNextBuckets, in_bucket}
+use Rattle.nbhd_check.specs.Buckets.{second_gap, second_bucket, wide}
+use Rattle.nbhd_check.proofs.Buckets.{first_is_free}
 use Rattle.nbhd_check.proofs.MiddleSteps.{next_place}
-use Rattle.nbhd_check.proofs.SecondRuns.{AtPlace}
+use Rattle.nbhd_check.proofs.SecondBuckets.{AtPlace}
 
 -- a list by its first identifier and the others
 pub first_and_rest : (list : List ℕ) → 1 ≤ length list → list ≡ get_or list 0 0 ∷ drop 1 list
@@ -32,10 +32,10 @@ same_turn x y z u size same =
     λ i. last i ∷ front i
 
 -- the window that has the first identifier of the window at a place last
-pub turned_at : (t : ChannelTable) (runs : SecondRuns) (place : ℕ) → (own : AtPlace t runs place)
-    → slice_get (windows_of t) (second_run runs place * wide t + second_gap runs place)
+pub turned_at : (t : ChannelTable) (buckets : SecondBuckets) (place : ℕ) → (own : AtPlace t buckets place)
+    → slice_get (windows_of t) (second_bucket buckets place * wide t + second_gap buckets place)
     ≡ Some (drop 1 own.window ++ get_or own.window 0 0 ∷ [])
-turned_at t runs place own =
+turned_at t buckets place own =
     let k : ℕ = 2 * t.rounds in
     let w = own.window in
     let x : ℕ = get_or w 0 0 in
@@ -50,26 +50,27 @@ turned_at t runs place own =
     (push_window k t.ids x z rest (is.below 0 0 (omega arith)) (first_is_free w is.distinct)) in
     let last : get_or (z ++ x ∷ []) k 0 ≡ x =
     ap (λ n. get_or (z ++ x ∷ []) n 0) (sym rest_size) ∙ get_or-append_seam z x [] 0 in
-    let number : second_run runs place * wide t + length (unused (get_or (z ++ x ∷ []) k 0) z)
-    ≡ second_run runs place * wide t + second_gap runs place =
-    ap (λ y. second_run runs place * wide t + length (unused y z)) last
-    ∙ ap (λ n. second_run runs place * wide t + n) (sym own.gap_is) in
+    let number : second_bucket buckets place * wide t + length (unused (get_or (z ++ x ∷ []) k 0) z)
+    ≡ second_bucket buckets place * wide t + second_gap buckets place =
+    ap (λ y. second_bucket buckets place * wide t + length (unused y z)) last
+    ∙ ap (λ n. second_bucket buckets place * wide t + n) (sym own.gap_is) in
     ap (slice_get (windows_of t)) (sym number) ∙ own.starts.each (z ++ x ∷ []) turned (take_at z (x ∷ []) k rest_size)
 
 -- one channel more is written
-pub before_more : (t : ChannelTable) (runs : SecondRuns) (place channel cell limit : ℕ) (before : List ℕ)
-    → AtPlace t runs place
-    → length before ≡ length (windows_of t) → cell ≡ second_run runs place * wide t + second_gap runs place
-    → channel ≡ get_or t.entries (runs.run * wide t + place) 0 → limit ≡ runs.run * wide t + place
+pub before_more : (t : ChannelTable) (buckets : SecondBuckets) (place channel cell limit : ℕ) (before : List ℕ)
+    → AtPlace t buckets place
+    → length before ≡ length (windows_of t) → cell ≡ second_bucket buckets place * wide t + second_gap buckets place
+    → channel ≡ get_or t.entries (buckets.bucket * wide t + place) 0 → limit ≡ buckets.bucket * wide t + place
     → AreBefore t limit before → AreBefore t (limit + 1) (set before cell channel)
-before_more t runs place channel cell limit before own room cell_is channel_is limit_is are n q x z lt item_n item_q =
+before_more t buckets place channel cell limit before own room cell_is channel_is limit_is are n q x z
+    lt item_n item_q =
     let k : ℕ = 2 * t.rounds + 1 in
     let w = own.window in
     let at_w : slice_get (windows_of t) limit ≡ Some w = ap (slice_get (windows_of t)) limit_is ∙ own.item in
     let size_w = (windows_all k t.ids limit w at_w).size in
     let whole = first_and_rest w (omega (arith, size_w)) in
     let turned : slice_get (windows_of t) cell ≡ Some (drop 1 w ++ get_or w 0 0 ∷ []) =
-    ap (slice_get (windows_of t)) cell_is ∙ turned_at t runs place own in
+    ap (slice_get (windows_of t)) cell_is ∙ turned_at t buckets place own in
     let size_n = (windows_all k t.ids n (x ∷ z) item_n).size in
     let new = set before cell channel in
     ⊎_elim
@@ -93,25 +94,26 @@ before_more t runs place channel cell limit before own room cell_is channel_is l
     (cases_eq q cell)
 
 -- the cell of the window at a place, and its channel
-pub record HasCell (t : ChannelTable) (runs : SecondRuns) (place : ℕ) : Type 0 where
-  pub at : AtPlace t runs place
-  pub inside : second_run runs place * wide t + second_gap runs place < length t.entries
-  pub first_few : runs.first + place ≤ second_run runs place
+pub record HasCell (t : ChannelTable) (buckets : SecondBuckets) (place : ℕ) : Type 0 where
+  pub at : AtPlace t buckets place
+  pub inside : second_bucket buckets place * wide t + second_gap buckets place < length t.entries
+  pub first_few : buckets.first + place ≤ second_bucket buckets place
 
-pub has_cell : (t : ChannelTable) (runs : SecondRuns) (place : ℕ) → length t.entries ≡ length (windows_of t)
-    → AreNextRuns t runs → place < wide t
-    → HasCell t runs place
-has_cell t runs place full are lt =
-    let own = next_place t runs place full are lt in
+pub has_cell : (t : ChannelTable) (buckets : SecondBuckets) (place : ℕ) → length t.entries ≡ length (windows_of t)
+    → AreNextBuckets t buckets → place < wide t
+    → HasCell t buckets place
+has_cell t buckets place full are lt =
+    let own = next_place t buckets place full are lt in
     record { at = own; inside = omega (arith, own.gap_inside, own.next_within); first_few = grind (arith, nat_tests) }
 
--- a channel of a run
-pub in_run_at : (t : ChannelTable) (channels : List ℕ) (run place : ℕ) → run * wide t + wide t ≤ length channels
+-- a channel of a bucket
+pub in_bucket_at : (t : ChannelTable) (channels : List ℕ) (bucket place : ℕ)
+    → bucket * wide t + wide t ≤ length channels
     → place < wide t
-    → (place < length (in_run t channels run))
-    × (get_or (in_run t channels run) place 0 ≡ get_or channels (run * wide t + place) 0)
-in_run_at t channels run place within lt =
-    let rest = drop (run * wide t) channels in (
-      omega (arith, length-take-le (wide t) rest (omega (arith, length-drop (run * wide t) channels)), lt),
-      get_or-take (wide t) rest place 0 lt ∙ get_or-drop (run * wide t) channels place 0,
+    → (place < length (in_bucket t channels bucket))
+    × (get_or (in_bucket t channels bucket) place 0 ≡ get_or channels (bucket * wide t + place) 0)
+in_bucket_at t channels bucket place within lt =
+    let rest = drop (bucket * wide t) channels in (
+      omega (arith, length-take-le (wide t) rest (omega (arith, length-drop (bucket * wide t) channels)), lt),
+      get_or-take (wide t) rest place 0 lt ∙ get_or-drop (bucket * wide t) channels place 0,
     )

@@ -9,7 +9,7 @@ use Rattle.std.proofs.lemmas.Option.{slice_get-get_or, get_or_from_slice_get}
 use Rattle.win_index.proofs.Windows.{windows_all, one_number}
 use Rattle.channel_tables.specs.Tables.{ChannelTable, windows_of}
 use Rattle.nbhd_check.specs.Counts.{shared_len, is_held, held_count, IsFamily}
-use Rattle.nbhd_check.specs.Runs.{BeginsFarTuple}
+use Rattle.nbhd_check.specs.Buckets.{BeginsFarTuple}
 use Rattle.nbhd_check.proofs.Ends.{by_last}
 use Rattle.nbhd_check.proofs.FarFree.{far_third, third_in_family}
 use Rattle.nbhd_check.proofs.Included.{none_without}

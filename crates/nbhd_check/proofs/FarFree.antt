@@ -8,12 +8,12 @@ use Rattle.std.specs.Int.{abs_diff}
 use Rattle.win_index.specs.Arcs.{part_at}
 use Rattle.win_index.specs.Falling.{falling}
 use Rattle.win_index.specs.Windows.{IsWindow}
-use Rattle.win_index.proofs.Windows.{slice_window, length-windows, windows_all, window_place, in_longer_run, one_number, one_run, window_drop, falling-add, falling_two}
+use Rattle.win_index.proofs.Windows.{slice_window, length-windows, windows_all, window_place, in_longer_bucket, one_number, one_bucket, window_drop, falling-add, falling_two}
 use Rattle.channel_tables.specs.Tables.{ChannelTable, channel_of, windows_of}
 use Rattle.channel_tables.specs.Apart.{AreClose}
 use Rattle.channel_tables.proofs.Tables.{close_along, channel_at}
 use Rattle.nbhd_check.specs.Counts.{family_len, shared_len, shared_lists, IsFamily}
-use Rattle.nbhd_check.specs.Runs.{BeginsFarTuple}
+use Rattle.nbhd_check.specs.Buckets.{BeginsFarTuple}
 use Rattle.nbhd_check.proofs.Cells.{row_more}
 use Rattle.nbhd_check.proofs.Ends.{by_first}
 
@@ -54,20 +54,20 @@ module _ (t : ChannelTable) (some : 1 ≤ t.rounds) where
       → IsFamily t z (number * family_len t) (family_len t)
   family_is z number item =
       let len = falling_two (t.ids - shared_len t) in
-      let run = λ (n : ℕ) (window : List ℕ) (at' : slice_get (windows_of t) n ≡ Some window). in_longer_run
+      let bucket = λ (n : ℕ) (window : List ℕ) (at' : slice_get (windows_of t) n ≡ Some window). in_longer_bucket
       (shared_len t) t.ids 2 n window (rw size at at') in
       rw (← len) (record {
         within = rw len (family_within number (slice_get_within (shared_lists t) number z item));
         stands = λ window is begins.
             let place = window_place (2 * t.rounds + 1) t.ids window is in
-            let own = run place.0 window place.1 in
+            let own = bucket place.0 window place.1 in
             let same = one_number (shared_len t) t.ids own.number number z (own.front_at ∙ ap Some begins) item in
             let number_is = rw same at own.number_is in
             let inside = own.inside in
             (place.0, omega arith, omega arith, place.1);
         begins = λ k window from to at'.
-            let own = run k window at' in
-            let same = one_run (falling (t.ids - shared_len t) 2) own.number own.rest number k own.inside own.number_is from to in
+            let own = bucket k window at' in
+            let same = one_bucket (falling (t.ids - shared_len t) 2) own.number own.rest number k own.inside own.number_is from to in
             same_Some (take (shared_len t) window) z (sym own.front_at ∙ ap (slice_get (shared_lists t)) same ∙ item);
       })
 

@@ -10,9 +10,9 @@ mod FarCounts
 mod FarFree
 mod Parts
 mod Steps
-mod Runs
-mod RunSteps
-mod SecondRuns
+mod Buckets
+mod BucketSteps
+mod SecondBuckets
 mod MiddleSteps
 mod BeforeSteps
 mod PatternSteps

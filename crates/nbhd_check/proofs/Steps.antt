@@ -10,7 +10,7 @@ use Rattle.std.proofs.lemmas.List.{take-set, take-take}
 use Rattle.std.proofs.lemmas.List.Sums.{sum_by-set}
 use Rattle.win_index.specs.Falling.{falling}
 use Rattle.win_index.specs.Windows.{is_used, windows, IsWindow}
-use Rattle.win_index.proofs.Windows.{slice_window, windows_all, free_at, front_step, IsDistinct, unused_at_end, unused_below, unused_few, rank_rises, run_of, falling_one, rank, unused_at, window_from_parts}
+use Rattle.win_index.proofs.Windows.{slice_window, windows_all, free_at, front_step, IsDistinct, unused_at_end, unused_below, unused_few, rank_rises, bucket_of, falling_one, rank, unused_at, window_from_parts}
 use Rattle.channel_tables.specs.Tables.{ChannelTable, windows_of}
 use Rattle.nbhd_check.specs.Counts.{shared_len}
 use Rattle.nbhd_check.specs.FarSearch.{ArePairNumbers}
@@ -34,7 +34,7 @@ front_number : (m j n : ℕ) (list : List ℕ) → slice_get (windows (j + 1) m)
     → (q : ℕ) × (slice_get (windows j m) q ≡ Some (take j list))
     × (n ≡ q * (m - j) + rank (take j list) (get_or list j 0))
 front_number m j n list at' =
-    let own = run_of j m n (take (j + 1) list) at' in
+    let own = bucket_of j m n (take (j + 1) list) at' in
     let front = take-take j (j + 1) list (omega arith) in
     (own.number, rw front at own.front_at, rw (front, get_or-take (j + 1) list j 0 (omega arith)) at own.number_is)
 

@@ -2,11 +2,11 @@
 use Rattle.std.proofs.Common.{◌≡◌, ℕ, ◌+◌, ◌-◌, ◌*◌, ◌≤◌, List, length, take, drop, slice_get, slice_index, Some, sym}
 use Rattle.std.proofs.Common.{ap, ◌∙◌, arith, refl}
 use Rattle.std.proofs.lemmas.List.{get_or-drop, drop-take}
-use Rattle.win_index.specs.Runs.{IsRunStart}
+use Rattle.win_index.specs.Buckets.{IsBucketStart}
 use Rattle.win_index.specs.Windows.{unused, windows, IsWindow}
-use Rattle.win_index.proofs.Windows.{slice_window, run_start_is, window_drop}
+use Rattle.win_index.proofs.Windows.{slice_window, bucket_start_is, window_drop}
 use Rattle.channel_tables.specs.Tables.{ChannelTable, windows_of}
-use Rattle.nbhd_check.specs.Runs.{wide}
+use Rattle.nbhd_check.specs.Buckets.{wide}
 use Rattle.nbhd_check.specs.Counts.{shared_lists}
 
 -- the identifiers of a window without its first ones and its last, as the code slices them
@@ -16,12 +16,12 @@ shared_cut by t rounds window rounds_is few =
     let turn : by + (2 * t.rounds - by) ≡ 2 * t.rounds = omega arith in
     rw rounds_is (sym (drop-take by (2 * t.rounds - by) window) ∙ ap (λ k. drop by (take k window)) turn)
 
--- the entries of a run are those of a table
-pub run_within :
-    (t : ChannelTable) (run : ℕ) (list : List ℕ) → length t.entries ≡ length (windows_of t)
-    → slice_get (windows (2 * t.rounds) t.ids) run ≡ Some list → run * wide t + wide t ≤ length t.entries
-run_within t run list full at' =
-    let within = (run_start_is (2 * t.rounds) t.ids run (run * wide t) list at' refl).within in
+-- the entries of a bucket are those of a table
+pub bucket_within :
+    (t : ChannelTable) (bucket : ℕ) (list : List ℕ) → length t.entries ≡ length (windows_of t)
+    → slice_get (windows (2 * t.rounds) t.ids) bucket ≡ Some list → bucket * wide t + wide t ≤ length t.entries
+bucket_within t bucket list full at' =
+    let within = (bucket_start_is (2 * t.rounds) t.ids bucket (bucket * wide t) list at' refl).within in
     omega arith
 
 -- the identifiers of a window without its first two and its last are a window
@@ -32,27 +32,27 @@ front_two t rounds ids window rounds_is ids_is some is =
     let len : 2 * (t.rounds - 1) ≡ 2 * t.rounds - 2 = omega arith in
     rw (rounds_is, ids_is, len) (slice_window t.ids (2 * t.rounds + 1) 2 (2 * t.rounds - 2) window is (omega arith))
 
--- the number of a suffix of k+1 identifiers, from the run of those with the same first k
+-- the number of a suffix of k+1 identifiers, from the bucket of those with the same first k
 number_of_suffix :
     (by k m first place : ℕ) (window : List ℕ) → IsWindow (by + (k + 1)) m window
-    → IsRunStart k m (drop by (take (by + k) window)) first
+    → IsBucketStart k m (drop by (take (by + k) window)) first
     → place ≡ length (unused (slice_index window (by + k)) (drop by (take (by + k) window)))
     → slice_get (windows (k + 1) m) (first + place) ≡ Some (drop by window)
-number_of_suffix by k m first place window is run place_is =
+number_of_suffix by k m first place window is bucket place_is =
     rw (place_is, ← get_or-drop by window k 0)
-    (run.each (drop by window) (window_drop (k + 1) m by window is) (sym (drop-take by k window)))
+    (bucket.each (drop by window) (window_drop (k + 1) m by window is) (sym (drop-take by k window)))
 
 -- the number of a window's identifiers without the first two
 pub number_of_third :
     (t : ChannelTable) (window : List ℕ) (first place : ℕ) → 1 ≤ t.rounds → IsWindow (2 * t.rounds + 1) t.ids window
-    → IsRunStart (2 * (t.rounds - 1)) t.ids (drop 2 (take (2 * t.rounds) window)) first
+    → IsBucketStart (2 * (t.rounds - 1)) t.ids (drop 2 (take (2 * t.rounds) window)) first
     → place ≡ length (unused (slice_index window (2 * t.rounds)) (drop 2 (take (2 * t.rounds) window)))
     → slice_get (shared_lists t) (first + place) ≡ Some (drop 2 window)
-number_of_third t window first place some is run place_is =
+number_of_third t window first place some is bucket place_is =
     let k : ℕ = 2 * (t.rounds - 1) in
     let len : 2 * t.rounds + 1 ≡ 2 + (k + 1) = omega arith in
     let front : 2 * t.rounds ≡ 2 + k = omega arith in
-    number_of_suffix 2 k t.ids first place window (rw len at is) (rw front at run) (rw front at place_is)
+    number_of_suffix 2 k t.ids first place window (rw len at is) (rw front at bucket) (rw front at place_is)
 
 -- the number of a window's identifiers without the first
 pub number_of_next :
@@ -67,5 +67,6 @@ number_of_next t window number first place some is at' first_is place_is =
     let len : 2 * t.rounds + 1 ≡ 1 + (k + 1) = omega arith in
     let front : 2 * t.rounds ≡ 1 + k = omega arith in
     let size : k + 1 ≡ 2 * t.rounds = omega arith in
-    let run = run_start_is k t.ids number first (drop 1 (take (2 * t.rounds) window)) at' first_is in
-    rw size at (number_of_suffix 1 k t.ids first place window (rw len at is) (rw front at run) (rw front at place_is))
+    let bucket = bucket_start_is k t.ids number first (drop 1 (take (2 * t.rounds) window)) at' first_is in
+    rw size at (number_of_suffix 1 k t.ids first place window (rw len at is) (rw front at bucket)
+        (rw front at place_is))

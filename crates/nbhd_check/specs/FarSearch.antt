@@ -1,13 +1,13 @@
 -- The search for windows that begin a tuple with a close third window, family by family.
 use Rattle.std.specs.Prelude.{◌≡◌, ℕ, ◌+◌, ◌-◌, ◌*◌, ◌<◌, ◌≤◌, List, [], ◌∷◌, ◌++◌, length, take, drop, slice_get, Some}
 use Rattle.win_index.specs.Windows.{IsWindow}
-use Rattle.win_index.specs.Runs.{IsAtPlace, IsRunStart}
-use Rattle.win_index.specs.declared.series.RunPlaces.{RunPlaces}
+use Rattle.win_index.specs.Buckets.{IsAtPlace, IsBucketStart}
+use Rattle.win_index.specs.declared.series.BucketPlaces.{BucketPlaces}
 use Rattle.channel_tables.specs.Tables.{ChannelTable, windows_of}
 use Rattle.channel_tables.specs.declared.separation.Separation.{Separation}
 use Rattle.nbhd_check.specs.Counts.{shared_lists}
 use Rattle.nbhd_check.specs.declared.far_counts.PairNumbers.{PairNumbers}
-use Rattle.nbhd_check.specs.Runs.{AreFree, BeginsBadTuple, BeginsFarTuple}
+use Rattle.nbhd_check.specs.Buckets.{AreFree, BeginsBadTuple, BeginsFarTuple}
 
 -- Distance two counts, and none of the first `most` windows begins a tuple whose second window is too close.
 pub record IsFarSearch (t : ChannelTable) (s : Separation) (most : ℕ) : Type 0 where
@@ -27,12 +27,12 @@ HasFamilyIn t low high window =
     (family : ℕ) × (low ≤ family) × (family < high) × (slice_get (shared_lists t) family ≡ Some (drop 2 window))
 
 -- the window has this number and its suffix this position, and the third windows after the window at position p of its
--- run have family first + p
-pub record IsAtFamily (t : ChannelTable) (number : ℕ) (window : List ℕ) (first : ℕ) (places : RunPlaces)
+-- bucket have family first + p
+pub record IsAtFamily (t : ChannelTable) (number : ℕ) (window : List ℕ) (first : ℕ) (places : BucketPlaces)
     (place : ℕ) : Type 0 where
   pub item : slice_get (windows_of t) number ≡ Some window
   pub at_place : IsAtPlace (2 * (t.rounds - 1) + 1) t.ids places window place
-  pub starts : IsRunStart (2 * (t.rounds - 1)) t.ids (drop 2 (take (2 * t.rounds) window)) first
+  pub starts : IsBucketStart (2 * (t.rounds - 1)) t.ids (drop 2 (take (2 * t.rounds) window)) first
 
 -- There are second identifiers from low on and below end, and each of them, after this first one and before the list z,
 -- makes a window.

@@ -1,11 +1,11 @@
--- The searches of the judge, piece by piece: a piece is a run, but for counts the windows whose third windows are
--- in one family, and for patterns the windows whose second windows are in one run.
+-- The searches of the judge, piece by piece: a piece is a bucket, but for counts the windows whose third windows are
+-- in one family, and for patterns the windows whose second windows are in one bucket.
 use Rattle.std.specs.Prelude.{◌≡◌, ℕ, ◌+◌, ◌*◌, ◌<◌, ◌≤◌, List, length, drop, slice_get, Some}
 use Rattle.win_index.specs.Windows.{windows}
 use Rattle.channel_tables.specs.Tables.{ChannelTable, windows_of}
 use Rattle.nbhd_check.specs.Counts.{shared_lists}
 use Rattle.nbhd_check.specs.PatternSearch.{BeginsForbidden}
-use Rattle.nbhd_check.specs.Runs.{BeginsBadTuple, BeginsFarTuple, wide}
+use Rattle.nbhd_check.specs.Buckets.{BeginsBadTuple, BeginsFarTuple, wide}
 use Rattle.nbhd_check.specs.declared.search.Search.{Search}
 use Rattle.nbhd_check.specs.declared.search.Search.TheVariants.{Near, FarMasks, FarCounts, Patterns}
 
@@ -23,14 +23,14 @@ IsBad (FarMasks s) = BeginsFarTuple s.now.table.now s.now.distance
 IsBad (FarCounts s) = BeginsFarTuple s.table.now s.distance
 IsBad (Patterns s) = BeginsForbidden s.now.table.now s.now.problem.now
 
--- a window with this number is in the run with this number
-abbrev pub IsInRun : ChannelTable → ℕ → ℕ → Type 0
-IsInRun t run number = (run * wide t ≤ number) × (number < run * wide t + wide t)
+-- a window with this number is in the bucket with this number
+abbrev pub IsInBucket : ChannelTable → ℕ → ℕ → Type 0
+IsInBucket t bucket number = (bucket * wide t ≤ number) × (number < bucket * wide t + wide t)
 
 -- the window with this number is in the piece with this number
 abbrev pub IsInPiece : Search → ℕ → ℕ → List ℕ → Type 0
-IsInPiece (Near s) piece number window = IsInRun s.now.table.now piece number
-IsInPiece (FarMasks s) piece number window = IsInRun s.now.table.now piece number
+IsInPiece (Near s) piece number window = IsInBucket s.now.table.now piece number
+IsInPiece (FarMasks s) piece number window = IsInBucket s.now.table.now piece number
 IsInPiece (FarCounts s) piece number window = slice_get (shared_lists s.table.now) piece ≡ Some (drop 2 window)
 IsInPiece (Patterns s) piece number window = slice_get (windows (2 * s.now.table.now.rounds) s.now.table.now.ids) piece
     ≡ Some (drop 1 window)

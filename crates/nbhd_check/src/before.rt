@@ -2,12 +2,12 @@
 ghost use Rattle.std.specs.Prelude.{◌≡◌, ◌+◌, ◌*◌, ◌≤◌, IfOk, length};
 ghost use Rattle.channel_tables.specs.Tables.{windows_of};
 ghost use Rattle.nbhd_check.specs.ChannelsBefore.{AreBefore};
-ghost use Rattle.nbhd_check.specs.MiddleRuns.{AreMiddleRuns, AreNextRuns};
-ghost use Rattle.nbhd_check.specs.Runs.{wide};
+ghost use Rattle.nbhd_check.specs.MiddleBuckets.{AreMiddleBuckets, AreNextBuckets};
+ghost use Rattle.nbhd_check.specs.Buckets.{wide};
 
-use crate::middle_runs::MiddleRun;
-use crate::near::{SecondRuns, channels_of};
-use crate::run_search::{window_count, windows_per_run};
+use crate::middle_buckets::MiddleBucket;
+use crate::near::{SecondBuckets, channels_of};
+use crate::bucket_search::{window_count, windows_per_bucket};
 use channel_tables::Table;
 use node_program::OutOfMemory;
 use std::alloc::Global;
@@ -18,9 +18,9 @@ use std::alloc::Global;
 pub(crate) fn channels_before(
     alloc: Global,
     table: &Table,
-    middles: &[MiddleRun],
+    middles: &[MiddleBucket],
 ) -> Result<Vec<u16>, OutOfMemory>
-    requires runs { AreMiddleRuns table.now 0 middles.now }
+    requires buckets { AreMiddleBuckets table.now 0 middles.now }
     requires all { length middles.now * wide table.now ≡ length (windows_of table.now) }
     ensures before { IfOk result (λ before. AreBefore table.now (length (windows_of table.now)) before.items) }
     ensures size { IfOk result (λ before. length before.items ≡ length (windows_of table.now)) }
@@ -31,29 +31,29 @@ pub(crate) fn channels_before(
 }
 
 // Writes the channels of all windows to the cells of those that they are before.
-fn write_all(table: &Table, middles: &[MiddleRun], before: &mut [u16])
-    requires runs { AreMiddleRuns table.now 0 middles.now }
+fn write_all(table: &Table, middles: &[MiddleBucket], before: &mut [u16])
+    requires buckets { AreMiddleBuckets table.now 0 middles.now }
     requires all { length middles.now * wide table.now ≡ length (windows_of table.now) }
     requires room { length before.old ≡ length (windows_of table.now) }
     ensures size { length before.new ≡ length before.old }
     ensures before { AreBefore table.now (length (windows_of table.now)) before.new }
 {
-    for run in 0..middles.len() {
-        write_run(table, middles[run].next(run), before);
+    for bucket in 0..middles.len() {
+        write_bucket(table, middles[bucket].next(bucket), before);
     }
 }
 
-// Writes the channels of a run's windows.
-fn write_run(table: &Table, next: SecondRuns, before: &mut [u16])
-    requires next { AreNextRuns table.now next }
+// Writes the channels of a bucket's windows.
+fn write_bucket(table: &Table, next: SecondBuckets, before: &mut [u16])
+    requires next { AreNextBuckets table.now next }
     requires room { length before.old ≡ length (windows_of table.now) }
-    requires before { AreBefore table.now (next.run * wide table.now) before.old }
+    requires before { AreBefore table.now (next.bucket * wide table.now) before.old }
     ensures size { length before.new ≡ length before.old }
-    ensures before { AreBefore table.now (next.run * wide table.now + wide table.now) before.new }
+    ensures before { AreBefore table.now (next.bucket * wide table.now + wide table.now) before.new }
 {
-    let each = windows_per_run(table);
-    let channels = channels_of(table, next.run);
+    let each = windows_per_bucket(table);
+    let channels = channels_of(table, next.bucket);
     for place in 0..each {
-        before[next.run_at(place) * each + next.gap_at(place)] = channels[place];
+        before[next.bucket_at(place) * each + next.gap_at(place)] = channels[place];
     }
 }

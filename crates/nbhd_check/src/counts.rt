@@ -7,7 +7,7 @@ ghost use Rattle.win_index.specs.Windows.{IsWindow};
 ghost use Rattle.channel_tables.specs.Tables.{windows_of};
 ghost use Rattle.nbhd_check.specs.Counts.{held_count, shared_len, AreCells, AreCountsOf, AreSums, CountsFit, IsFamily};
 
-use crate::run_search::window_count;
+use crate::bucket_search::window_count;
 use channel_tables::Table;
 use node_program::OutOfMemory;
 use std::alloc::Global;

@@ -3,7 +3,7 @@ ghost use Rattle.std.specs.Prelude.{◌≡◌, IfSome, ◌+◌, ◌*◌, ◌^◌
 ghost use Rattle.channel_tables.specs.Tables.{windows_of};
 ghost use Rattle.nbhd_check.specs.Counts.{family_len};
 ghost use Rattle.nbhd_check.specs.Masks.{AreMasks};
-ghost use Rattle.nbhd_check.specs.Runs.{AreFree, BeginsBadTuple, wide};
+ghost use Rattle.nbhd_check.specs.Buckets.{AreFree, BeginsBadTuple, wide};
 ghost use Rattle.nbhd_check.specs.FarSearch.{IsFarSearch};
 
 use crate::counts::channel_limit;
@@ -11,7 +11,7 @@ use crate::far_counts::FarCounts;
 use crate::far_masks::FarMasks;
 use crate::masks::{Grouping, group_masks, joined_masks, windows_per_family};
 use crate::near::NearFree;
-use crate::run_search::{window_count, windows_per_run};
+use crate::bucket_search::{window_count, windows_per_bucket};
 use crate::search::{Search, free_windows};
 use channel_tables::{Table, Tuples};
 use std::alloc::Global;
@@ -51,14 +51,14 @@ pub(crate) fn far_free_windows<R: Threads + Sync>(
     free_by_counts(rt, alloc, tuples, most, threads).unwrap_or(0)
 }
 
-// Returns the number of windows whose tuples are tested before masks are made: those of as many runs
-// as have at most `TUPLES_BEFORE_MASKS` tuples.
+// Returns the number of windows whose tuples are tested before masks are made: those of as many
+// buckets as have at most `TUPLES_BEFORE_MASKS` tuples.
 fn windows_before_masks(table: &Table) -> u32
     requires { 1 ≤ table.now.rounds }
 {
-    let run = windows_per_run(table);
-    let runs = TUPLES_BEFORE_MASKS / run.saturating_mul(windows_per_family(table)).max(1);
-    runs.saturating_mul(run).min(TUPLES_BEFORE_MASKS) as u32
+    let bucket = windows_per_bucket(table);
+    let buckets = TUPLES_BEFORE_MASKS / bucket.saturating_mul(windows_per_family(table)).max(1);
+    buckets.saturating_mul(bucket).min(TUPLES_BEFORE_MASKS) as u32
 }
 
 // Returns a number as `far_free_windows` does, by masks of third windows, or `None` if they do not decide.
@@ -97,16 +97,17 @@ fn free_by_masks<R: Threads + Sync>(
     None
 }
 
-// Returns masks of families, of the masks of their runs if these are for the same distance.
+// Returns masks of families, of the masks of their buckets if these are for the same distance.
 fn family_masks<R: Threads + Sync>(
     rt: &R,
     alloc: Global,
     tuples: Tuples<'_, Table>,
-    runs: Vec<u64>,
+    buckets: Vec<u64>,
     threads: u32,
 ) -> Vec<u64>
     requires some { 1 ≤ tuples.windows.now.rounds }
-    requires runs { AreMasks tuples.windows.now.entries (wide tuples.windows.now) tuples.separation.near runs.items }
+    requires buckets { AreMasks tuples.windows.now.entries (wide tuples.windows.now)
+        tuples.separation.near buckets.items }
     ensures { AreMasks tuples.entry.windows.now.entries (family_len tuples.entry.windows.now)
         tuples.entry.separation.far result.items }
 {
@@ -115,9 +116,9 @@ fn family_masks<R: Threads + Sync>(
         separation,
     } = tuples;
     let distance = separation.far;
-    if separation.near == distance && !runs.is_empty() {
-        let len = windows_per_run(table);
-        return joined_masks(alloc, table, &runs, len, len + 1);
+    if separation.near == distance && !buckets.is_empty() {
+        let len = windows_per_bucket(table);
+        return joined_masks(alloc, table, &buckets, len, len + 1);
     }
     let grouping = Grouping {
         len: windows_per_family(table),

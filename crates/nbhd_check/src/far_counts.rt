@@ -11,10 +11,10 @@ ghost use Rattle.win_index.specs.Windows.{IsWindow};
 ghost use Rattle.channel_tables.specs.Tables.{windows_of};
 ghost use Rattle.nbhd_check.specs.Counts.{shared_len, shared_lists, AreCountsOf, CountsFit};
 ghost use Rattle.nbhd_check.specs.FarSearch.{AreFarFreeIn, ArePairNumbers, AreSeconds, HasFamilyIn};
-ghost use Rattle.nbhd_check.specs.Runs.{AreFree, BeginsFarTuple};
+ghost use Rattle.nbhd_check.specs.Buckets.{AreFree, BeginsFarTuple};
 
 use crate::counts::{Counts, close_count, count_family};
-use crate::run_search::window_count;
+use crate::bucket_search::window_count;
 use channel_tables::Table;
 use std::alloc::Global;
 use std::sync::atomic::{AtomicU32, Ordering};

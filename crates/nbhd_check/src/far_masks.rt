@@ -3,18 +3,18 @@
 //! begin with a window are in one family.
 ghost use Rattle.std.specs.Prelude.{◌≡◌, ℕ, List, ◌+◌, ◌-◌, ◌*◌, ◌^◌, ◌<◌, ◌≤◌, Some, drop, take, length};
 ghost use Rattle.std.specs.Prelude.{slice_get, slice_index};
-ghost use Rattle.win_index.specs.Runs.{IsAtPlace, IsRunStart};
-ghost use Rattle.win_index.specs.declared.series.RunPlaces.{RunPlaces};
+ghost use Rattle.win_index.specs.Buckets.{IsAtPlace, IsBucketStart};
+ghost use Rattle.win_index.specs.declared.series.BucketPlaces.{BucketPlaces};
 ghost use Rattle.channel_tables.specs.Tables.{ChannelTable, windows_of};
 ghost use Rattle.nbhd_check.specs.Counts.{family_len};
 ghost use Rattle.nbhd_check.specs.FarSearch.{IsAtFamily};
 ghost use Rattle.nbhd_check.specs.Masks.{AreMasks, NoneClose};
-ghost use Rattle.nbhd_check.specs.Runs.{AreFreeUntil, BeginsFarTuple, wide};
+ghost use Rattle.nbhd_check.specs.Buckets.{AreFreeUntil, BeginsFarTuple, wide};
 
 use crate::masks::count_apart;
-use crate::run_search::{RunSearch, windows_per_run};
+use crate::bucket_search::{BucketSearch, windows_per_bucket};
 use channel_tables::Table;
-use win_index::RunPlaces;
+use win_index::BucketPlaces;
 
 /// The search for windows of which masks do not show that they begin no tuple whose third window is
 /// closer than `distance`.
@@ -27,7 +27,7 @@ pub(crate) struct FarMasks<'a> {
     pub(crate) ghost cover: { AreMasks table.now.entries (family_len table.now) distance masks.items },
 }
 
-impl<'a> RunSearch for FarMasks<'a> {
+impl<'a> BucketSearch for FarMasks<'a> {
     ghost searched = { λ s. s.table.now };
 
     ghost Bad = { λ s. BeginsFarTuple s.table.now s.distance };
@@ -36,27 +36,27 @@ impl<'a> RunSearch for FarMasks<'a> {
         self.table
     }
 
-    fn first_in_run(&self, window: &[u32], run: u32) -> Option<u32> {
+    fn first_in_bucket(&self, window: &[u32], bucket: u32) -> Option<u32> {
         let shape = self.table.shape();
         let below = shape.rounds() - 1;
-        let first = shape.run_start(below, &window[2..2 * below as usize + 2]) as usize;
-        let places = shape.run_places(below, window);
-        self.first_from(run, first, places, shape.place_in_run(below, window))
+        let first = shape.bucket_start(below, &window[2..2 * below as usize + 2]) as usize;
+        let places = shape.bucket_places(below, window);
+        self.first_from(bucket, first, places, shape.place_in_bucket(below, window))
     }
 }
 
 impl<'a> FarMasks<'a> {
-    // Like `first_in_run`. The third windows after the window at position `p` of the run have the
-    // family `first + p`.
-    fn first_from(&self, run: u32, first: usize, places: RunPlaces, place: u32) -> Option<u32>
+    // Like `first_in_bucket`. The third windows after the window at position `p` of the bucket have
+    // the family `first + p`.
+    fn first_from(&self, bucket: u32, first: usize, places: BucketPlaces, place: u32) -> Option<u32>
         requires { (window : List ℕ)
-            × IsAtFamily self.now.table.now (run * wide self.now.table.now) window first places place }
+            × IsAtFamily self.now.table.now (bucket * wide self.now.table.now) window first places place }
         ensures { AreFreeUntil self.now.table.now (BeginsFarTuple self.now.table.now self.now.distance)
-            (run * wide self.now.table.now) (run * wide self.now.table.now + wide self.now.table.now) result }
+            (bucket * wide self.now.table.now) (bucket * wide self.now.table.now + wide self.now.table.now) result }
     {
-        let each = windows_per_run(self.table) as u32;
-        let end = run * each + each;
-        let mut number = run * each;
+        let each = windows_per_bucket(self.table) as u32;
+        let end = bucket * each + each;
+        let mut number = bucket * each;
         let mut place = place;
         while number < end {
             let count = places.series(place, end - number);

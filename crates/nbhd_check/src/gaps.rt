@@ -1,6 +1,6 @@
 //! Close channels in a list, outside a gap.
 ghost use Rattle.std.specs.Prelude.{◌<◌, ◌↔◌, IsTrue, length};
-ghost use Rattle.nbhd_check.specs.Runs.{HasClose, HasCloseOutside};
+ghost use Rattle.nbhd_check.specs.Buckets.{HasClose, HasCloseOutside};
 
 /// Returns whether the list has a channel, at another index than the gap, that differs from
 /// `channel` by less than `distance`.

@@ -1,7 +1,7 @@
 //! The least bad tuple of a table: that of the first window that begins one.
 ghost use Rattle.std.specs.Prelude.{◌≡◌, ℕ, ◌+◌, ◌*◌, ◌≤◌, length};
 ghost use Rattle.channel_tables.specs.Tables.{windows_of, IsTable};
-ghost use Rattle.nbhd_check.specs.Runs.{AreFree, BeginsBadTuple};
+ghost use Rattle.nbhd_check.specs.Buckets.{AreFree, BeginsBadTuple};
 ghost use Rattle.channel_tables.specs.Searches.{IsLeastOfAll};
 
 use crate::far::far_free_windows;

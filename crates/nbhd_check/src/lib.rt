@@ -12,14 +12,14 @@ mod gaps;
 mod laws;
 mod least;
 mod masks;
-mod middle_runs;
+mod middle_buckets;
 mod near;
 mod parallel;
 mod pattern_bits;
 mod patterns;
 mod problem_least;
 mod problem_verdict;
-mod run_search;
+mod bucket_search;
 mod search;
 mod verdict;
 

@@ -1,7 +1,7 @@
-//! Windows that begin a tuple that a pattern matches, run by run. Three windows in a row are one before a
-//! list of `2t` identifiers, one that begins with the list, and one of the next windows after that. Words
-//! of channels show quickly of most runs that no three are forbidden: those that occur at all, and, for
-//! the windows but for one, those that occur more than once.
+//! Windows that begin a tuple that a pattern matches, bucket by bucket. Three windows in a row are one before a
+//!  list of `2t` identifiers, one that begins with the list, and one of the next windows after that. Words
+//! of channels show quickly of most buckets that no three are forbidden: those that occur at all, and, for
+//!  the windows but for one, those that occur more than once.
 ghost use Rattle.std.specs.Prelude.{◌≡◌, ◌≢◌, ℕ, List, [], ◌∷◌, ◌++◌, ◌+◌, ◌*◌, ◌%◌, ◌^◌, ◌<◌, ◌≤◌, IfOk, Some, length};
 ghost use Rattle.std.specs.Prelude.{slice_get, slice_index};
 ghost use Rattle.std.specs.Bool.{OnFalse};
@@ -9,18 +9,18 @@ ghost use Rattle.channel_tables.specs.Tables.{windows_of, IsTable};
 ghost use Rattle.ring_problems.specs.Patterns.{IsForbidden};
 ghost use Rattle.nbhd_check.specs.ChannelsBefore.{AreBefore};
 ghost use Rattle.nbhd_check.specs.Masks.{HasBit, HasBitsOf};
-ghost use Rattle.nbhd_check.specs.MiddleRuns.{AreMiddleRuns, AreNextRuns, IsMiddleRun, in_run};
+ghost use Rattle.nbhd_check.specs.MiddleBuckets.{AreMiddleBuckets, AreNextBuckets, IsMiddleBucket, in_bucket};
 ghost use Rattle.nbhd_check.specs.PatternBits.{AreBits, cell_of};
 ghost use Rattle.nbhd_check.specs.PatternSearch.{IsFirstClear, IsFreeBefore, IsPairClear, IsSecondClear};
-ghost use Rattle.nbhd_check.specs.Runs.{second_gap, second_run, wide};
+ghost use Rattle.nbhd_check.specs.Buckets.{second_gap, second_bucket, wide};
 ghost use Rattle.nbhd_check.specs.ChannelSets.{HasWords};
 
 use crate::before::channels_before;
 use crate::channel_sets::{Words, words_of};
-use crate::middle_runs::{MiddleRun, middle_runs};
-use crate::near::{SecondRuns, channels_of};
+use crate::middle_buckets::{MiddleBucket, middle_buckets};
+use crate::near::{SecondBuckets, channels_of};
 use crate::pattern_bits::{pattern_bits, thirds_after, thirds_after_each};
-use crate::run_search::{window_count, windows_per_run};
+use crate::bucket_search::{window_count, windows_per_bucket};
 use channel_tables::Table;
 use node_program::OutOfMemory;
 use ring_problems::{Pattern, ProblemTuples, first_match, may_begin};
@@ -37,14 +37,14 @@ pub(crate) struct PatternSearch<'a> {
     // The remainders of all channels modulo 64 are below it.
     limit: usize,
     bits: Vec<u64>,
-    middles: Vec<MiddleRun>,
+    middles: Vec<MiddleBucket>,
     before: Vec<u16>,
     ghost table_is: { IsTable table.now },
     ghost some: { 1 ≤ table.now.rounds },
     ghost few: { limit ≤ 64 },
     ghost below: { (channel : ℕ) → channel < table.now.channels → channel % 64 < limit },
     ghost bits_are: { AreBits problem.now limit bits.items },
-    ghost runs_are: { AreMiddleRuns table.now 0 middles.items },
+    ghost buckets_are: { AreMiddleBuckets table.now 0 middles.items },
     ghost all: { length middles.items * wide table.now ≡ length (windows_of table.now) },
     ghost before_are: { AreBefore table.now (length (windows_of table.now)) before.items },
     ghost before_size: { length before.items ≡ length (windows_of table.now) },
@@ -68,7 +68,7 @@ impl<'a> PatternSearch<'a> {
         } = tuples;
         let limit = table.channels().min(64) as usize;
         let bits = pattern_bits(alloc, problem, limit)?;
-        let middles = middle_runs(rt, alloc, table, threads)?;
+        let middles = middle_buckets(rt, alloc, table, threads)?;
         let before = channels_before(alloc, table, &middles)?;
         Ok(PatternSearch {
             table,
@@ -80,52 +80,53 @@ impl<'a> PatternSearch<'a> {
         })
     }
 
-    /// Returns the number of runs.
-    pub(crate) fn runs(&self) -> u32
+    /// Returns the number of buckets.
+    pub(crate) fn buckets(&self) -> u32
         ensures all { result * wide self.now.table.now ≡ length (windows_of self.now.table.now) }
         ensures few { result ≤ 2 ^ 22 }
     {
-        (window_count(self.table) as usize / windows_per_run(self.table)) as u32
+        (window_count(self.table) as usize / windows_per_bucket(self.table)) as u32
     }
 
     /// Returns a number of windows such that none of the windows below it begins a bad tuple whose
-    /// identifiers after the first are those of a run from `low` on and below `high`. `best` is the least
-    /// such number that any thread has found.
-    pub(crate) fn free_in_runs(&self, low: u32, high: u32, best: &AtomicU32) -> u32
+    /// identifiers after the first are those of a bucket from `low` on and below `high`. `best` is
+    /// the least such number that any thread has found.
+    pub(crate) fn free_in_buckets(&self, low: u32, high: u32, best: &AtomicU32) -> u32
         requires { high * wide self.now.table.now ≤ length (windows_of self.now.table.now) }
-        ensures { (run : ℕ) → low ≤ run → run < high → IsFreeBefore self.now.table.now self.now.problem.now result run }
+        ensures { (bucket : ℕ) → low ≤ bucket → bucket < high
+            → IsFreeBefore self.now.table.now self.now.problem.now result bucket }
     {
         let mut least = best.load(Ordering::SeqCst);
-        for run in low..high {
-            let next = self.middle(run as usize).next(run as usize);
-            least = self.free_in_run(next, least, best);
+        for bucket in low..high {
+            let next = self.middle(bucket as usize).next(bucket as usize);
+            least = self.free_in_bucket(next, least, best);
         }
         least
     }
 
     // Returns a number of windows, at most `least`, such that none of the windows below it begins a bad
-    // tuple whose identifiers after the first are those of this run.
-    fn free_in_run(&self, next: SecondRuns, least: u32, best: &AtomicU32) -> u32
-        requires { AreNextRuns self.now.table.now next }
+    // tuple whose identifiers after the first are those of this bucket.
+    fn free_in_bucket(&self, next: SecondBuckets, least: u32, best: &AtomicU32) -> u32
+        requires { AreNextBuckets self.now.table.now next }
         ensures less { result ≤ least }
-        ensures free { IsFreeBefore self.now.table.now self.now.problem.now result next.run }
+        ensures free { IsFreeBefore self.now.table.now self.now.problem.now result next.bucket }
     {
         if !self.may_be_broken(next) {
             return least;
         }
-        let found = self.least_in_run(next, least.min(best.load(Ordering::SeqCst)));
+        let found = self.least_in_bucket(next, least.min(best.load(Ordering::SeqCst)));
         best.fetch_min(found, Ordering::SeqCst);
         found
     }
 
-    // Returns `false` only if no three windows with one of this run in the middle are forbidden.
-    fn may_be_broken(&self, next: SecondRuns) -> bool
-        requires { AreNextRuns self.now.table.now next }
+    // Returns `false` only if no three windows with one of this bucket in the middle are forbidden.
+    fn may_be_broken(&self, next: SecondBuckets) -> bool
+        requires { AreNextBuckets self.now.table.now next }
         ensures { OnFalse result ((place : ℕ) → place < wide self.now.table.now
             → IsSecondClear self.now.table.now self.now.problem.now self.now.before.items next place) }
     {
-        let each = windows_per_run(self.table);
-        let start = next.run * each;
+        let each = windows_per_bucket(self.table);
+        let start = next.bucket * each;
         let words = words_of(&self.before[start..start + each]);
         let thirds = thirds_after_each(&self.bits, self.limit, words.once);
         for place in 0..each {
@@ -139,20 +140,20 @@ impl<'a> PatternSearch<'a> {
     }
 
     // Returns `false` only if no three windows with this one in the middle are forbidden. The words are
-    // those of the windows before the run, and `thirds` has what is forbidden after one of them.
-    fn may_be_broken_at(&self, next: SecondRuns, place: usize, words: Words, thirds: &[u64]) -> bool
-        requires next { AreNextRuns self.now.table.now next }
+    // those of the windows before the bucket, and `thirds` has what is forbidden after one of them.
+    fn may_be_broken_at(&self, next: SecondBuckets, place: usize, words: Words, thirds: &[u64]) -> bool
+        requires next { AreNextBuckets self.now.table.now next }
         requires place { place < wide self.now.table.now }
-        requires words { HasWords (in_run self.now.table.now self.now.before.items next.run) words }
+        requires words { HasWords (in_bucket self.now.table.now self.now.before.items next.bucket) words }
         requires room { length thirds.now ≡ 64 }
         requires thirds { (a b : ℕ) → a % 64 < self.now.limit → b % 64 < self.now.limit → HasBit words.once a
             → HasBitsOf (slice_index thirds.now (b % 64)) (slice_index self.now.bits.items (cell_of a b)) }
         ensures { OnFalse result
             (IsSecondClear self.now.table.now self.now.problem.now self.now.before.items next place) }
     {
-        let own = next.run * windows_per_run(self.table) + place;
+        let own = next.bucket * windows_per_bucket(self.table) + place;
         let second = self.table.entries()[own];
-        let words_after = self.middle(next.run_at(place)).words;
+        let words_after = self.middle(next.bucket_at(place)).words;
         if thirds[second as usize % 64] & words_after.once == 0 {
             return false;
         }
@@ -161,13 +162,13 @@ impl<'a> PatternSearch<'a> {
         thirds_after(&self.bits, self.limit, firsts, second) & ends != 0
     }
 
-    // Returns what is known of a run.
-    fn middle(&self, run: usize) -> MiddleRun
-        requires { run * wide self.now.table.now + wide self.now.table.now ≤ length (windows_of self.now.table.now) }
-        ensures { IsMiddleRun self.now.table.now run result }
+    // Returns what is known of a bucket.
+    fn middle(&self, bucket: usize) -> MiddleBucket
+        requires { bucket * wide self.now.table.now + wide self.now.table.now ≤ length (windows_of self.now.table.now) }
+        ensures { IsMiddleBucket self.now.table.now bucket result }
     {
-        let middles: &[MiddleRun] = &self.middles;
-        middles[run]
+        let middles: &[MiddleBucket] = &self.middles;
+        middles[bucket]
     }
 
     // Returns the channel of the window that has the last identifier of the one with this number first.
@@ -179,41 +180,42 @@ impl<'a> PatternSearch<'a> {
     }
 
     // Returns the channel of the window that is none of the next ones after that at this place.
-    fn channel_at_gap(&self, next: SecondRuns, place: usize) -> u16
-        requires next { AreNextRuns self.now.table.now next }
+    fn channel_at_gap(&self, next: SecondBuckets, place: usize) -> u16
+        requires next { AreNextBuckets self.now.table.now next }
         requires place { place < wide self.now.table.now }
         ensures { result ≡ slice_index self.now.table.now.entries
-            (second_run next place * wide self.now.table.now + second_gap next place) }
+            (second_bucket next place * wide self.now.table.now + second_gap next place) }
     {
-        let start = next.run_at(place) * windows_per_run(self.table);
+        let start = next.bucket_at(place) * windows_per_bucket(self.table);
         self.table.entries()[start + next.gap_at(place)]
     }
 
-    // Like `free_in_run`, by a look at all windows before those of the run.
-    fn least_in_run(&self, next: SecondRuns, least: u32) -> u32
-        requires { AreNextRuns self.now.table.now next }
+    // Like `free_in_bucket`, by a look at all windows before those of the bucket.
+    fn least_in_bucket(&self, next: SecondBuckets, least: u32) -> u32
+        requires { AreNextBuckets self.now.table.now next }
         ensures less { result ≤ least }
-        ensures free { IsFreeBefore self.now.table.now self.now.problem.now result next.run }
+        ensures free { IsFreeBefore self.now.table.now self.now.problem.now result next.bucket }
     {
         let mut least = least;
-        for place in 0..windows_per_run(self.table) {
+        for place in 0..windows_per_bucket(self.table) {
             least = self.least_at(next, place, least);
         }
         least
     }
 
-    // Like `least_in_run`, for the window that has the last identifier of the one at this place first.
-    fn least_at(&self, next: SecondRuns, place: usize, least: u32) -> u32
-        requires next { AreNextRuns self.now.table.now next }
+    // Like `least_in_bucket`, for the window that has the last identifier of the one at this place
+    // first.
+    fn least_at(&self, next: SecondBuckets, place: usize, least: u32) -> u32
+        requires next { AreNextBuckets self.now.table.now next }
         requires place { place < wide self.now.table.now }
         ensures less { result ≤ least }
         ensures free { (number x : ℕ) (z : List ℕ) → number < result
             → slice_get (windows_of self.now.table.now) number ≡ Some (x ∷ z)
-            → slice_get (windows_of self.now.table.now) (next.run * wide self.now.table.now + place)
+            → slice_get (windows_of self.now.table.now) (next.bucket * wide self.now.table.now + place)
             ≡ Some (z ++ x ∷ [])
             → IsFirstClear self.now.table.now self.now.problem.now self.now.before.items next place }
     {
-        let number = self.number_before(next.run, place);
+        let number = self.number_before(next.bucket, place);
         if number < least && self.is_broken(next, place) {
             number
         } else {
@@ -223,15 +225,15 @@ impl<'a> PatternSearch<'a> {
 
     // Returns the number of the window that has the last identifier of the one at this place first, or
     // less.
-    fn number_before(&self, run: usize, place: usize) -> u32
-        requires { run * wide self.now.table.now + place < length (windows_of self.now.table.now) }
+    fn number_before(&self, bucket: usize, place: usize) -> u32
+        requires { bucket * wide self.now.table.now + place < length (windows_of self.now.table.now) }
         ensures { (number x : ℕ) (z : List ℕ) → slice_get (windows_of self.now.table.now) number ≡ Some (x ∷ z)
-            → slice_get (windows_of self.now.table.now) (run * wide self.now.table.now + place) ≡ Some (z ++ x ∷ [])
+            → slice_get (windows_of self.now.table.now) (bucket * wide self.now.table.now + place) ≡ Some (z ++ x ∷ [])
             → result ≤ number }
     {
         let shape = self.table.shape();
         let level = shape.rounds();
-        let number = run * windows_per_run(self.table) + place;
+        let number = bucket * windows_per_bucket(self.table) + place;
         let mut cells = [0; MAX_WINDOW_LEN];
         let window = &mut cells[..2 * level as usize + 1];
         shape.window(level, number as u32, window);
@@ -240,13 +242,13 @@ impl<'a> PatternSearch<'a> {
     }
 
     // Returns `false` only if no three windows with this one first are forbidden.
-    fn is_broken(&self, next: SecondRuns, first: usize) -> bool
-        requires next { AreNextRuns self.now.table.now next }
+    fn is_broken(&self, next: SecondBuckets, first: usize) -> bool
+        requires next { AreNextBuckets self.now.table.now next }
         requires first { first < wide self.now.table.now }
         ensures { OnFalse result
             (IsFirstClear self.now.table.now self.now.problem.now self.now.before.items next first) }
     {
-        for second in 0..windows_per_run(self.table) {
+        for second in 0..windows_per_bucket(self.table) {
             if second != first && self.is_pair_broken(next, first, second) {
                 return true;
             }
@@ -255,13 +257,13 @@ impl<'a> PatternSearch<'a> {
     }
 
     // Returns `false` only if no three windows with this one in the middle are forbidden.
-    fn is_second_broken(&self, next: SecondRuns, second: usize) -> bool
-        requires next { AreNextRuns self.now.table.now next }
+    fn is_second_broken(&self, next: SecondBuckets, second: usize) -> bool
+        requires next { AreNextBuckets self.now.table.now next }
         requires second { second < wide self.now.table.now }
         ensures { OnFalse result
             (IsSecondClear self.now.table.now self.now.problem.now self.now.before.items next second) }
     {
-        for first in 0..windows_per_run(self.table) {
+        for first in 0..windows_per_bucket(self.table) {
             if first != second && self.is_pair_broken(next, first, second) {
                 return true;
             }
@@ -270,17 +272,17 @@ impl<'a> PatternSearch<'a> {
     }
 
     // Returns `false` only if no three windows with these two first are forbidden.
-    fn is_pair_broken(&self, next: SecondRuns, first: usize, second: usize) -> bool
-        requires next { AreNextRuns self.now.table.now next }
+    fn is_pair_broken(&self, next: SecondBuckets, first: usize, second: usize) -> bool
+        requires next { AreNextBuckets self.now.table.now next }
         requires first { first < wide self.now.table.now }
         requires second { second < wide self.now.table.now }
         ensures { OnFalse result
             (IsPairClear self.now.table.now self.now.problem.now self.now.before.items next first second) }
     {
-        let start = next.run * windows_per_run(self.table);
+        let start = next.bucket * windows_per_bucket(self.table);
         let before = self.channel_before(start + first);
         let channels = (before, self.table.entries()[start + second]);
-        let thirds = channels_of(self.table, next.run_at(second));
+        let thirds = channels_of(self.table, next.bucket_at(second));
         has_forbidden_third(self.problem, channels, thirds, next.gap_at(second))
     }
 }

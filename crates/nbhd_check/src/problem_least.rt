@@ -6,13 +6,13 @@ ghost use Rattle.ring_problems.specs.Problems.{IsLeastIn};
 ghost use Rattle.ring_problems.specs.Problems as problems;
 ghost use Rattle.nbhd_check.specs.PatternBits.{AreBits};
 ghost use Rattle.nbhd_check.specs.PatternSearch.{BeginsForbidden, IsNoMiddle};
-ghost use Rattle.nbhd_check.specs.Runs.{AreFree};
+ghost use Rattle.nbhd_check.specs.Buckets.{AreFree};
 ghost use Rattle.nbhd_check.specs.ChannelSets.{HasWords};
 
 use crate::channel_sets::{Words, words_of};
 use crate::pattern_bits::{pattern_bits, thirds_after};
 use crate::patterns::PatternSearch;
-use crate::run_search::window_count;
+use crate::bucket_search::window_count;
 use crate::search::{Search, free_windows};
 use channel_tables::Table;
 use ring_problems::ProblemTuples;

@@ -1,7 +1,7 @@
 //! Searches for windows that begin a bad tuple, in parts on threads.
 ghost use Rattle.std.specs.Prelude.{◌≡◌, ℕ, List, ◌+◌, ◌*◌, ◌^◌, ◌<◌, ◌≤◌, Some, length, slice_get, min};
 ghost use Rattle.channel_tables.specs.Tables.{windows_of};
-ghost use Rattle.nbhd_check.specs.Runs.{AreFree, wide};
+ghost use Rattle.nbhd_check.specs.Buckets.{AreFree, wide};
 ghost use Rattle.nbhd_check.specs.Searches.{searched, AreFreeIn, HasPieces, IsBad, IsInPiece};
 
 use crate::far_counts::FarCounts;
@@ -9,14 +9,14 @@ use crate::far_masks::FarMasks;
 use crate::near::NearSearch;
 use crate::parallel::{least_of_parts, part_count};
 use crate::patterns::PatternSearch;
-use crate::run_search::{first_in_runs, windows_per_run};
+use crate::bucket_search::{first_in_buckets, windows_per_bucket};
 use channel_tables::Table;
 use std::sync::atomic::AtomicU32;
 use std::thread::Threads;
 
-/// A search for the windows of a table that are bad in some sense, piece by piece. A piece is a run, but
-/// for counts the windows whose third windows are in one family, and for patterns the windows whose
-/// second windows are in one run.
+/// A search for the windows of a table that are bad in some sense, piece by piece. A piece is a
+/// bucket, but for counts the windows whose third windows are in one family, and for patterns the
+/// windows whose second windows are in one bucket.
 #[derive(Clone, Copy)]
 pub(crate) enum Search<'s, 'a> {
     /// By masks of second windows, and these windows.
@@ -40,10 +40,10 @@ impl<'s, 'a> Search<'s, 'a> {
             → (piece : ℕ) × (piece < result) × IsInPiece self.entry piece number window }
     {
         match self {
-            Search::Near(search) => runs_of(search.table, most),
-            Search::FarMasks(search) => runs_of(search.table, most),
+            Search::Near(search) => buckets_of(search.table, most),
+            Search::FarMasks(search) => buckets_of(search.table, most),
             Search::FarCounts(search) => search.families(),
-            Search::Patterns(search) => search.runs(),
+            Search::Patterns(search) => search.buckets(),
         }
     }
 
@@ -55,23 +55,23 @@ impl<'s, 'a> Search<'s, 'a> {
         ensures { AreFreeIn self.entry result low high }
     {
         match self {
-            Search::Near(search) => first_in_runs(search, low, high, best),
-            Search::FarMasks(search) => first_in_runs(search, low, high, best),
+            Search::Near(search) => first_in_buckets(search, low, high, best),
+            Search::FarMasks(search) => first_in_buckets(search, low, high, best),
             Search::FarCounts(search) => search.free_in_families(low, high, best),
-            Search::Patterns(search) => search.free_in_runs(low, high, best),
+            Search::Patterns(search) => search.free_in_buckets(low, high, best),
         }
     }
 }
 
-// Returns the number of runs in which the first `most` windows are.
-fn runs_of(table: &Table, most: u32) -> u32
+// Returns the number of buckets in which the first `most` windows are.
+fn buckets_of(table: &Table, most: u32) -> u32
     requires { most ≤ length (windows_of table.now) }
     ensures within { result * wide table.now ≤ length (windows_of table.now) }
     ensures few { result ≤ 2 ^ 22 }
     ensures all { most ≤ result * wide table.now }
     ensures some { 1 ≤ wide table.now }
 {
-    most.div_ceil(windows_per_run(table) as u32)
+    most.div_ceil(windows_per_bucket(table) as u32)
 }
 
 /// Returns a number of windows, at most `most`, such that none of the windows below it is bad. At

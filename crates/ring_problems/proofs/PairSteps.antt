@@ -7,7 +7,7 @@ use Rattle.std.proofs.lemmas.Option.{same_Some}
 use Rattle.win_index.specs.declared.limits.TheConstants.{MAX_IDS, MAX_WINDOWS}
 use Rattle.win_index.specs.declared.shape.Shape.{Shape}
 use Rattle.win_index.specs.Windows.{windows}
-use Rattle.win_index.proofs.Windows.{few_of_shape, windows_more, one_run}
+use Rattle.win_index.proofs.Windows.{few_of_shape, windows_more, one_bucket}
 use Rattle.channel_tables.specs.Tables.{ChannelTable}
 use Rattle.ring_problems.specs.declared.pattern.Pattern.{Pattern}
 use Rattle.ring_problems.specs.Patterns.{is_long}
@@ -24,7 +24,7 @@ next_none t problem number pair at' none n tuple low high item bad =
     let k : ℕ = 2 * t.rounds + 1 + 1 in
     let parts = tuple_parts t.ids t.rounds n problem tuple item in
     let same : parts.place ≡ number =
-    one_run (per_pair t.ids t.rounds problem) parts.place parts.rest number n parts.inside
+    one_bucket (per_pair t.ids t.rounds problem) parts.place parts.rest number n parts.inside
     parts.number low high in
     let begins : take k tuple ≡ pair =
     same_Some (take k tuple) pair (sym parts.front_at ∙ ap (slice_get (windows k t.ids)) same ∙ at') in

@@ -3,7 +3,7 @@
 use Rattle.std.proofs.Common.{◌≡◌, ◌≢◌, ℕ, ◌+◌, ◌-◌, ◌*◌, ◌<◌, ◌≤◌, Bool, true, false, Option, List, length, All}
 use Rattle.std.proofs.Common.{filter, take, drop, slice_get, slice_index, Some}
 use Rattle.win_index.specs.Arcs.{part_at}
-use Rattle.win_index.specs.Runs.{IsRunStart}
+use Rattle.win_index.specs.Buckets.{IsBucketStart}
 use Rattle.win_index.specs.Windows.{unused, IsWindow}
 use Rattle.channel_tables.specs.Tables.{ChannelTable, channel_of}
 use Rattle.ring_problems.specs.declared.pattern.Pattern.{Pattern}
@@ -72,15 +72,15 @@ pub tuple_place : (m t : ℕ) (problem : List Pattern) (tuple : List ℕ) → Is
     → (n : ℕ) × (slice_get (tuples_below m t problem) n ≡ Some tuple)
 tuple_place = TupleParts.tuple_place
 
--- the third window of a tuple is in the run of the second and third window's common identifiers, at a place that is
+-- the third window of a tuple is in the bucket of the second and third window's common identifiers, at a place that is
 -- not the second identifier's
-pub third_in_run : (t : ChannelTable) (problem : List Pattern) (pair tuple : List ℕ) (first gap : ℕ)
+pub third_in_bucket : (t : ChannelTable) (problem : List Pattern) (pair tuple : List ℕ) (first gap : ℕ)
     → is_long problem ≡ true
-    → IsRunStart (2 * t.rounds) t.ids (drop 2 pair) first → length (unused (slice_index pair 1) (drop 2 pair)) ≡ gap
+    → IsBucketStart (2 * t.rounds) t.ids (drop 2 pair) first → length (unused (slice_index pair 1) (drop 2 pair)) ≡ gap
     → IsTuple t.ids t.rounds problem tuple → take (2 * t.rounds + 1 + 1) tuple ≡ pair
     → (place : ℕ) × (place < t.ids - 2 * t.rounds) × (place ≢ gap)
     × (channel_of t (part_at t.rounds 2 tuple) ≡ Some (slice_index t.entries (first + place)))
-third_in_run = Thirds.third_in_run
+third_in_bucket = Thirds.third_in_bucket
 
 -- ---- bad tuples
 

@@ -6,7 +6,7 @@ use Rattle.std.specs.Bool.{OnFalse}
 use Rattle.std.proofs.lemmas.Bool.{cases_lt}
 use Rattle.std.proofs.lemmas.List.{drop-take, take-take, get_or-take, take_all}
 use Rattle.win_index.specs.Arcs.{part_at}
-use Rattle.win_index.specs.Runs.{IsRunStart}
+use Rattle.win_index.specs.Buckets.{IsBucketStart}
 use Rattle.win_index.specs.Windows.{is_used, unused, IsWindow}
 use Rattle.win_index.proofs.Windows.{slice_window, free_at, lacks_from_differs, part_of_front, rank_rises, ranks_differ, unused_left}
 use Rattle.channel_tables.specs.Tables.{ChannelTable, channel_of}
@@ -59,7 +59,7 @@ third_of t problem thirds pair tuple long is tuple_is same =
     get_or-take (k + 1) (drop 2 tuple) k 0 (omega arith) ∙ get_or-drop 2 tuple k 0
     ∙ ap (λ n. get_or tuple n 0) (let sum : 2 + k ≡ 1 + (1 + k) = omega arith in sum)
     ∙ sym (get_or-drop 1 tuple (1 + k) 0) in
-    let item = is.run.each last own begins in
+    let item = is.bucket.each last own begins in
     let own_size = own.size in
     let free_y : is_used front y ≡ false =
     subst (λ list. is_used list y ≡ false) begins (free_at last k own.distinct (omega arith)) in
@@ -140,15 +140,15 @@ pub on_false : (b : Bool) (P Q : Type 0) → (P → Q) → OnFalse b P → OnFal
 on_false true P Q f h = tt
 on_false false P Q f h = f h
 
--- the place and the channel of the third window of a tuple, in the run of its first identifiers
-pub third_in_run : (t : ChannelTable) (problem : List Pattern) (pair tuple : List ℕ) (first gap : ℕ)
+-- the place and the channel of the third window of a tuple, in the bucket of its first identifiers
+pub third_in_bucket : (t : ChannelTable) (problem : List Pattern) (pair tuple : List ℕ) (first gap : ℕ)
     → is_long problem ≡ true
-    → IsRunStart (2 * t.rounds) t.ids (drop 2 pair) first → length (unused (slice_index pair 1) (drop 2 pair)) ≡ gap
+    → IsBucketStart (2 * t.rounds) t.ids (drop 2 pair) first → length (unused (slice_index pair 1) (drop 2 pair)) ≡ gap
     → IsTuple t.ids t.rounds problem tuple → take (2 * t.rounds + 1 + 1) tuple ≡ pair
     → (place : ℕ) × (place < t.ids - 2 * t.rounds) × (place ≢ gap)
     × (channel_of t (part_at t.rounds 2 tuple) ≡ Some (slice_index t.entries (first + place)))
-third_in_run t problem pair tuple first gap long run gap_is is same =
+third_in_bucket t problem pair tuple first gap long bucket gap_is is same =
     let thirds : Thirds = record { first = first; count = t.ids - 2 * t.rounds; gap = gap } in
     let own = third_of t problem thirds pair tuple long
-    (record { run = run; count_is = refl; gap_is = gap_is }) is same in
+    (record { bucket = bucket; count_is = refl; gap_is = gap_is }) is same in
     (own.place, own.inside, own.no_gap, own.channel)

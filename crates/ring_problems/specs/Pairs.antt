@@ -1,7 +1,7 @@
 -- Tuples by the 2t+2 identifiers that they begin with.
 use Rattle.std.specs.Prelude.{◌≡◌, ◌≢◌, ℕ, ◌+◌, ◌-◌, ◌*◌, ◌<◌, Option, Some, List, take, drop, length}
 use Rattle.std.specs.Prelude.{slice_get, slice_index}
-use Rattle.win_index.specs.Runs.{IsRunStart}
+use Rattle.win_index.specs.Buckets.{IsBucketStart}
 use Rattle.win_index.specs.Windows.{unused}
 use Rattle.channel_tables.specs.Tables.{ChannelTable}
 use Rattle.ring_problems.specs.declared.pattern.Pattern.{Pattern}
@@ -19,7 +19,7 @@ NoneBeginsWith t problem pair =
 -- the third windows of the tuples that begin with these 2t+2 identifiers are these: consecutive ones, but for one,
 -- which would end in the second identifier
 pub record IsThirds (t : ChannelTable) (pair : List ℕ) (thirds : Thirds) : Type 0 where
-  pub run : IsRunStart (2 * t.rounds) t.ids (drop 2 pair) thirds.first
+  pub bucket : IsBucketStart (2 * t.rounds) t.ids (drop 2 pair) thirds.first
   pub count_is : thirds.count ≡ t.ids - 2 * t.rounds
   pub gap_is : length (unused (slice_index pair 1) (drop 2 pair)) ≡ thirds.gap
 

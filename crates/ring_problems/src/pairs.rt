@@ -91,7 +91,7 @@ impl<'a> ProblemTuples<'a, Table> {
         let shape = self.windows.shape();
         let front = &pair[2..];
         Thirds {
-            first: shape.run_start(shape.rounds(), front),
+            first: shape.bucket_start(shape.rounds(), front),
             count: shape.ids() - 2 * shape.rounds(),
             gap: place_among_unused(front, pair[1]),
         }

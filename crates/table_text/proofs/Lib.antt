@@ -11,5 +11,5 @@ mod TextLimit
 mod Orders
 mod PrefixTexts
 mod Odometers
-mod RunLines
+mod BucketLines
 pub mod TableTexts

@@ -24,10 +24,10 @@ later_below k m last order is from lt =
     let x : get_or (take m order) (k + i) 0 ≡ get_or order last 0 = rw here (get_or-take m order last 0 lt) in
     rw x at (unused_is (take k (take m order)) m i _ (lacked_in_turn k m i (take m order) is (omega arith))).below
 
--- the last identifiers of windows of the run
-pub run_below : (o : Odometer) (count : ℕ) → IsOdometer o → o.last + count ≤ o.ids →
+-- the last identifiers of windows of the bucket
+pub bucket_below : (o : Odometer) (count : ℕ) → IsOdometer o → o.last + count ≤ o.ids →
     All (λ id. id < o.ids) (take count (drop o.last o.order))
-run_below o count is le =
+bucket_below o count is le =
     let ids = take count (drop o.last o.order) in
     All-from_get_or (λ id. id < o.ids) ids 0 (λ k lt.
     let few : k < count = omega (arith, length-take count (drop o.last o.order)) in

@@ -12,7 +12,7 @@ use Rattle.std.proofs.lemmas.List.{get_or-set_other, nil_from_length}
 use Rattle.std.proofs.lemmas.List.Folds.{list_any-append}
 use Rattle.std.proofs.lemmas.Option.{slice_get-get_or, slice_get_within, same_Some}
 use Rattle.win_index.specs.Windows.{is_used, unused, windows, IsWindow}
-use Rattle.win_index.proofs.Windows.{slice_get-append_right, lacks, unused_at, push_window, window_from_parts, length-windows, free_at, unused_is, unused_left, unused_split, unused_suc, window_take, run_of}
+use Rattle.win_index.proofs.Windows.{slice_get-append_right, lacks, unused_at, push_window, window_from_parts, length-windows, free_at, unused_is, unused_left, unused_split, unused_suc, window_take, bucket_of}
 use Rattle.table_text.specs.Orders.{IsOrder, IsLater, IsFollowedBy, IsStep, ArePlaces, place_of}
 
 -- ---- one number more
@@ -204,7 +204,7 @@ record Ends (k m n i : ℕ) (front : List ℕ) : Type 0 where
 ends : (k m n i x : ℕ) (front : List ℕ) → slice_get (windows (k + 1) m) n ≡ Some (front ++ x ∷ []) →
     slice_get (unused m front) i ≡ Some x → Ends k m n i front
 ends k m n i x front item at' =
-    let of = run_of k m n (front ++ x ∷ []) item in
+    let of = bucket_of k m n (front ++ x ∷ []) item in
     let size : length front ≡ k = omega (arith, length-append front (x ∷ []), of.is.size) in
     let first : take k (front ++ x ∷ []) ≡ front = take_at front (x ∷ []) k size in
     let last : get_or (front ++ x ∷ []) k 0 ≡ x = get_or_at front x [] 0 k size in
@@ -462,13 +462,13 @@ last_place k m last window order is ordered same place =
       rw (same, own) (sym (take_more window k 0 long) ∙ take_all (k + 1) window (omega (arith, is.size))),
     )
 
--- ---- the windows of a run
+-- ---- the windows of a bucket
 
--- a later number after the window ends a later window of the run
-pub later_of_run : (count k m last : ℕ) (order : List ℕ) → IsOrder k m (take m order) → k ≤ last → last + count < m
+-- a later number after the window ends a later window of the bucket
+pub later_of_bucket : (count k m last : ℕ) (order : List ℕ) → IsOrder k m (take m order) → k ≤ last → last + count < m
     → IsLater count (k + 1) m (take k order ++ get_or order last 0 ∷ [])
     (take k order ++ get_or order (last + count) 0 ∷ [])
-later_of_run count k m last order is from lt =
+later_of_bucket count k m last order is from lt =
     let i : ℕ = last - k in
     let here : k + i ≡ last = omega arith in
     let there : k + (i + count) ≡ last + count = omega arith in
@@ -481,11 +481,11 @@ later_of_run count k m last order is from lt =
     let front : take k (take m order) ≡ take k order = take-take k m order (omega arith) in
     rw (front, x, y) at (later_here count k m i _ _ (take k (take m order)) at_x at_y)
 
--- the last window of a run is followed by the first one of the next run
-pub next_run : (k m last : ℕ) (old new : List ℕ) → IsOrder k m (take m old) → k ≤ last → last + 1 ≡ m →
+-- the last window of a bucket is followed by the first one of the next bucket
+pub next_bucket : (k m last : ℕ) (old new : List ℕ) → IsOrder k m (take m old) → k ≤ last → last + 1 ≡ m →
     IsStep k m (take m old) new
     → IsFollowedBy (k + 1) m (take k old ++ get_or old last 0 ∷ []) (take k new ++ get_or new k 0 ∷ [])
-next_run k m last old new is from end step =
+next_bucket k m last old new is from end step =
     let i : ℕ = last - k in
     let here : k + i ≡ last = omega arith in
     let none : k + 0 ≡ k = omega arith in

@@ -26,9 +26,9 @@ ids_more (x ∷ ids) id rest = ap (λ l. decimal x ++ 32 ∷ l) (ids_more ids id
     ∙ sym (append_assoc (decimal x) (32 ∷ ids_then ids []) (decimal id ++ 32 ∷ rest))
 
 -- the line of a window, from its prefix, its last identifier and its channel
-pub line_of_run : (front : List ℕ) (id channel : ℕ)
+pub line_of_bucket : (front : List ℕ) (id channel : ℕ)
     → ids_then front [] ++ (id_text id ++ channel_text channel) ≡ entry_then (front ++ id ∷ []) channel []
-line_of_run front id channel =
+line_of_bucket front id channel =
     sym (append_assoc (ids_then front []) (id_text id) (channel_text channel))
     ∙ ap (λ text. text ++ channel_text channel) (sym (ids_more front id []))
     ∙ ids_append (front ++ id ∷ []) [] (channel_text channel)
@@ -39,7 +39,7 @@ pub line_before : (front : List ℕ) (id channel : ℕ) (rest : List ℕ)
 line_before front id channel rest =
     ap (λ l. ids_then front [] ++ l) (sym (append_assoc (id_text id) (channel_text channel) rest))
     ∙ sym (append_assoc (ids_then front []) (id_text id ++ channel_text channel) rest)
-    ∙ ap (λ l. l ++ rest) (line_of_run front id channel)
+    ∙ ap (λ l. l ++ rest) (line_of_bucket front id channel)
     ∙ entry_append (front ++ id ∷ []) channel [] rest
 
 -- the table with its first entries only

@@ -10,10 +10,10 @@ use Rattle.table_text.specs.declared.odometer.Odometer.{Odometer}
 abbrev pub Shows : ChannelTable → ℕ → Odometer → Type 0
 Shows t = ShowsNumber t.rounds t.ids
 
--- the odometer shows the table's window of this number, and so many windows from that one on are of one run
-pub record ShowsRun (t : ChannelTable) (first count : ℕ) (o : Odometer) : Type 0 where
+-- the odometer shows the table's window of this number, and so many windows from that one on are of one bucket
+pub record ShowsBucket (t : ChannelTable) (first count : ℕ) (o : Odometer) : Type 0 where
   pub shows : Shows t first o
-  pub run : o.last + count ≤ o.ids
+  pub bucket : o.last + count ≤ o.ids
   pub within : first + count ≤ length (windows_of t)
 
 -- the lines of this many windows from a number on, as far as there are so many
@@ -21,11 +21,11 @@ abbrev pub lines_from : ChannelTable → ℕ → ℕ → List ℕ
 lines_from t first count = entries_then (drop first (windows_of t)) (take count (drop first t.entries)) []
 
 -- a line for each of these identifiers and the channel at its place, each line with the same text before the identifier
-abbrev pub run_lines : List ℕ → List ℕ → List ℕ → List ℕ
-run_lines prefix ids [] = []
-run_lines prefix [] (channel ∷ channels) = []
-run_lines prefix (id ∷ ids) (channel ∷ channels) =
-    prefix ++ (id_text id ++ (channel_text channel ++ run_lines prefix ids channels))
+abbrev pub bucket_lines : List ℕ → List ℕ → List ℕ → List ℕ
+bucket_lines prefix ids [] = []
+bucket_lines prefix [] (channel ∷ channels) = []
+bucket_lines prefix (id ∷ ids) (channel ∷ channels) =
+    prefix ++ (id_text id ++ (channel_text channel ++ bucket_lines prefix ids channels))
 
 -- the chunks have no bytes
 abbrev pub AreEmpty : List (List ℕ) → Type 0

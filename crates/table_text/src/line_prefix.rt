@@ -1,4 +1,4 @@
-//! The text of the identifiers that the windows of a run share.
+//! The text of the identifiers that the windows of a bucket share.
 ghost use Rattle.std.specs.Prelude.{◌≡◌, ◌<◌, ◌≤◌, [], All, length, take};
 ghost use Rattle.table_text.specs.declared.line_prefix.TheConstants.{PREFIX_LEN, SHORT_LEN};
 

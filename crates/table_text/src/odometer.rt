@@ -149,7 +149,7 @@ impl Odometer {
         }
     }
 
-    // Returns the number of windows of the run from this one on.
+    // Returns the number of windows of the bucket from this one on.
     pub(crate) fn left(&self) -> u32
         requires { IsOdometer self.now }
         ensures count { self.now.last + result ≡ self.now.ids }
@@ -158,7 +158,7 @@ impl Odometer {
         (self.ids - self.last) as u32
     }
 
-    // Returns the last identifiers of so many windows of the run from this one on.
+    // Returns the last identifiers of so many windows of the bucket from this one on.
     pub(crate) fn last_ids(&self, count: u32) -> &[u32]
         requires is { IsOdometer self.now }
         requires within { self.now.last + count ≤ self.now.ids }
@@ -168,7 +168,7 @@ impl Odometer {
         &self.order[self.last..self.last + count as usize]
     }
 
-    // Shows the window that is so many later, if there is one. Those before it are of the run.
+    // Shows the window that is so many later, if there is one. Those before it are of the bucket.
     pub(crate) fn advance_by(&mut self, count: u32, pieces: &[Piece])
         requires is { IsOdometer self.old }
         requires within { (0 < count) × (self.old.last + count ≤ self.old.ids) }
@@ -189,13 +189,13 @@ impl Odometer {
         if self.last + 1 < self.ids {
             self.last += 1;
         } else {
-            self.next_run(pieces);
+            self.next_bucket(pieces);
         }
     }
 
     // Shows the first window with the next prefix, if there is one, after the last one with a
     // prefix.
-    fn next_run(&mut self, pieces: &[Piece])
+    fn next_bucket(&mut self, pieces: &[Piece])
         requires is { IsOdometer self.old × (self.old.ids ≤ self.old.last + 1) }
         requires pieces { AreTexts id_text pieces.now × (length pieces.now ≡ self.old.ids) }
         ensures { IsAdvanced 1 self.old self.new }

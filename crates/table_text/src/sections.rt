@@ -7,7 +7,7 @@ ghost use Rattle.win_index.specs.declared.limits.TheConstants.{MAX_ROUNDS, MAX_W
 ghost use Rattle.channel_tables.specs.Tables.{windows_of};
 ghost use Rattle.table_text.specs.declared.sections.TheConstants.{LINES_LEN, LINE_LEN};
 ghost use Rattle.table_text.specs.declared.line_prefix.TheConstants.{PREFIX_LEN};
-ghost use Rattle.table_text.specs.Sections.{lines_from, run_lines, AreEmpty, AreFilled, Shows, ShowsRun};
+ghost use Rattle.table_text.specs.Sections.{lines_from, bucket_lines, AreEmpty, AreFilled, Shows, ShowsBucket};
 ghost use Rattle.table_text.specs.Pieces.{id_text, channel_text, AreTexts, ArePieces};
 
 use crate::line_prefix::{PREFIX_LEN, SHORT_LEN};
@@ -137,18 +137,18 @@ impl Lines<'_> {
         let mut next = first;
         while next < end {
             let count = odometer.left().min(end - next);
-            self.store_run(odometer, chunk, next, count);
+            self.store_bucket(odometer, chunk, next, count);
             odometer.advance_by(count, ids);
             next += count;
         }
     }
 
     // Appends to a chunk the lines of so many windows from this one on, which the odometer shows. They
-    // are of one run. It is not inlined, so that its loop has registers.
+    // are of one bucket. It is not inlined, so that its loop has registers.
     #[inline(never)]
-    fn store_run(self, odometer: &Odometer, chunk: &mut Chunk, first: u32, count: u32)
+    fn store_bucket(self, odometer: &Odometer, chunk: &mut Chunk, first: u32, count: u32)
         requires room { length chunk.old + count * (16 * self.table.now.rounds + 16) + LINE_LEN ≤ CHUNK_LEN }
-        requires run { ShowsRun self.table.now first count odometer.now }
+        requires bucket { ShowsBucket self.table.now first count odometer.now }
         ensures lines { chunk.new ≡ chunk.old ++ lines_from self.entry.table.now first count }
         ensures filled { length chunk.new ≤ length chunk.old + count * (16 * self.entry.table.now.rounds + 16) }
     {
@@ -163,7 +163,7 @@ impl Lines<'_> {
                 buffer: &start,
                 len: prefix.len,
             };
-            chunk.push_stored(&RunLines {
+            chunk.push_stored(&BucketLines {
                 pieces,
                 channels,
                 prefix,
@@ -171,7 +171,7 @@ impl Lines<'_> {
             });
         } else {
             let prefix = prefix.buffered();
-            chunk.push_stored(&RunLines {
+            chunk.push_stored(&BucketLines {
                 pieces,
                 channels,
                 prefix,
@@ -183,7 +183,7 @@ impl Lines<'_> {
 
 // A line for each of these channels and the last identifier at its place, each line with this prefix.
 #[derive(Clone, Copy)]
-struct RunLines<'t, 'o, 'p> {
+struct BucketLines<'t, 'o, 'p> {
     pieces: &'t Pieces,
     channels: &'t [u16],
     prefix: Buffered<'p>,
@@ -195,8 +195,8 @@ struct RunLines<'t, 'o, 'p> {
     ghost count: { length last_ids.now ≡ length channels.now },
 }
 
-impl ToBytes for RunLines<'_, '_, '_> {
-    ghost text = { λ lines. run_lines (buffered_text lines.prefix) lines.last_ids.now lines.channels.now };
+impl ToBytes for BucketLines<'_, '_, '_> {
+    ghost text = { λ lines. bucket_lines (buffered_text lines.prefix) lines.last_ids.now lines.channels.now };
 
     ghost most = { λ lines. length lines.channels.now * (length (buffered_text lines.prefix) + 16) };
 

@@ -1,7 +1,7 @@
 -- Lemmas that several proofs share. Other crates cite those of KnownBlocks.
 mod Known
-mod SameRun
-mod NextRuns
+mod SameBucket
+mod NextBuckets
 mod ColumnStates
 mod IgnoredRight
 mod SeriesStates

@@ -3,19 +3,19 @@ use Rattle.std.specs.Prelude.{◌≡◌, ℕ, ◌+◌, ◌*◌, ◌/◌, ◌%◌
 use Rattle.std.specs.Prelude.{IsSome, IfSome}
 use Rattle.lang_check.specs.Plans.{ProgramForIds}
 use Rattle.node_program.specs.Node.{to_right}
-use Rattle.win_index.specs.RunPrefixes.{HasNumbers}
-use Rattle.win_index.specs.Runs.{IsRunStart, HasPlaces, IsEndOfSame, IsAtPlace}
+use Rattle.win_index.specs.BucketPrefixes.{HasNumbers}
+use Rattle.win_index.specs.Buckets.{IsBucketStart, HasPlaces, IsEndOfSame, IsAtPlace}
 use Rattle.win_index.specs.Windows.{windows, number_of, IsWindow}
 use Rattle.round_eval.specs.Line.{middle_state}
 use Rattle.unroll.specs.Below.{part, IsPartNumber}
 use Rattle.round_eval.specs.BlockStates.{MadeBlock, window_numbered, block_len}
 use Rattle.round_eval.specs.Entries.{Entries, IsEntry}
-use Rattle.unroll.specs.declared.run.Reached.{Reached}
-use Rattle.win_index.specs.declared.run_prefix.RunPrefix.{RunPrefix}
+use Rattle.unroll.specs.declared.bucket.Reached.{Reached}
+use Rattle.win_index.specs.declared.bucket_prefix.BucketPrefix.{BucketPrefix}
 use Rattle.unroll.specs.declared.upper_block.UpperBlock.{UpperBlock}
-use Rattle.unroll.specs.declared.run.FirstPart.{FirstPart}
-use Rattle.unroll.specs.declared.run.Near.{Near}
-use Rattle.unroll.specs.declared.run.Run.{Run}
+use Rattle.unroll.specs.declared.bucket.FirstPart.{FirstPart}
+use Rattle.unroll.specs.declared.bucket.Near.{Near}
+use Rattle.unroll.specs.declared.bucket.Bucket.{Bucket}
 use Rattle.win_index.specs.declared.limits.TheConstants.{BLOCK_WINDOWS}
 
 -- w is the first window of block b of level r
@@ -35,7 +35,7 @@ pub record IsWindowIn (block : UpperBlock) (index : ℕ) : Type 0 where
   pub window : IsWindow (2 * block.below + 3) block.plan.now.ids (window_in block index)
 
 -- the prefix of this window has these numbers
-pub record IsAtIndex (block : UpperBlock) (index : ℕ) (prefix : RunPrefix) : Type 0 where
+pub record IsAtIndex (block : UpperBlock) (index : ℕ) (prefix : BucketPrefix) : Type 0 where
   pub is : IsWindowIn block index
   pub has : HasNumbers (2 * block.below + 2) block.plan.now.ids
       (take (2 * block.below + 2) (window_in block index)) prefix
@@ -78,16 +78,16 @@ pub record IsNear (plan : ProgramForIds) (entries : Entries) (low : ℕ) (near :
   pub middle : IfSome near.middle (λ b. IsKnownBlock plan entries low b.now)
   pub last : IfSome near.last (λ b. IsKnownBlock plan entries low b.now)
 
--- What the windows of the run of w share, one level above low: the number of the first window in the run of their last
--- parts, the positions of these, their first part, and the state of their middle part. The blocks of the first and the
--- middle part are known.
-pub record IsRun (plan : ProgramForIds) (entries : Entries) (low : ℕ) (w : List ℕ) (run : Run) : Type 0 where
-  pub start_is : IsRunStart (2 * low) plan.ids (take (2 * low) (drop 2 w)) run.start
-  pub places_are : HasPlaces (2 * low + 1) plan.ids w run.places
-  pub first_is : IsFirstPartOf plan entries low w run.first
-  pub middle_is : IsKnownBlock plan entries low run.middle.now
-  pub own_is : run.own.now ≡ middle_state plan.program low (part w low 1)
-  pub own_cells : length run.own.now ≡ length plan.program.start
+-- What the windows of the bucket of w share, one level above low: the number of the first window in the bucket of their
+-- last parts, the positions of these, their first part, and the state of their middle part. The blocks of the first and
+-- the middle part are known.
+pub record IsBucket (plan : ProgramForIds) (entries : Entries) (low : ℕ) (w : List ℕ) (bucket : Bucket) : Type 0 where
+  pub start_is : IsBucketStart (2 * low) plan.ids (take (2 * low) (drop 2 w)) bucket.start
+  pub places_are : HasPlaces (2 * low + 1) plan.ids w bucket.places
+  pub first_is : IsFirstPartOf plan entries low w bucket.first
+  pub middle_is : IsKnownBlock plan entries low bucket.middle.now
+  pub own_is : bucket.own.now ≡ middle_state plan.program low (part w low 1)
+  pub own_cells : length bucket.own.now ≡ length plan.program.start
   pub own_known : KnowsPart entries plan.ids low w 1
 
 -- the parts of the first `count` windows of block b of level r are known
@@ -96,23 +96,23 @@ KnowsBelow entries m r b count =
     (low place : ℕ) → r ≡ low + 1 → place < count
     → KnowsParts entries m low (window_numbered m r (BLOCK_WINDOWS * b + place))
 
--- the window of level r with number n is the last one of the run of w
+-- the window of level r with number n is the last one of the bucket of w
 abbrev pub EndsAt : ℕ → ℕ → List ℕ → ℕ → Type 0
 EndsAt m r w n = (last : List ℕ) × (slice_get (windows (2 * r + 1) m) n ≡ Some last) × IsEndOfSame (2 * r + 1) m w last
 
--- window `place` of an upper block is w, it is in the run of the window `first`, and at this position of it
-pub record InRun (block : UpperBlock) (first : List ℕ) (run : Run) (place at' : ℕ) (w : List ℕ) : Type 0 where
+-- window `place` of an upper block is w, it is in the bucket of the window `first`, and at this position of it
+pub record InBucket (block : UpperBlock) (first : List ℕ) (bucket : Bucket) (place at' : ℕ) (w : List ℕ) : Type 0 where
   pub here : slice_get (windows (2 * (block.below + 1) + 1) block.plan.now.ids) (BLOCK_WINDOWS * block.number + place)
       ≡ Some w
   pub same : take (2 * block.below + 2) w ≡ take (2 * block.below + 2) first
-  pub is : IsAtPlace (2 * block.below + 1) block.plan.now.ids run.places w at'
+  pub is : IsAtPlace (2 * block.below + 1) block.plan.now.ids bucket.places w at'
 
--- a place among the windows of an upper block: the index of a window, the position of its last part, its run, and a
+-- a place among the windows of an upper block: the index of a window, the position of its last part, its bucket, and a
 -- known block that may hold the last part of another window
 pub record IsReached (entries : Entries) (block : UpperBlock) (reached : Reached) : Type 0 where
   pub inside : reached.index < block_len block.plan.now.ids (block.below + 1) block.number
-  pub run : IsRun block.plan.now entries block.below (window_in block reached.index) reached.run
-  pub here : InRun block (window_in block reached.index) reached.run reached.index reached.place
+  pub bucket : IsBucket block.plan.now entries block.below (window_in block reached.index) reached.bucket
+  pub here : InBucket block (window_in block reached.index) reached.bucket reached.index reached.place
       (window_in block reached.index)
-  pub before_end : reached.place < reached.run.places.end
+  pub before_end : reached.place < reached.bucket.places.end
   pub last : IfSome reached.last (λ b. IsKnownBlock block.plan.now entries block.below b.now)

@@ -15,7 +15,7 @@ use Rattle.round_eval.specs.HeldStates.{first_states}
 use Rattle.unroll.specs.Parts.{window_in, IsKnownBlock, KnowsBelow, EndsAt}
 use Rattle.unroll.specs.RightReads.{round_reads_right}
 use Rattle.unroll.specs.declared.scratch.Scratch.{Scratch}
-use Rattle.unroll.specs.declared.run.Run.{Run}
+use Rattle.unroll.specs.declared.bucket.Bucket.{Bucket}
 use Rattle.unroll.specs.declared.upper_block.UpperBlock.{UpperBlock}
 
 -- the state of the part at offset d of window i of an upper block
@@ -34,28 +34,29 @@ right_message block i = to_left block.plan.now.program block.below (part_state b
 abbrev pub state_in : UpperBlock → ℕ → List ℕ
 state_in block i = block_state block.plan.now (block.below + 1) block.number i
 
--- the first two parts of window i of an upper block are those of a run
-pub record HasFronts (block : UpperBlock) (run : Run) (i : ℕ) : Type 0 where
+-- the first two parts of window i of an upper block are those of a bucket
+pub record HasFronts (block : UpperBlock) (bucket : Bucket) (i : ℕ) : Type 0 where
   pub size : length (window_in block i) ≡ 2 * block.below + 3
-  pub left : run.first.sent ≡ left_message block i
-  pub own : run.own.now ≡ part_state block 1 i
+  pub left : bucket.first.sent ≡ left_message block i
+  pub own : bucket.own.now ≡ part_state block 1 i
 
--- the windows of an upper block from one index to another, at most BLOCK_WINDOWS, have the first two parts of a run
-pub record ShareFronts (block : UpperBlock) (run : Run) (from end : ℕ) : Type 0 where
+-- the windows of an upper block from one index to another, at most BLOCK_WINDOWS, have the first two parts of a bucket
+pub record ShareFronts (block : UpperBlock) (bucket : Bucket) (from end : ℕ) : Type 0 where
   pub order : from ≤ end
   pub few : end ≤ BLOCK_WINDOWS
-  pub cells : length run.own.now ≡ length block.plan.now.program.start
-  pub each : (i : ℕ) → from ≤ i → i < end → HasFronts block run i
+  pub cells : length bucket.own.now ≡ length block.plan.now.program.start
+  pub each : (i : ℕ) → from ≤ i → i < end → HasFronts block bucket i
 
 -- the first `count` windows of an upper block, without their last parts: item i of the columns is the message of window
--- i from the left and the state of its middle part, or, where the round is evaluated once a run, the state of window i
+-- i from the left and the state of its middle part, or, where the round is evaluated once a bucket, the state of window
+-- i
 pub record HoldFronts (block : UpperBlock) (count : ℕ) (scratch : Scratch) : Type 0 where
   pub sizes : (i : ℕ) → i < count → length (window_in block i) ≡ 2 * block.below + 3
-  pub left : block.once_a_run ≡ false → (i : ℕ) → i < count
+  pub left : block.once_a_bucket ≡ false → (i : ℕ) → i < count
       → slice_index scratch.from_left.items i ≡ left_message block i
-  pub own : block.once_a_run ≡ false → (i : ℕ) → i < count
+  pub own : block.once_a_bucket ≡ false → (i : ℕ) → i < count
       → slice_index_or scratch.own.states i [] ≡ part_state block 1 i
-  pub states : block.once_a_run ≡ true → (i : ℕ) → i < count
+  pub states : block.once_a_bucket ≡ true → (i : ℕ) → i < count
       → slice_index_or scratch.made.states i [] ≡ state_in block i
 
 -- item i of a list is the message of window i of an upper block from the right, if the round reads it
@@ -73,23 +74,23 @@ pub record AreGathered (entries : Entries) (block : UpperBlock) (count : ℕ) (s
   pub taken : AreTaken entries block count scratch.from_right.items
 
 -- the last parts of the windows before the index `end` were taken so, and those from an index on have the first two
--- parts of a run
-pub record AreTakenInRun (entries : Entries) (block : UpperBlock) (run : Run) (from end : ℕ)
+-- parts of a bucket
+pub record AreTakenInBucket (entries : Entries) (block : UpperBlock) (bucket : Bucket) (from end : ℕ)
     (sent : List ℕ) : Type 0 where
-  pub fronts : (i : ℕ) → from ≤ i → i < end → HasFronts block run i
+  pub fronts : (i : ℕ) → from ≤ i → i < end → HasFronts block bucket i
   pub taken : AreTaken entries block end sent
 
--- such windows up to where their run ends, or the block; the known block `last` holds the last part of the one
+-- such windows up to where their bucket ends, or the block; the known block `last` holds the last part of the one
 -- before `end`
-pub record IsRunGathered
-    (entries : Entries) (block : UpperBlock) (run : Run) (from end : ℕ) (last : MadeBlock) (sent : List ℕ)
+pub record IsBucketGathered
+    (entries : Entries) (block : UpperBlock) (bucket : Bucket) (from end : ℕ) (last : MadeBlock) (sent : List ℕ)
     : Type 0 where
   pub later : from < end
   pub within : end ≤ block_len block.plan.now.ids (block.below + 1) block.number
   pub ended : end < block_len block.plan.now.ids (block.below + 1) block.number
       → EndsAt block.plan.now.ids (block.below + 1) (window_in block from) (BLOCK_WINDOWS * block.number + (end - 1))
   pub last_is : IsKnownBlock block.plan.now entries block.below last
-  pub taken : AreTakenInRun entries block run from end sent
+  pub taken : AreTakenInBucket entries block bucket from end sent
 
 -- the `count` items from a place on are these now, and the items before them are unchanged
 pub record AreWritten (A : Type 0) (none : A) (old new : List A) (place count : ℕ) (item : ℕ → A) : Type 0 where

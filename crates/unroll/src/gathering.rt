@@ -5,12 +5,12 @@ ghost use Rattle.round_eval.specs.HeldStates.{HoldsSent};
 ghost use Rattle.unroll.specs.MakeFaults.{KnowsAllBelow, LooksUp};
 ghost use Rattle.unroll.specs.Parts.{IsFirstWindow, IsReached};
 ghost use Rattle.unroll.specs.WideColumns.{AreGathered, AreTaken, HoldBlock, HoldFronts, IsReady};
-ghost use Rattle.unroll.specs.WideColumns.{IsRunGathered, ShareFronts};
+ghost use Rattle.unroll.specs.WideColumns.{IsBucketGathered, ShareFronts};
 ghost use Rattle.win_index.specs.Blocks.{block_count};
 
 use crate::fault::MakeFault;
 use crate::parts::{LastParts, part_block, put_lasts};
-use crate::run::{Near, Reached, Run, start_run};
+use crate::bucket::{Near, Reached, Bucket, start_bucket};
 use crate::scratch::{Scratch, fill_some};
 use crate::upper_block::UpperBlock;
 use crate::{Code, next_columns, start_columns, to_left_columns, to_right_columns};
@@ -18,8 +18,8 @@ use node_program::MAX_REGISTERS;
 use round_eval::{Block, Source, block_len, first_number, states_from_parts, step, width_of};
 use win_index::{BLOCK_WINDOWS, MAX_WINDOW_LEN, Shape};
 
-// Gathers the parts of each window of a block, whose first window is `window`, run by run. Where
-// the round is evaluated once a run, it writes the states after it in place of the parts.
+// Gathers the parts of each window of a block, whose first window is `window`, bucket by bucket.
+// Where the round is evaluated once a bucket, it writes the states after it in place of the parts.
 pub(crate) fn gather<'s, S: Source<'s>>(
     upper: UpperBlock<'_>,
     source: &mut S,
@@ -37,8 +37,8 @@ pub(crate) fn gather<'s, S: Source<'s>>(
     let shape = upper.plan.shape();
     let below = upper.below;
     let len = upper.len;
-    let mut prefixes = shape.run_prefixes_from(below, window);
-    let mut place = shape.place_in_run(below, window);
+    let mut prefixes = shape.bucket_prefixes_from(below, window);
+    let mut place = shape.place_in_bucket(below, window);
     let mut index = 0;
     let mut near = Near {
         first: None,
@@ -46,15 +46,15 @@ pub(crate) fn gather<'s, S: Source<'s>>(
         last: None,
     };
     loop {
-        let run = start_run(upper, source, index, prefixes.prefix(), near)?;
+        let bucket = start_bucket(upper, source, index, prefixes.prefix(), near)?;
         let reached = Reached {
             index,
             place,
-            run,
+            bucket,
             last: near.last,
         };
-        let (after, block) = gather_run(upper, source, reached, &mut scratch.from_right)?;
-        take_fronts(upper, run, index, after, scratch);
+        let (after, block) = gather_bucket(upper, source, reached, &mut scratch.from_right)?;
+        take_fronts(upper, bucket, index, after, scratch);
         if after == len {
             return Ok(());
         }
@@ -65,18 +65,18 @@ pub(crate) fn gather<'s, S: Source<'s>>(
         place = shape.prefix_places(below, prefixes.prefix()).first();
         index = after;
         near = Near {
-            first: Some(run.first),
-            middle: Some(run.middle),
+            first: Some(bucket.first),
+            middle: Some(bucket.middle),
             last: Some(block),
         };
     }
 }
 
-// Asks for the blocks of the last parts of the windows in the run of the place that is reached,
+// Asks for the blocks of the last parts of the windows in the bucket of the place that is reached,
 // from that place on, and writes the messages of these parts to `sent` if the round reads them.
 // Returns the index of the end of these windows, and the block that holds the last part of the last
 // of them.
-fn gather_run<'s, S: Source<'s>>(
+fn gather_bucket<'s, S: Source<'s>>(
     upper: UpperBlock<'_>,
     source: &mut S,
     reached: Reached<'s>,
@@ -88,19 +88,19 @@ fn gather_run<'s, S: Source<'s>>(
     requires taken { AreTaken (S.entries source.old) upper reached.index sent.old }
     ensures { let u = upper.entry in
         LooksUp S.plan S.fixed S.entries source.old source.new u.plan.now.ids (u.below + 1) u.number
-        (λ entries r. IsRunGathered entries u reached.entry.run reached.entry.index r.0 r.1.now sent.new) result }
+        (λ entries r. IsBucketGathered entries u reached.entry.bucket reached.entry.index r.0 r.1.now sent.new) result }
 {
     let len = upper.len;
     let Reached {
         index: from,
         place: mut at,
-        run,
+        bucket,
         mut last,
     } = reached;
     let mut place = from;
     loop {
-        let (block, index) = part_block(upper, source, place, run.start + at, last)?;
-        let count = run
+        let (block, index) = part_block(upper, source, place, bucket.start + at, last)?;
+        let count = bucket
             .places
             .series(at, (len - place).min(block.len() - index));
         let series = LastParts {
@@ -113,7 +113,7 @@ fn gather_run<'s, S: Source<'s>>(
         if place == len {
             return Ok((place, block));
         }
-        let Some(next) = run.places.after(at + count - 1) else {
+        let Some(next) = bucket.places.after(at + count - 1) else {
             return Ok((place, block));
         };
         at = next;
@@ -122,10 +122,10 @@ fn gather_run<'s, S: Source<'s>>(
 }
 
 // Takes the first two parts of the windows of an upper block from one index to another, which are
-// in one run: writes them to columns or, where the round is evaluated once a run, the windows'
-// state after it.
-fn take_fronts(upper: UpperBlock<'_>, run: Run<'_>, from: u32, end: u32, scratch: &mut Scratch)
-    requires fronts { ShareFronts upper run from end }
+// in one bucket: writes them to columns or, where the round is evaluated once a bucket, the
+// windows' state after it.
+fn take_fronts(upper: UpperBlock<'_>, bucket: Bucket<'_>, from: u32, end: u32, scratch: &mut Scratch)
+    requires fronts { ShareFronts upper bucket from end }
     requires ready { IsReady upper.plan.now scratch.old }
     requires held { HoldFronts upper from scratch.old }
     ensures ready { IsReady upper.entry.plan.now scratch.new }
@@ -134,14 +134,14 @@ fn take_fronts(upper: UpperBlock<'_>, run: Run<'_>, from: u32, end: u32, scratch
     states_from_parts();
     let place = from as usize;
     let count = (end - from) as usize;
-    if !upper.once_a_run {
-        fill_some(&mut scratch.from_left, place, count, run.first.sent);
-        scratch.own.fill_states(place, count, run.own);
+    if !upper.once_a_bucket {
+        fill_some(&mut scratch.from_left, place, count, bucket.first.sent);
+        scratch.own.fill_states(place, count, bucket.own);
         return;
     }
     let mut cells = [0; MAX_REGISTERS as usize];
     let state = &mut cells[..width_of(upper.plan)];
-    step(upper.plan, upper.below, run.own, run.first.sent, 0, state);
+    step(upper.plan, upper.below, bucket.own, bucket.first.sent, 0, state);
     scratch.made.fill_states(place, count, state);
 }
 
@@ -177,7 +177,7 @@ pub(crate) fn write_states<'s, S: Source<'s>>(
     let reads_right = scratch.reads_right[below as usize];
     let upper = UpperBlock::new(plan, below, number, reads_right);
     gather(upper, source, window, scratch)?;
-    if upper.once_a_run {
+    if upper.once_a_bucket {
         return Ok(());
     }
     next_columns(

@@ -9,7 +9,7 @@ mod gathering;
 mod maker;
 mod parts;
 mod right_reads;
-mod run;
+mod bucket;
 mod scratch;
 mod steps;
 mod upper_block;

@@ -7,13 +7,13 @@ ghost use Rattle.round_eval.specs.BlockStates.{block_len};
 use lang_check::Plan;
 use round_eval::block_len;
 
-// The number of windows from which on a run is long: evaluating a round once for all of them, at
+// The number of windows from which on a bucket is long: evaluating a round once for all of them, at
 // one node, is then faster than in columns.
-const LONG_RUN: u32 = 16;
+const LONG_BUCKET: u32 = 16;
 
 // A block above level 0 that is to be made: its plan, the level one below its own, its number, the
 // number of its windows, whether the round to its level reads the message from the right, and
-// whether that round is evaluated once for each run of its windows.
+// whether that round is evaluated once for each bucket of its windows.
 #[derive(Clone, Copy)]
 pub(crate) struct UpperBlock<'p> {
     pub(crate) plan: &'p Plan,
@@ -21,13 +21,13 @@ pub(crate) struct UpperBlock<'p> {
     pub(crate) number: u32,
     pub(crate) len: u32,
     pub(crate) reads_right: bool,
-    pub(crate) once_a_run: bool,
+    pub(crate) once_a_bucket: bool,
     pub(crate) ghost above: { below < length plan.now.program.steps },
     pub(crate) ghost inside: { number < block_count plan.now.ids (below + 1) },
     pub(crate) ghost len_is: { len ≡ block_len plan.now.ids (below + 1) number },
     pub(crate) ghost few: { window_count plan.now.ids below < 2 ^ 32 },
     pub(crate) ghost reads: { reads_right ≡ round_reads_right plan.now.program below },
-    pub(crate) ghost once: { once_a_run ≡ true → reads_right ≡ false },
+    pub(crate) ghost once: { once_a_bucket ≡ true → reads_right ≡ false },
 }
 
 impl<'p> UpperBlock<'p> {
@@ -48,7 +48,7 @@ impl<'p> UpperBlock<'p> {
             number,
             len: block_len(shape, below + 1, number),
             reads_right,
-            once_a_run: !reads_right && shape.ids() >= 2 * below + 2 + LONG_RUN,
+            once_a_bucket: !reads_right && shape.ids() >= 2 * below + 2 + LONG_BUCKET,
         }
     }
 }

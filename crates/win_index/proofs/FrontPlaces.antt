@@ -6,7 +6,7 @@ use Rattle.std.proofs.lemmas.List.{take_all, take_more, drop-take, take-set, get
 use Rattle.std.proofs.lemmas.List.{length-take-le, get_or-drop, take_at, get_or_push}
 use Rattle.std.proofs.lemmas.Nat.{div-mul-add, mod-mul-add, div-add-mod'}
 use Rattle.std.proofs.lemmas.List.Elements.{All-take, All-drop}
-use Rattle.win_index.specs.Runs.{IsLastOfRun}
+use Rattle.win_index.specs.Buckets.{IsLastOfBucket}
 use Rattle.win_index.specs.Windows.{is_used, unused, windows, IsWindow}
 use Rattle.win_index.proofs.Kept.{kept_is}
 use Rattle.win_index.proofs.Numbers.{window_parts}
@@ -62,10 +62,10 @@ abbrev pub last_place : ℕ → ℕ → List ℕ → ℕ
 last_place i k window = length (unused (get_or window k 0) (drop i (take k window)))
 
 -- no identifier is larger than the last one if the prefix lacks no further one
-pub last_of_run :
+pub last_of_bucket :
     (k l m : ℕ) (window : List ℕ) → l ≡ k + 1 → IsWindow l m window
-    → length (unused m (take k window)) ≤ last_place 0 k window + 1 → IsLastOfRun l m window
-last_of_run k l m window long is few y larger =
+    → length (unused m (take k window)) ≤ last_place 0 k window + 1 → IsLastOfBucket l m window
+last_of_bucket k l m window long is few y larger =
     let size = is.size in
     let last : l - 1 ≡ k = omega arith in
     let other : IsWindow l m (set window k y) = rw last at larger in

@@ -10,11 +10,11 @@ mod Successors
 mod Sizes
 mod Writing
 mod Levels
-mod RunStarts
+mod BucketStarts
 mod FrontPlaces
 mod SeriesPlaces
-mod RunPrefixNumbers
-mod RunPrefixSteps
+mod BucketPrefixNumbers
+mod BucketPrefixSteps
 mod Arcs
 mod Tuples
 mod JobPlaces

@@ -1,16 +1,16 @@
--- The positions of the windows of a run and of a series.
+-- The positions of the windows of a bucket and of a series.
 use Rattle.std.proofs.Common.{◌≡◌, ◌≢◌, ◌⊎◌, ℕ, ◌+◌, ◌-◌, ◌<◌, ◌≤◌, List, get_or, take, drop, set, slice_get, Some, sym}
 use Rattle.std.proofs.Common.{ap, ◌∙◌, arith}
 use Rattle.std.proofs.lemmas.Bool.Decides.{nat_tests}
 use Rattle.std.proofs.lemmas.List.{take-set, get_or-set_same, get_or-take}
 use Rattle.std.proofs.lemmas.Option.{slice_get-get_or}
-use Rattle.win_index.specs.Runs.{IsSeries, IsAtPlace, IsFirstOfRun, IsLastOfRun}
+use Rattle.win_index.specs.Buckets.{IsSeries, IsAtPlace, IsFirstOfBucket, IsLastOfBucket}
 use Rattle.win_index.specs.Successor.{IsNext}
 use Rattle.win_index.specs.Windows.{unused, windows, IsWindow}
-use Rattle.win_index.specs.declared.series.RunPlaces.{RunPlaces}
+use Rattle.win_index.specs.declared.series.BucketPlaces.{BucketPlaces}
 use Rattle.win_index.proofs.Numbers.{windows_all, unused_left}
 use Rattle.win_index.proofs.Positions.{window_place}
-use Rattle.win_index.proofs.FrontPlaces.{Placed, placed, below, last_place, window_front, window_with, last_of_run}
+use Rattle.win_index.proofs.FrontPlaces.{Placed, placed, below, last_place, window_front, window_with, last_of_bucket}
 use Rattle.win_index.proofs.FrontPlaces.{Part, part_apart, part_along, part_window}
 use Rattle.win_index.proofs.Kept.{kept_is}
 use Rattle.win_index.proofs.Unused.{lacks}
@@ -45,13 +45,13 @@ clear_of : (g p j count : ℕ) → g ≢ p → (g ≤ p) ⊎ (p + count ≤ g) �
 clear_of g p j count differ clear lt = (grind arith, grind (arith, nat_tests))
 
 pub at_place :
-    {k m p : ℕ} {places : RunPlaces} {window : List ℕ} → 1 ≤ k → IsAtPlace k m places window p
+    {k m p : ℕ} {places : BucketPlaces} {window : List ℕ} → 1 ≤ k → IsAtPlace k m places window p
     → Placed (k + 1) m places.first_gap places.second_gap places.end p window
 at_place {k} {m} {p} {places} {window} some is =
-    rw (is.run_has.first, is.run_has.second, is.run_has.end, is.place_is) at
+    rw (is.bucket_has.first, is.bucket_has.second, is.bucket_has.end, is.place_is) at
     (placed (k + 1) (k + 2) m window (omega arith) (omega arith) is.window_is)
 
-module _ {k m p : ℕ} {places : RunPlaces} {window : List ℕ} (some : 1 ≤ k) (is : IsAtPlace k m places window p) where
+module _ {k m p : ℕ} {places : BucketPlaces} {window : List ℕ} (some : 1 ≤ k) (is : IsAtPlace k m places window p) where
   -- the windows, and without their first two identifiers
   whole : Part 0 (k + 1) (k + 1) (k + 2) (k + 2)
   whole = record { all = omega arith; long = omega arith; short = omega arith }
@@ -60,18 +60,18 @@ module _ {k m p : ℕ} {places : RunPlaces} {window : List ℕ} (some : 1 ≤ k)
   suffix = record { all = omega arith; long = omega arith; short = omega arith }
 
   -- a window with the same prefix has the position of its last identifier
-  same_run :
+  same_bucket :
       (w : List ℕ) (q : ℕ) → take (k + 1) w ≡ take (k + 1) window → IsWindow (k + 2) m w
       → last_place 2 (k + 1) w ≡ q → IsAtPlace k m places w q
-  same_run w q same w_is at' =
+  same_bucket w q same w_is at' =
       let item = λ (i : ℕ) (lt : i < k + 1).
       sym (get_or-take (k + 1) w i 0 lt) ∙ ap (λ l. get_or l i 0) same ∙ get_or-take (k + 1) window i 0 lt in
       record {
         window_is = w_is;
-        run_has = record {
-          first = rw (item 0 (omega arith), same) is.run_has.first;
-          second = rw (item 1 (omega arith), same) is.run_has.second;
-          end = rw same is.run_has.end;
+        bucket_has = record {
+          first = rw (item 0 (omega arith), same) is.bucket_has.first;
+          second = rw (item 1 (omega arith), same) is.bucket_has.second;
+          end = rw same is.bucket_has.end;
         };
         place_is = at';
       }
@@ -88,14 +88,14 @@ module _ {k m p : ℕ} {places : RunPlaces} {window : List ℕ} (some : 1 ≤ k)
       let rest : List ℕ = drop 2 (take (k + 1) window) in
       let z : ℕ = get_or (unused m rest) q 0 in
       let at_p = at_place some is in
-      let z_at = at_p.other q z (slice_get-get_or (unused m rest) q 0 (omega (arith, inside, is.run_has.end)))
+      let z_at = at_p.other q z (slice_get-get_or (unused m rest) q 0 (omega (arith, inside, is.bucket_has.end)))
       not_first not_second in
       let w = set window (k + 1) z in
       let same = take-set window (k + 1) z in
       let here = get_or-set_same window (k + 1) z 0 (omega arith) in
       let front = window_front (k + 1) (k + 2) m window (omega arith) is.window_is in
       let w_is = window_with (k + 1) (k + 2) m z window (omega arith) size front z_at.0 z_at.1 in
-      let at_q = same_run w q same w_is (rw (here, same) z_at.2) in
+      let at_q = same_bucket w q same w_is (rw (here, same) z_at.2) in
       let own = at_p.own in
       let other = (at_place some at_q).own in (
         w,
@@ -114,15 +114,15 @@ module _ {k m p : ℕ} {places : RunPlaces} {window : List ℕ} (some : 1 ≤ k)
       let got = past_both places.first_gap places.second_gap p a q at_p.differ at_p.first at_p.second past again in
       window_at q 1 inside got.1 got.2 got.3
 
-  -- and if that is past the end, p is the last of its run
+  -- and if that is past the end, p is the last of its bucket
   pub none_later :
       (a q : ℕ) → IsPast places.first_gap places.second_gap (p + 1) a → IsPast places.first_gap places.second_gap a q
-      → places.end ≤ q → IsLastOfRun (k + 2) m window
+      → places.end ≤ q → IsLastOfBucket (k + 2) m window
   none_later a q past again end =
       let at_p = at_place some is in
       let got = past_both places.first_gap places.second_gap p a q at_p.differ at_p.first at_p.second past again in
       let front = window_front (k + 1) (k + 2) m window (omega arith) is.window_is in
-      last_of_run (k + 1) (k + 2) m window (omega arith) is.window_is
+      last_of_bucket (k + 1) (k + 2) m window (omega arith) is.window_is
       (end_rank _ _ p q (last_place 0 (k + 1) window) _ places.end at_p.own got.3 end at_p.first_inside
       at_p.second_inside (omega (arith, unused_left front, at_p.all)))
 
@@ -153,11 +153,11 @@ module _ {k m p : ℕ} {places : RunPlaces} {window : List ℕ} (some : 1 ≤ k)
       let got = series n.0 low.0 count n.1 low.1 (omega arith) in
       let apart = part_apart m suffix low.0 (low.0 + count) window got.0 got.2 low.1 got.3 in
       let w_is = windows_all (k + 2) m (n.0 + count) got.0 got.1 in
-      let there = at_place some (same_run got.0 (p + count) got.2 w_is (omega (arith, apart, is.place_is))) in
+      let there = at_place some (same_bucket got.0 (p + count) got.2 w_is (omega (arith, apart, is.place_is))) in
       grind arith
 
-  -- the first window of the run is at the first position that is no gap
-  pub first_place : (a q : ℕ) → IsFirstOfRun (k + 1) m window → IsPast places.first_gap places.second_gap 0 a
+  -- the first window of the bucket is at the first position that is no gap
+  pub first_place : (a q : ℕ) → IsFirstOfBucket (k + 1) m window → IsPast places.first_gap places.second_gap 0 a
       → IsPast places.first_gap places.second_gap a q → p ≡ q
   first_place a q least past again =
       let at_p = at_place some is in

@@ -7,7 +7,7 @@ use Rattle.std.proofs.Math.Nat.{suc-mul}
 use Rattle.std.proofs.lemmas.List.{take_all, length-set, same_from_push, take_more, take_more_set, take-take}
 use Rattle.std.proofs.lemmas.Option.{none-some, slice_get_within}
 use Rattle.win_index.specs.Windows.{unused, windows, IsWindow}
-use Rattle.win_index.specs.Runs.{IsLastOfRun}
+use Rattle.win_index.specs.Buckets.{IsLastOfBucket}
 use Rattle.win_index.specs.Successor.{IsNext, IsLast}
 use Rattle.win_index.proofs.Kept.{kept, kept_at, kept_is, kept_suc, kept_rises}
 use Rattle.win_index.proofs.Unused.{lacks, unused_at}
@@ -143,7 +143,7 @@ pub later_lacks : (last m : ℕ) (front later : List ℕ) → last < m → IsWin
 later_lacks last m front later lt window next =
     omega (arith, unused_left (next_is_window last m front later window next))
 
--- the next window of a run has the next number that the prefix lacks
+-- the next window of a bucket has the next number that the prefix lacks
 module _ (k m last : ℕ) (list : List ℕ) (more : k ≡ last + 1) (window : IsWindow k m list) where
   next_lacked : slice_get (unused m (take last list)) (last_place 0 last list + 1)
       ≡ first_lacked m (take last list) (get_or list last 0 + 1)
@@ -154,19 +154,19 @@ module _ (k m last : ℕ) (list : List ℕ) (more : k ≡ last + 1) (window : Is
       (unused_at (take last list) m (get_or list last 0) (window.below last 0 lt)
       (free_at list last window.distinct lt))
 
-  next_in_run :
+  next_in_bucket :
       (y : ℕ) → first_lacked m (take last list) (get_or list last 0 + 1) ≡ Some y
       → IsNext k m list (set list last y) × IsWindow k m (set list last y)
-  next_in_run y found =
+  next_in_bucket y found =
       let size = window.size in
       let all = take_all k list (omega arith) in
       let all_set = take_all k (set list last y) (omega (arith, length-set list last y)) in
       let next = rw (all, all_set) at (next_in_last_cell k m last y list more (omega arith) found) in
       (next, next_is_window k m list (set list last y) window next)
 
-  -- the prefix of the last window of a run lacks no number after the last one
-  run_ends : IsLastOfRun k m list → first_lacked m (take last list) (get_or list last 0 + 1) ≡ None
-  run_ends greatest =
+  -- the prefix of the last window of a bucket lacks no number after the last one
+  bucket_ends : IsLastOfBucket k m list → first_lacked m (take last list) (get_or list last 0 + 1) ≡ None
+  bucket_ends greatest =
       let before : k - 1 ≡ last = omega arith in
       let x : ℕ = get_or list last 0 in
       let front : List ℕ = take last list in
@@ -174,24 +174,24 @@ module _ (k m last : ℕ) (list : List ℕ) (more : k ≡ last + 1) (window : Is
         | None ↦ λ found. refl
         | Some y ↦ λ found.
             let kept = kept_is (lacks front) m (length (unused x front) + 1) y (next_lacked ∙ found) in
-            let within : y ≤ x = rw before at (greatest y (rw before (next_in_run y found).1)) in
+            let within : y ≤ x = rw before at (greatest y (rw before (next_in_bucket y found).1)) in
             absurd (omega (arith, kept.before, kept_rises (lacks front) y x within))
       ] refl
 
-  -- the window after the last one of a run is the next prefix with its least number
-  pub next_run :
-      (later : List ℕ) (y : ℕ) → length later ≡ k → IsLastOfRun k m list
+  -- the window after the last one of a bucket is the next prefix with its least number
+  pub next_bucket :
+      (later : List ℕ) (y : ℕ) → length later ≡ k → IsLastOfBucket k m list
       → IsNext last m (take last list) (take last later)
       → slice_get (unused m (take last later)) 0 ≡ Some y → IsNext k m list (set later last y)
-  next_run later y same greatest next least =
+  next_bucket later y same greatest next least =
       let size = window.size in
       let all = take_all k list (omega arith) in
       let all_set = take_all k (set later last y) (omega (arith, length-set later last y)) in
       rw (all, all_set) at (next_with_later_front k m last y list later more (omega arith) (omega arith)
-      (run_ends greatest) next least)
+      (bucket_ends greatest) next least)
 
-  pub last_run : IsLastOfRun k m list → IsLast last m (take last list) → IsLast k m list
-  last_run greatest none =
+  pub last_bucket : IsLastOfBucket k m list → IsLast last m (take last list) → IsLast k m list
+  last_bucket greatest none =
       let size = window.size in
       let all = take_all k list (omega arith) in
-      rw all at (last_with_last_front k m last list more (omega arith) (run_ends greatest) none)
+      rw all at (last_with_last_front k m last list more (omega arith) (bucket_ends greatest) none)

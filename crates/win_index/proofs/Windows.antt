@@ -1,5 +1,5 @@
 -- What other crates cite of windows: lists of distinct identifiers, the identifiers that a list lacks, the numbers
--- of windows, runs, rings and jobs. Of the files here they import this one alone.
+-- of windows, buckets, rings and jobs. Of the files here they import this one alone.
 use Rattle.std.proofs.Common.{◌≡◌, ◌≢◌, ◌↔◌, ℕ, zero, suc, ◌+◌, ◌-◌, ◌*◌, ◌/◌, ◌%◌, ◌<◌, ◌≤◌, false, cond, nat_lt, List}
 use Rattle.std.proofs.Common.{[], ◌∷◌, ◌++◌, flat_map, filter, count_by, length, get_or, take, drop, slice_get, Some}
 use Rattle.std.proofs.Common.{IsSome, sym, ap, ◌∙◌, arith, length-drop, get_or-drop}
@@ -17,7 +17,7 @@ use Rattle.win_index.specs.Falling.{falling}
 use Rattle.win_index.specs.Jobs.{job_number}
 use Rattle.win_index.specs.Laws.{LongerWindowsHaveNumbers, TuplesAreRings, RingsHaveTuples}
 use Rattle.win_index.specs.Ring.{IsRing}
-use Rattle.win_index.specs.Runs.{IsRunStart}
+use Rattle.win_index.specs.Buckets.{IsBucketStart}
 use Rattle.win_index.specs.Windows.{is_used, unused, windows, number_of, IsWindow}
 use Rattle.win_index.proofs.Arcs
 use Rattle.win_index.proofs.FrontPlaces
@@ -29,8 +29,8 @@ use Rattle.win_index.proofs.Numbers
 use Rattle.win_index.proofs.Order
 use Rattle.win_index.proofs.Pieces
 use Rattle.win_index.proofs.Positions
-use Rattle.win_index.proofs.RunPrefixNumbers
-use Rattle.win_index.proofs.RunStarts
+use Rattle.win_index.proofs.BucketPrefixNumbers
+use Rattle.win_index.proofs.BucketStarts
 use Rattle.win_index.proofs.Sizes
 use Rattle.win_index.proofs.Tuples
 use Rattle.win_index.proofs.Unused
@@ -260,20 +260,20 @@ falling_one n = omega arith
 pub falling_two : (n : ℕ) → falling n 2 ≡ n * (n - 1)
 falling_two n = ap (λ k. k * (n - 1)) (falling_one n)
 
--- ---- runs: the windows with a common prefix
+-- ---- buckets: the windows with a common prefix
 
 -- the rank of identifier k of a list beside the k before it
 abbrev pub place_of_last : ℕ → List ℕ → ℕ
 place_of_last k list = rank (take k list) (get_or list k 0)
 
--- a run is at the number of its prefix times the length of a run
-pub run_start_is : (k m n first : ℕ) (front : List ℕ) → slice_get (windows k m) n ≡ Some front → first ≡ n * (m - k)
-    → IsRunStart k m front first
-run_start_is = RunStarts.run_start_is
+-- a bucket is at the number of its prefix times the length of a bucket
+pub bucket_start_is : (k m n first : ℕ) (front : List ℕ) → slice_get (windows k m) n ≡ Some front → first ≡ n * (m - k)
+    → IsBucketStart k m front first
+bucket_start_is = BucketStarts.bucket_start_is
 
--- a window with one identifier more is in the run of its prefix, at the rank of that identifier
+-- a window with one identifier more is in the bucket of its prefix, at the rank of that identifier
 pub longer_number : LongerWindowsHaveNumbers
-longer_number = RunStarts.longer_number
+longer_number = BucketStarts.longer_number
 
 -- the same from the index of that identifier among those that the prefix lacks
 pub window_from_parts :
@@ -289,7 +289,7 @@ pub front_step :
 front_step = Positions.front_step
 
 -- window n of k+1 identifiers by the number of its prefix and the rank of its last identifier
-pub record InRun (k m n : ℕ) (longer : List ℕ) : Type 0 where
+pub record InBucket (k m n : ℕ) (longer : List ℕ) : Type 0 where
   pub is : IsWindow (k + 1) m longer
   pub number : ℕ
   pub front_at : slice_get (windows k m) number ≡ Some (take k longer)
@@ -297,8 +297,8 @@ pub record InRun (k m n : ℕ) (longer : List ℕ) : Type 0 where
   pub number_is : n ≡ number * (m - k) + place_of_last k longer
 
 -- each window of k+1 identifiers has them
-pub run_of : (k m n : ℕ) (longer : List ℕ) → slice_get (windows (k + 1) m) n ≡ Some longer → InRun k m n longer
-run_of k m n longer at' =
+pub bucket_of : (k m n : ℕ) (longer : List ℕ) → slice_get (windows (k + 1) m) n ≡ Some longer → InBucket k m n longer
+bucket_of k m n longer at' =
     let own = windows_all (k + 1) m n longer at' in
     let front = window_place k m (take k longer) (window_take (k + 1) m k longer (omega arith) own) in
     let numbered = longer_number k m front.0 longer own front.1 in
@@ -310,19 +310,19 @@ run_of k m n longer at' =
       number_is = one_number (k + 1) m n (front.0 * (m - k) + place_of_last k longer) longer at' numbered.1;
     }
 
--- the window at a place of a run has the prefix with the number of the run, and an identifier with the place as its
--- rank
-pub at_place_of_run :
-    (k m run place : ℕ) (window : List ℕ) → place < m - k
-    → slice_get (windows (k + 1) m) (run * (m - k) + place) ≡ Some window
-    → (slice_get (windows k m) run ≡ Some (take k window)) × (place_of_last k window ≡ place)
-at_place_of_run k m run place window lt at' =
-    let own = run_of k m (run * (m - k) + place) window at' in
-    let same = same_from_place run place own.number (place_of_last k window) (m - k) lt own.inside own.number_is in
+-- the window at a place of a bucket has the prefix with the number of the bucket, and an identifier with the place as
+-- its rank
+pub at_place_of_bucket :
+    (k m bucket place : ℕ) (window : List ℕ) → place < m - k
+    → slice_get (windows (k + 1) m) (bucket * (m - k) + place) ≡ Some window
+    → (slice_get (windows k m) bucket ≡ Some (take k window)) × (place_of_last k window ≡ place)
+at_place_of_bucket k m bucket place window lt at' =
+    let own = bucket_of k m (bucket * (m - k) + place) window at' in
+    let same = same_from_place bucket place own.number (place_of_last k window) (m - k) lt own.inside own.number_is in
     (rw same.0 own.front_at, sym same.1)
 
 -- window n of k+more identifiers by the number of its prefix of k identifiers and its place among those with the prefix
-pub record InLongerRun (k m more n : ℕ) (longer : List ℕ) : Type 0 where
+pub record InLongerBucket (k m more n : ℕ) (longer : List ℕ) : Type 0 where
   pub number : ℕ
   pub rest : ℕ
   pub front_at : slice_get (windows k m) number ≡ Some (take k longer)
@@ -330,9 +330,9 @@ pub record InLongerRun (k m more n : ℕ) (longer : List ℕ) : Type 0 where
   pub number_is : n ≡ number * falling (m - k) more + rest
 
 -- each window of k+more identifiers has them
-pub in_longer_run : (k m more n : ℕ) (longer : List ℕ) → slice_get (windows (k + more) m) n ≡ Some longer
-    → InLongerRun k m more n longer
-in_longer_run k m more n longer at' =
+pub in_longer_bucket : (k m more n : ℕ) (longer : List ℕ) → slice_get (windows (k + more) m) n ≡ Some longer
+    → InLongerBucket k m more n longer
+in_longer_bucket k m more n longer at' =
     let each : ℕ = falling (m - k) more in
     let below = rw (length-windows (k + more) m, falling-add m k more) at
     (slice_get_within (windows (k + more) m) n longer at') in
@@ -340,15 +340,15 @@ in_longer_run k m more n longer at' =
     record {
       number = n / each;
       rest = n % each;
-      front_at = RunPrefixNumbers.prefix_number k more m n longer at';
+      front_at = BucketPrefixNumbers.prefix_number k more m n longer at';
       inside = mod-lt n some;
       number_is = sym (div-add-mod' n each);
     }
 
--- a number is at one place of one run
-pub one_run : (c place rest number n : ℕ) → rest < c → n ≡ place * c + rest → number * c ≤ n → n < number * c + c
+-- a number is at one place of one bucket
+pub one_bucket : (c place rest number n : ℕ) → rest < c → n ≡ place * c + rest → number * c ≤ n → n < number * c + c
     → place ≡ number
-one_run c place rest number n short is from to =
+one_bucket c place rest number n short is from to =
     (same_from_place place rest number (n - number * c) c short (omega arith) (omega arith)).0
 
 -- ---- rings

@@ -4,7 +4,7 @@ ghost use Rattle.std.specs.Prelude.{find, length, take, slice_get, slice_index, 
 ghost use Rattle.std.specs.Bool.{OnTrue, OnFalse};
 ghost use Rattle.std.specs.List.{range_with_len};
 ghost use Rattle.win_index.specs.Windows.{is_used, unused, windows, number_of, IsWindow};
-ghost use Rattle.win_index.specs.Runs.{IsRunStart, IsReplacedByRun};
+ghost use Rattle.win_index.specs.Buckets.{IsBucketStart, IsReplacedByBucket};
 ghost use Rattle.win_index.specs.Successor.{IsNext, IsReplaced};
 
 // The lists of one length, in order. There are fewer than 2^64 of them, and of each smaller length.
@@ -85,10 +85,10 @@ impl Arrangements {
 
     // Replaces the list by the next one with another prefix, which differs before the last number,
     // or returns `false` if there is none.
-    pub(crate) fn write_next_run(self, list: &mut [u32]) -> bool
+    pub(crate) fn write_next_bucket(self, list: &mut [u32]) -> bool
         requires some { 1 ≤ self.len }
         requires window { IsWindow self.len self.ids list.old }
-        ensures { IsReplacedByRun self.len self.ids result list.old list.new }
+        ensures { IsReplacedByBucket self.len self.ids result list.old list.new }
     {
         let Arrangements { ids, len } = self;
         let last = len - 1;
@@ -102,11 +102,11 @@ impl Arrangements {
 
     // Returns the number of the first list with this prefix, among the lists that are one number
     // longer.
-    pub(crate) fn run_start(self, front: &[u32]) -> u64
+    pub(crate) fn bucket_start(self, front: &[u32]) -> u64
         requires front { IsWindow self.len self.ids front.now }
         requires longer { self.len < self.ids }
         requires few { length (windows (self.len + 1) self.ids) < 2 ^ 64 }
-        ensures { IsRunStart self.len self.ids front.now result }
+        ensures { IsBucketStart self.len self.ids front.now result }
     {
         let Arrangements { ids, len } = self;
         self.number(front) * (u64::from(ids) - len as u64)

@@ -38,7 +38,7 @@ pub fn longer_windows_have_numbers()
 
 /// The windows of `k+j` identifiers with the same first `k` are consecutive, as many for each
 /// prefix, in the order of the prefixes.
-#[tactic(auto, using(crate::proofs::RunPrefixNumbers::prefix_number))]
+#[tactic(auto, using(crate::proofs::BucketPrefixNumbers::prefix_number))]
 pub fn prefixes_have_numbers()
     ensures { law.PrefixesHaveNumbers }
 {}

@@ -7,8 +7,8 @@ mod laws;
 mod limits;
 mod prefixes;
 mod ring;
-mod run_prefix;
-mod run_prefixes;
+mod bucket_prefix;
+mod bucket_prefixes;
 mod series;
 mod shape;
 
@@ -23,7 +23,7 @@ pub use limits::{
     MAX_WINDOWS,
 };
 pub use ring::{Ring, RingFault};
-pub use run_prefix::RunPrefix;
-pub use run_prefixes::RunPrefixes;
-pub use series::RunPlaces;
+pub use bucket_prefix::BucketPrefix;
+pub use bucket_prefixes::BucketPrefixes;
+pub use series::BucketPlaces;
 pub use shape::{Shape, ShapeFault, place_among_unused};

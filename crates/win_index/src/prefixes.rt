@@ -1,18 +1,18 @@
-//! The prefixes of runs, by numbers from which those of the parts of their windows follow. A prefix
-//! is stepped to the next one, so that no list is numbered anew.
+//! The prefixes of buckets, by numbers from which those of the parts of their windows follow. A prefix
+//!  is stepped to the next one, so that no list is numbered anew.
 ghost use Rattle.std.specs.Prelude.{◌≡◌, ℕ, List, ◌+◌, ◌-◌, ◌<◌, ◌≤◌, take, nat_lt, if◌then◌else◌, length, slice_index};
 ghost use Rattle.std.specs.Prelude.{IfSome, IfNone};
 ghost use Rattle.win_index.specs.declared.limits.TheConstants.{MAX_IDS, MAX_WINDOWS};
-ghost use Rattle.win_index.specs.RunPrefixes.{HasNumbers, IsLonger, IsPrefix, IsNextPrefix, IsLastPrefix};
-ghost use Rattle.win_index.specs.Runs.{HasPlaces};
+ghost use Rattle.win_index.specs.BucketPrefixes.{HasNumbers, IsLonger, IsPrefix, IsNextPrefix, IsLastPrefix};
+ghost use Rattle.win_index.specs.Buckets.{HasPlaces};
 ghost use Rattle.win_index.specs.Windows.{windows, IsWindow};
 
 use crate::arrangement::Arrangements;
-use crate::run_prefix::RunPrefix;
-use crate::series::RunPlaces;
+use crate::bucket_prefix::BucketPrefix;
+use crate::series::BucketPlaces;
 use crate::shape::Shape;
 
-// The lists of one length, at least two, that are prefixes of runs.
+// The lists of one length, at least two, that are prefixes of buckets.
 #[derive(Clone, Copy)]
 pub(crate) struct Prefixes {
     pub(crate) ids: u32,
@@ -36,12 +36,12 @@ impl Prefixes {
     }
 
     // Returns the positions for the lists that are one identifier longer than this one.
-    pub(crate) fn places(self, prefix: RunPrefix) -> RunPlaces
+    pub(crate) fn places(self, prefix: BucketPrefix) -> BucketPlaces
         ensures { (window : List ℕ) → IsWindow (self.len + 1) self.ids window
             → HasNumbers self.len self.ids (take self.len window) prefix
             → HasPlaces (self.len - 1) self.ids window result }
     {
-        RunPlaces {
+        BucketPlaces {
             first_gap: prefix.first_gap,
             second_gap: prefix.second_gap,
             end: self.ids - (self.len - 2),
@@ -49,13 +49,13 @@ impl Prefixes {
     }
 
     // Returns the prefix with one identifier more, which has this position.
-    pub(crate) fn longer(self, prefix: RunPrefix, place: u32) -> RunPrefix
+    pub(crate) fn longer(self, prefix: BucketPrefix, place: u32) -> BucketPrefix
         requires { (window : List ℕ) × IsLonger self.len self.ids prefix place window }
         ensures { (window : List ℕ) → IsLonger self.len self.ids prefix place window
             → HasNumbers (self.len + 1) self.ids window result }
     {
         let free = self.ids - self.len;
-        RunPrefix {
+        BucketPrefix {
             middle: prefix.middle * (free + 1) + (place - u32::from(prefix.second_gap < place)),
             last: prefix.last * (free + 2) + place,
             first_gap: prefix.first_gap - u32::from(place < prefix.first_gap),
@@ -64,14 +64,14 @@ impl Prefixes {
     }
 
     // Returns the prefix without its last identifier, and the position of that one.
-    pub(crate) fn without_last(self, prefix: RunPrefix) -> (RunPrefix, u32)
+    pub(crate) fn without_last(self, prefix: BucketPrefix) -> (BucketPrefix, u32)
         requires { IsPrefix (self.len + 1) self.ids prefix }
         ensures { (window : List ℕ) → HasNumbers (self.len + 1) self.ids window prefix
             → IsLonger self.len self.ids result.0 result.1 window }
     {
         let free = self.ids - self.len;
         let place = prefix.last % (free + 2);
-        let shorter = RunPrefix {
+        let shorter = BucketPrefix {
             middle: prefix.middle / (free + 1),
             last: prefix.last / (free + 2),
             first_gap: prefix.first_gap + u32::from(place <= prefix.first_gap),
@@ -81,7 +81,7 @@ impl Prefixes {
     }
 
     // Returns the next prefix, or `None` if this is the last one.
-    pub(crate) fn next(self, prefix: RunPrefix) -> Option<RunPrefix>
+    pub(crate) fn next(self, prefix: BucketPrefix) -> Option<BucketPrefix>
         requires { IsPrefix self.len self.ids prefix }
         ensures next { IfSome result (IsNextPrefix self.len self.ids prefix) }
         ensures last { IfNone result (IsLastPrefix self.len self.ids prefix) }
@@ -104,7 +104,7 @@ impl Prefixes {
     }
 
     // Returns the next prefix of two identifiers, or `None` if this is the last one.
-    pub(crate) fn next_pair(self, prefix: RunPrefix) -> Option<RunPrefix>
+    pub(crate) fn next_pair(self, prefix: BucketPrefix) -> Option<BucketPrefix>
         requires { IsPrefix 2 self.ids prefix }
         ensures next { IfSome result (IsNextPrefix 2 self.ids prefix) }
         ensures last { IfNone result (IsLastPrefix 2 self.ids prefix) }
@@ -117,7 +117,7 @@ impl Prefixes {
         if !pairs.write_next(&mut pair) {
             return None;
         }
-        Some(RunPrefix {
+        Some(BucketPrefix {
             middle: pair[1],
             last: 0,
             first_gap: pair[0],
@@ -128,19 +128,19 @@ impl Prefixes {
 
 impl Shape {
     ghost use Rattle.std.specs.Prelude.{◌≡◌, ℕ, List, ◌+◌, ◌*◌, ◌<◌, take, drop, length, slice_get, Some};
-    ghost use Rattle.win_index.specs.RunPrefixes.{HasNumbers, IsPrefix};
-    ghost use Rattle.win_index.specs.Runs.{HasPlaces, IsRunStart};
+    ghost use Rattle.win_index.specs.BucketPrefixes.{HasNumbers, IsPrefix};
+    ghost use Rattle.win_index.specs.Buckets.{HasPlaces, IsBucketStart};
     ghost use Rattle.win_index.specs.Windows.{windows, IsWindow};
 
-    // Returns the prefix of the run of a window one level above `below`, by its numbers.
-    pub(crate) fn run_prefix(&self, below: u32, window: &[u32]) -> RunPrefix
+    // Returns the prefix of the bucket of a window one level above `below`, by its numbers.
+    pub(crate) fn bucket_prefix(&self, below: u32, window: &[u32]) -> BucketPrefix
         requires below { below < self.now.rounds }
         requires window { IsWindow (2 * below + 3) self.now.ids window.now }
         ensures { HasNumbers (2 * below + 2) self.now.ids (take (2 * below + 2) window.now) result }
     {
         let len = 2 * below as usize + 2;
-        let places = self.run_places(below, window);
-        RunPrefix {
+        let places = self.bucket_places(below, window);
+        BucketPrefix {
             middle: self.window_number(below, &window[1..len]),
             last: self.lists(2 * below).number(&window[2..len]) as u32,
             first_gap: places.first_gap,
@@ -148,23 +148,23 @@ impl Shape {
         }
     }
 
-    /// Returns the positions for the run with this prefix one level above `below`.
-    pub fn prefix_places(&self, below: u32, prefix: RunPrefix) -> RunPlaces
+    /// Returns the positions for the bucket with this prefix one level above `below`.
+    pub fn prefix_places(&self, below: u32, prefix: BucketPrefix) -> BucketPlaces
         requires below { below < self.now.rounds }
         ensures { (window : List ℕ) → IsWindow (2 * below + 3) self.now.ids window
             → HasNumbers (2 * below + 2) self.now.ids (take (2 * below + 2) window) prefix
             → HasPlaces (2 * below + 1) self.now.ids window result }
     {
-        self.run_prefixes(below).places(prefix)
+        self.bucket_prefixes(below).places(prefix)
     }
 
-    /// Returns the number of the first window in the run of the last parts of the windows with this
-    /// prefix, which are one level above `below`.
-    pub fn last_run_start(&self, below: u32, prefix: RunPrefix) -> u32
+    /// Returns the number of the first window in the bucket of the last parts of the windows with
+    /// this prefix, which are one level above `below`.
+    pub fn last_bucket_start(&self, below: u32, prefix: BucketPrefix) -> u32
         requires below { below < self.now.rounds }
         requires prefix { IsPrefix (2 * below + 2) self.now.ids prefix }
         ensures { (list : List ℕ) → HasNumbers (2 * below + 2) self.now.ids list prefix
-            → IsRunStart (2 * below) self.now.ids (drop 2 list) result }
+            → IsBucketStart (2 * below) self.now.ids (drop 2 list) result }
     {
         prefix.last * (self.ids - 2 * below)
     }
@@ -180,9 +180,9 @@ impl Shape {
         number / (free * (free - 1))
     }
 
-    // Returns the prefixes of the runs one level above `below`.
+    // Returns the prefixes of the buckets one level above `below`.
     #[tactic(auto, using(crate::proofs::Levels::few_of_shape))]
-    pub(crate) fn run_prefixes(&self, below: u32) -> Prefixes
+    pub(crate) fn bucket_prefixes(&self, below: u32) -> Prefixes
         requires { below < self.now.rounds }
         ensures ids { result.ids ≡ self.now.ids }
         ensures len { result.len ≡ 2 * below + 2 }

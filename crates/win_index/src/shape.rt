@@ -36,7 +36,7 @@ impl Shape {
     ghost use Rattle.std.specs.Prelude.{◌≡◌, ℕ, List, ◌+◌, ◌*◌, ◌<◌, ◌↔◌, IsTrue, IfOk, IfErr, IfSome, IsOk, Some};
     ghost use Rattle.std.specs.Prelude.{length, take, slice_get};
     ghost use Rattle.win_index.specs.Windows.{windows, number_of, IsWindow};
-    ghost use Rattle.win_index.specs.Runs.{IsRunStart, IsReplacedByRun};
+    ghost use Rattle.win_index.specs.Buckets.{IsBucketStart, IsReplacedByBucket};
     ghost use Rattle.win_index.specs.Successor.{IsReplaced};
     ghost use Rattle.win_index.specs.ShapeRange.{IsShape, IsExtra};
     ghost use Rattle.win_index.specs.ShapeFaults.{IsFirstShapeFault};
@@ -120,12 +120,12 @@ impl Shape {
     /// prefix. The windows with that prefix are consecutive, in the order of their last
     /// identifiers.
     #[tactic(auto, using(crate::proofs::Levels::few_of_shape))]
-    pub fn run_start(&self, level: u32, front: &[u32]) -> u32
+    pub fn bucket_start(&self, level: u32, front: &[u32]) -> u32
         requires level { level ≤ self.now.rounds }
         requires front { IsWindow (2 * level) self.now.ids front.now }
-        ensures { IsRunStart (2 * level) self.now.ids front.now result }
+        ensures { IsBucketStart (2 * level) self.now.ids front.now result }
     {
-        self.lists(2 * level).run_start(front) as u32
+        self.lists(2 * level).bucket_start(front) as u32
     }
 
     /// Writes the window of this level with this number to the `2r+1` cells of `out`.
@@ -152,12 +152,12 @@ impl Shape {
     /// Replaces a window of this level by the first one after it with another prefix and returns
     /// `true`, or returns `false` without a change if there is none. A prefix is all identifiers
     /// but the last.
-    pub fn next_run(&self, level: u32, window: &mut [u32]) -> bool
+    pub fn next_bucket(&self, level: u32, window: &mut [u32]) -> bool
         requires level { level ≤ self.now.rounds }
         requires window { IsWindow (2 * level + 1) self.now.ids window.old }
-        ensures { IsReplacedByRun (2 * level + 1) self.now.ids result window.old window.new }
+        ensures { IsReplacedByBucket (2 * level + 1) self.now.ids result window.old window.new }
     {
-        self.lists(2 * level + 1).write_next_run(window)
+        self.lists(2 * level + 1).write_next_bucket(window)
     }
 
     /// Returns the number of a tuple of this `extra`, or `None` if the list is not one.

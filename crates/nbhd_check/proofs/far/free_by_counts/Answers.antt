@@ -1,6 +1,6 @@
 use Rattle.std.proofs.Common.{ℕ, ◌*◌, ◌^◌, ◌≤◌, arith}
 use Rattle.std.proofs.Math.Nat.{mul-le-mul}
-use Rattle.nbhd_check.proofs.Runs.{free_of_both}
+use Rattle.nbhd_check.proofs.Buckets.{free_of_both}
 use Rattle.nbhd_check.proofs.far.free_by_counts.Goals as goal
 
 pub overflow_mul-family-2 : goal.overflow_mul-family-2

@@ -1,5 +1,5 @@
 use Rattle.std.proofs.Common.{arith}
-use Rattle.nbhd_check.proofs.Runs.{free_of_both}
+use Rattle.nbhd_check.proofs.Buckets.{free_of_both}
 use Rattle.nbhd_check.proofs.far.free_by_masks.Goals as goal
 
 pub returns-then-free-most : goal.returns-then-free-most

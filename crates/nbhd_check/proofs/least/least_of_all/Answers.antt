@@ -3,9 +3,9 @@ use Rattle.std.proofs.lemmas.Bool.{cases_lt}
 use Rattle.channel_tables.specs.Tables.{ChannelTable}
 use Rattle.channel_tables.specs.declared.separation.Separation.{Separation}
 use Rattle.channel_tables.specs.Apart.{NoneIsBad}
-use Rattle.channel_tables.specs.Apart.{run_len}
+use Rattle.channel_tables.specs.Apart.{bucket_len}
 use Rattle.channel_tables.specs.Searches.{IsLeastIn}
-use Rattle.nbhd_check.proofs.Runs.{none_of_free}
+use Rattle.nbhd_check.proofs.Buckets.{none_of_free}
 use Rattle.nbhd_check.proofs.least.least_of_all.Goals as goal
 
 none_in_both : (t : ChannelTable) (s : Separation) (low high : ℕ) → NoneIsBad t s 0 low → NoneIsBad t s low high
@@ -39,9 +39,9 @@ pub returns : goal.returns
 returns g c =
     let t = c.args.tuples.windows.now in
     let s = c.args.tuples.separation in
-    let low_is : c.from.result * c.per_window.result ≡ c.first_windows-first.result * run_len t s =
+    let low_is : c.from.result * c.per_window.result ≡ c.first_windows-first.result * bucket_len t s =
     λ q. c.from.ensures q * c.per_window.ensures.value q in
-    let low : c.min.result ≤ c.first_windows-first.result * run_len t s = omega (arith, c.min.ensures, low_is) in
+    let low : c.min.result ≤ c.first_windows-first.result * bucket_len t s = omega (arith, c.min.ensures, low_is) in
     subst (λ n. IsLeastIn t s 0 n c.least_bad.result) c.count-count.ensures
     (least_from_low t s c.min.result c.count-count.result c.least_bad.result
     (none_of_free t s c.min.result c.first_windows-first.result c.first_windows-first.ensures low) c.least_bad.ensures)

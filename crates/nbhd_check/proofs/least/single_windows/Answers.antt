@@ -7,14 +7,14 @@ use Rattle.win_index.specs.Windows.{IsWindow}
 use Rattle.win_index.proofs.Windows.{slice_window}
 use Rattle.channel_tables.specs.Tables.{ChannelTable, channel_of, windows_of}
 use Rattle.channel_tables.specs.declared.separation.Separation.{Separation}
-use Rattle.channel_tables.specs.Apart.{run_len, AreClose, IsBad, NoneIsBad}
+use Rattle.channel_tables.specs.Apart.{bucket_len, AreClose, IsBad, NoneIsBad}
 use Rattle.channel_tables.specs.Searches.{IsLeastIn}
-use Rattle.channel_tables.proofs.Tables.{all_runs, close_along, closer, two_of_far}
-use Rattle.nbhd_check.specs.Runs.{BeginsBadTuple}
+use Rattle.channel_tables.proofs.Tables.{all_buckets, close_along, closer, two_of_far}
+use Rattle.nbhd_check.specs.Buckets.{BeginsBadTuple}
 use Rattle.nbhd_check.proofs.Cells.{row_more}
 use Rattle.nbhd_check.proofs.Ends.{push_two}
 use Rattle.nbhd_check.proofs.Parts.{quotient_below}
-use Rattle.nbhd_check.proofs.Runs.{free_of_none}
+use Rattle.nbhd_check.proofs.Buckets.{free_of_none}
 use Rattle.nbhd_check.proofs.least.single_windows.Goals.{After-from-each}
 use Rattle.nbhd_check.proofs.least.single_windows.Goals as goal
 
@@ -78,7 +78,7 @@ none_before t s count (Some n) least = (least.1.1.least, omega (arith, least.0))
 
 -- each window begins a tuple with each other identifier
 module _ (c : After-from-each) where
-  each_is : c.from-each.result - 1 ≡ run_len c.args.tuples.windows.now (record { near = c.max-near.result; far = 0 })
+  each_is : c.from-each.result - 1 ≡ bucket_len c.args.tuples.windows.now (record { near = c.max-near.result; far = 0 })
   each_is =
       let t = c.args.tuples.windows.now in
       let own : c.from-each.result - 1 ≡ 1 * (t.ids - (2 * t.rounds + 1) - 0) =
@@ -101,7 +101,7 @@ overflow_cast-result c =
     let each : ℕ = c.from-each.result - 1 in
     let windows : ℕ = length (windows_of t) in
     let all : c.count-count.result ≡ windows * each =
-    c.count-count.ensures ∙ all_runs t (record { near = c.max-near.result; far = 0 })
+    c.count-count.ensures ∙ all_buckets t (record { near = c.max-near.result; far = 0 })
     ∙ ap (λ n. windows * n) (sym (each_is d)) in
     let some : 0 < each = omega (arith, c.from-each.ensures, c.ids.ensures, c.shape.ensures.ids, c.shape.ensures.table.begun.shape.ids.enough) in
     let few = quotient_below c.unwrap_or-first.result each (windows + 1)

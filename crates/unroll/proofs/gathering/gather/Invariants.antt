@@ -2,11 +2,11 @@ use Rattle.std.proofs.Common.{◌≡◌, ◌+◌, ◌-◌, ◌*◌}
 use Rattle.round_eval.specs.Entries.{Asked}
 use Rattle.unroll.specs.Parts.{IsAtIndex, IsNear}
 use Rattle.unroll.specs.WideColumns.{IsReady, AreGathered}
-use Rattle.unroll.proofs.NextRuns.{IsPlaced}
+use Rattle.unroll.proofs.NextBuckets.{IsPlaced}
 use Rattle.unroll.proofs.gathering.gather.Given as goal
 
-abbrev pub invariant-loop-run : goal.invariant-loop-run
-invariant-loop-run g l =
+abbrev pub invariant-loop-bucket : goal.invariant-loop-bucket
+invariant-loop-bucket g l =
     record {
       asked : Asked g.S.Source.plan g.S.Source.fixed g.S.Source.entries l.fn.source l.source;
       here : IsAtIndex l.upper l.index l.prefixes.prefix;
@@ -17,5 +17,5 @@ invariant-loop-run g l =
       gathered : AreGathered (g.S.Source.entries l.source) l.upper l.index l.scratch;
     }
 
-abbrev pub decreases-loop-run : goal.decreases-loop-run
-decreases-loop-run g l = l.len - l.index
+abbrev pub decreases-loop-bucket : goal.decreases-loop-bucket
+decreases-loop-bucket g l = l.len - l.index

@@ -9,7 +9,7 @@ returns-then-not-upper-clause-held c =
     let sum : c.args.from + (c.args.end - c.args.from) ≡ c.args.end = omega (arith, c.requires.fronts.order) in
     let whole = with_items_is c.args.scratch.now.from_left c.fill_some.new.cells (c.fill_some.auto.cells
     ∙ c.deref_mut.ensures.len) in (
-      columns_more c.args.upper c.args.run c.args.from count c.args.end sum c.args.scratch.now _ c.requires.held c.requires.fronts.each c.if-not-upper.true
+      columns_more c.args.upper c.args.bucket c.args.from count c.args.end sum c.args.scratch.now _ c.requires.held c.requires.fronts.each c.if-not-upper.true
           (rw whole (rw c.deref_mut.ensures.value at c.fill_some.ensures)) c.fill_states.ensures.size.0
           (omega (arith, sum, c.requires.fronts.few, c.requires.ready.own_wide.0)) c.fill_states.ensures.states,
       refl,
@@ -19,7 +19,7 @@ pub returns-clause-held : goal.returns-clause-held
 returns-clause-held c =
     let count = c.args.end - c.args.from in
     let sum : c.args.from + (c.args.end - c.args.from) ≡ c.args.end = omega (arith, c.requires.fronts.order) in (
-      states_more c.args.upper c.args.run c.args.from count c.args.end sum c.args.scratch.now _ c.requires.held c.requires.fronts.each
+      states_more c.args.upper c.args.bucket c.args.from count c.args.end sum c.args.scratch.now _ c.requires.held c.requires.fronts.each
           c.states_from_parts.ensures.next c.step.new.out c.if-not-upper.false c.fill_states-2.ensures.size.0
           (omega (arith, sum, c.requires.fronts.few, c.requires.ready.made_wide.0)) c.fill_states-2.ensures.states c.step.ensures,
       refl,

@@ -1,4 +1,4 @@
-use Rattle.win_index.proofs.RunStarts.{longer_number}
+use Rattle.win_index.proofs.BucketStarts.{longer_number}
 use Rattle.win_index.proofs.laws.longer_windows_have_numbers.Goals as goal
 
 pub returns : goal.returns

@@ -1,5 +1,5 @@
 use Rattle.std.proofs.Common.{◌+◌, ◌*◌, Some, subst, ap, ◌∙◌, arith}
-use Rattle.nbhd_check.specs.Runs.{BeginsFarTuple}
+use Rattle.nbhd_check.specs.Buckets.{BeginsFarTuple}
 use Rattle.nbhd_check.proofs.FarFree.{by_pair}
 use Rattle.win_index.proofs.Windows.{one_number}
 use Rattle.nbhd_check.proofs.far_counts.Family.free_with_both.Goals.{else-numbers-least-via-then-numbers-least+else-may_begin_far_tuple}

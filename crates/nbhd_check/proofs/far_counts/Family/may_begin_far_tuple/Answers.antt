@@ -2,7 +2,7 @@ use Rattle.std.proofs.Common.{◌≡◌, ℕ, ◌+◌, [], ◌∷◌, ◌++◌, 
 use Rattle.std.specs.Int.{abs_diff}
 use Rattle.std.proofs.lemmas.Bool.{OnFalse_from, ltb-false}
 use Rattle.nbhd_check.specs.Counts.{held_count}
-use Rattle.nbhd_check.specs.Runs.{BeginsFarTuple}
+use Rattle.nbhd_check.specs.Buckets.{BeginsFarTuple}
 use Rattle.nbhd_check.proofs.FarCounts.{none_far}
 use Rattle.nbhd_check.proofs.far_counts.Family.may_begin_far_tuple.Goals as goal
 

@@ -1,19 +1,19 @@
 use Rattle.std.proofs.Common.{◌≡◌, ◌*◌, arith}
-use Rattle.nbhd_check.specs.Runs.{second_run, wide}
+use Rattle.nbhd_check.specs.Buckets.{second_bucket, wide}
 use Rattle.nbhd_check.proofs.BeforeSteps.{HasCell, has_cell}
-use Rattle.nbhd_check.proofs.patterns.PatternSearch.channel_at_gap.Goals.{Start, After-windows_per_run}
+use Rattle.nbhd_check.proofs.patterns.PatternSearch.channel_at_gap.Goals.{Start, After-windows_per_bucket}
 use Rattle.nbhd_check.proofs.patterns.PatternSearch.channel_at_gap.Goals as goal
 
 cell : (c : Start) → HasCell c.args.self.now.table.now c.args.next c.args.place
 cell c = has_cell c.args.self.now.table.now c.args.next c.args.place c.args.self.now.table_is.size c.requires.next c.requires.place
 
-start_is : (c : After-windows_per_run) → c.run_at.result * c.windows_per_run.result
-    ≡ second_run c.args.next c.args.place * wide c.args.self.now.table.now
-start_is c = λ i. c.run_at.ensures i * c.windows_per_run.ensures.value i
+start_is : (c : After-windows_per_bucket) → c.bucket_at.result * c.windows_per_bucket.result
+    ≡ second_bucket c.args.next c.args.place * wide c.args.self.now.table.now
+start_is c = λ i. c.bucket_at.ensures i * c.windows_per_bucket.ensures.value i
 
-pub run_at-requires : goal.run_at-requires
-run_at-requires c =
-    let own = cell (goal.at.run_at-requires c).Start in
+pub bucket_at-requires : goal.bucket_at-requires
+bucket_at-requires c =
+    let own = cell (goal.at.bucket_at-requires c).Start in
     let table = c.args.self.now.table_is in
     omega (arith, own.first_few, own.at.next_few, table.size, table.begun.shape.few_windows)
 
@@ -21,13 +21,13 @@ pub overflow_mul-start : goal.overflow_mul-start
 overflow_mul-start c =
     let own = cell (goal.at.overflow_mul-start c).Start in
     let table = c.args.self.now.table_is in
-    omega (arith, start_is (goal.at.overflow_mul-start c).After-windows_per_run, own.inside, table.size, table.begun.shape.few_windows)
+    omega (arith, start_is (goal.at.overflow_mul-start c).After-windows_per_bucket, own.inside, table.size, table.begun.shape.few_windows)
 
 pub overflow_add-result : goal.overflow_add-result
 overflow_add-result c =
     let own = cell (goal.at.overflow_add-result c).Start in
     let table = c.args.self.now.table_is in
-    omega (arith, start_is (goal.at.overflow_add-result c).After-windows_per_run, c.gap_at.ensures, own.inside, table.size, table.begun.shape.few_windows)
+    omega (arith, start_is (goal.at.overflow_add-result c).After-windows_per_bucket, c.gap_at.ensures, own.inside, table.size, table.begun.shape.few_windows)
 
 pub offset_bounds-entries-start : goal.offset_bounds-entries-start
 offset_bounds-entries-start c =
@@ -35,7 +35,7 @@ offset_bounds-entries-start c =
     let table = c.args.self.now.table_is in
     omega (
       arith,
-      start_is (goal.at.offset_bounds-entries-start c).After-windows_per_run,
+      start_is (goal.at.offset_bounds-entries-start c).After-windows_per_bucket,
       c.gap_at.ensures,
       own.inside,
       table.size,
@@ -46,4 +46,4 @@ pub bounds-entries-start : goal.bounds-entries-start
 bounds-entries-start c =
     let own = cell (goal.at.bounds-entries-start c).Start in
     rw c.entries.ensures.value
-    (omega (arith, start_is (goal.at.bounds-entries-start c).After-windows_per_run, c.gap_at.ensures, own.inside))
+    (omega (arith, start_is (goal.at.bounds-entries-start c).After-windows_per_bucket, c.gap_at.ensures, own.inside))

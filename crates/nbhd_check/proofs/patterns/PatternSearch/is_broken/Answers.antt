@@ -18,4 +18,4 @@ loop-second-preserved c =
 
 pub returns : goal.returns
 returns c second lt = c.loop-second.invariant second
-    (omega (arith, lt, c.loop-second-test.false, c.windows_per_run-second-end.ensures.value))
+    (omega (arith, lt, c.loop-second-test.false, c.windows_per_bucket-second-end.ensures.value))

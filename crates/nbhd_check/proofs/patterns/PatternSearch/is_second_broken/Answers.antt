@@ -18,4 +18,4 @@ loop-first-preserved c =
 
 pub returns : goal.returns
 returns c first lt = c.loop-first.invariant first
-    (omega (arith, lt, c.loop-first-test.false, c.windows_per_run-first-end.ensures.value))
+    (omega (arith, lt, c.loop-first-test.false, c.windows_per_bucket-first-end.ensures.value))

@@ -16,4 +16,4 @@ loop-place-preserved c =
 
 pub returns : goal.returns
 returns c place lt = c.loop-place.invariant place
-    (omega (arith, lt, c.loop-place-test.false, c.windows_per_run-each.ensures.value))
+    (omega (arith, lt, c.loop-place-test.false, c.windows_per_bucket-each.ensures.value))

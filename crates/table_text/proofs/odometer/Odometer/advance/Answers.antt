@@ -1,5 +1,5 @@
 use Rattle.std.proofs.Common.{refl, rules}
-use Rattle.table_text.proofs.Orders.{later_of_run}
+use Rattle.table_text.proofs.Orders.{later_of_bucket}
 use Rattle.table_text.proofs.odometer.Odometer.advance.Goals as goal
 
 pub returns-then-self : goal.returns-then-self
@@ -9,5 +9,5 @@ returns-then-self c =
       odometer = search rules;
       front = refl;
       ids = refl;
-      later = later_of_run 1 o.front o.ids o.last o.order c.requires.is.order c.requires.is.from c.if-self.true;
+      later = later_of_bucket 1 o.front o.ids o.last o.order c.requires.is.order c.requires.is.from c.if-self.true;
     }

@@ -9,8 +9,8 @@ use Rattle.table_text.proofs.sections.Lines.store_next.Goals as goal
 longer : (done count width : ℕ) → (done + count) * width ≡ done * width + count * width
 longer done count width = omega arith
 
-pub store_run-requires-clause-room : goal.store_run-requires-clause-room
-store_run-requires-clause-room c =
+pub store_bucket-requires-clause-room : goal.store_bucket-requires-clause-room
+store_bucket-requires-clause-room c =
     let t = c.args.self.table.now in
     let width : ℕ = 16 * t.rounds + 16 in
     let inv = c.loop-next.invariant in
@@ -19,7 +19,7 @@ store_run-requires-clause-room c =
     let few : done + count ≤ c.args.self.size = omega (arith, inv.from, c.min-count.ensures) in
     omega (arith, inv.filled, c.requires.room, c.args.self.fits, mul-le-mul_right width few)
 
--- The lines of the rest of a run are stored, as far as they are of the section.
+-- The lines of the rest of a bucket are stored, as far as they are of the section.
 pub loop-next-preserved : goal.loop-next-preserved
 loop-next-preserved c =
     let t = c.args.self.table.now in
@@ -41,9 +41,9 @@ loop-next-preserved c =
       from = omega arith;
       within = omega (arith, c.min-count.ensures);
       shows = shows_later count t.rounds t.ids next c.loop-next.odometer c.advance_by.new.self inv.shows c.advance_by.ensures;
-      stored = c.store_run.ensures.lines
+      stored = c.store_bucket.ensures.lines
           ∙ ap (λ l. l ++ lines_from t next count) inv.stored
           ∙ append_assoc c.args.chunk.now (lines_from t first done) (lines_from t next count)
           ∙ ap (λ l. c.args.chunk.now ++ l) joined;
-      filled = omega (arith, inv.filled, c.store_run.ensures.filled, wide);
+      filled = omega (arith, inv.filled, c.store_bucket.ensures.filled, wide);
     }

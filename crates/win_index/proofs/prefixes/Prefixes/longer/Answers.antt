@@ -1,7 +1,7 @@
 use Rattle.std.proofs.Common.{refl, arith}
 use Rattle.std.proofs.lemmas.Grind.{common_steps}
 use Rattle.std.proofs.lemmas.Bool.Decides.{nat_tests}
-use Rattle.win_index.proofs.RunPrefixNumbers.{grown_few, grown_numbers}
+use Rattle.win_index.proofs.BucketPrefixNumbers.{grown_few, grown_numbers}
 use Rattle.win_index.proofs.prefixes.Prefixes.longer.Goals as goal
 
 pub overflow_add-result-2 : goal.overflow_add-result-2

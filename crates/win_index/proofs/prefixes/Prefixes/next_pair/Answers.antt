@@ -1,5 +1,5 @@
 use Rattle.std.proofs.Common.{get_or, refl}
-use Rattle.win_index.proofs.RunPrefixNumbers.{pair_is, pair_numbers, two_items}
+use Rattle.win_index.proofs.BucketPrefixNumbers.{pair_is, pair_numbers, two_items}
 use Rattle.win_index.proofs.prefixes.Prefixes.next_pair.Goals as goal
 
 pub write_next-requires : goal.write_next-requires

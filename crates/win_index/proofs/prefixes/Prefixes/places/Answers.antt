@@ -1,5 +1,5 @@
 use Rattle.std.proofs.Common.{refl, arith}
-use Rattle.win_index.proofs.RunPrefixNumbers.{prefix_has_places}
+use Rattle.win_index.proofs.BucketPrefixNumbers.{prefix_has_places}
 use Rattle.win_index.proofs.prefixes.Prefixes.places.Goals as goal
 
 pub returns : goal.returns

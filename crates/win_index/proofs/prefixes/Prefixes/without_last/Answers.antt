@@ -1,7 +1,7 @@
 use Rattle.std.proofs.Common.{refl, arith}
 use Rattle.std.proofs.lemmas.Grind.{common_steps}
 use Rattle.std.proofs.lemmas.Bool.Decides.{nat_tests}
-use Rattle.win_index.proofs.RunPrefixNumbers.{gaps_are_few, shrunk_numbers}
+use Rattle.win_index.proofs.BucketPrefixNumbers.{gaps_are_few, shrunk_numbers}
 use Rattle.win_index.proofs.prefixes.Prefixes.without_last.Goals as goal
 
 pub returns : goal.returns

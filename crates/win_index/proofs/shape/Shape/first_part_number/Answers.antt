@@ -1,7 +1,7 @@
 use Rattle.std.proofs.Common.{◌≡◌, ◌+◌, ◌-◌, ◌*◌, slice_get, Some, ap, subst, arith}
 use Rattle.win_index.specs.Falling.{falling}
 use Rattle.win_index.specs.Windows.{windows}
-use Rattle.win_index.proofs.RunPrefixNumbers.{prefix_number}
+use Rattle.win_index.proofs.BucketPrefixNumbers.{prefix_number}
 use Rattle.win_index.proofs.shape.Shape.first_part_number.Goals as goal
 
 pub returns : goal.returns
