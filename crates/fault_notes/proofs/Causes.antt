@@ -5,8 +5,8 @@ use Rattle.node_lang.specs.declared.token.Token.TheVariants as token
 use Rattle.node_lang.specs.Lexemes.{Lexeme, lexemes_of}
 use Rattle.lang_check.specs.declared.acceptance.CheckFault.{CheckFault}
 use Rattle.lang_check.specs.declared.acceptance.CheckFault.TheVariants as check
-use Rattle.fault_notes.specs.FaultTokens.{is_cause, first_cause, offset_in, place_of_cause}
-use Rattle.fault_notes.specs.CausePlaces.{scope_after, next_scope, is_cause_at, cause_from, offset_from}
+use Rattle.fault_notes.specs.FaultTokens.{is_cause, first_cause, offset_in, offset_of_cause}
+use Rattle.fault_notes.specs.CauseTokens.{scope_after, next_scope, is_cause_at, cause_from, offset_from}
 
 next_same : (before : List Token) (t : Token) → next_scope (scope_after before) t ≡ scope_after (t ∷ before)
 next_same before token.Start = refl
@@ -42,5 +42,5 @@ finds text f before (l ∷ ls) =
 
 -- before the first token
 pub found : (text : List ℕ) (f : CheckFault) →
-    offset_from text (cause_from f (scope_after []) (lexemes_of text)) ≡ place_of_cause text f
+    offset_from text (cause_from f (scope_after []) (lexemes_of text)) ≡ offset_of_cause text f
 found text f = finds text f [] (lexemes_of text)

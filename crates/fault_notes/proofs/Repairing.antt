@@ -25,13 +25,13 @@ makes_program text new offset e ordered within there is program = record {
 pub faults_later : (text new : List ℕ) (offset : ℕ) (e : Edit) → e.from ≤ e.to → e.to ≤ length text
     → (e.from ≡ e.to → e.from ≡ offset) →
     new ≡ edited text e →
-    (k : FaultKind) (place : ℕ) (behind : List ℕ) → FaultsAt new k place → k ≢ kind.TooLong →
-    behind ≡ drop (max offset e.to) text → ends_line behind (length new - place) ≡ true → IsRepair text offset e
-faults_later text new offset e ordered within there is k place behind found other is_behind late = record {
+    (k : FaultKind) (stop : ℕ) (behind : List ℕ) → FaultsAt new k stop → k ≢ kind.TooLong →
+    behind ≡ drop (max offset e.to) text → ends_line behind (length new - stop) ≡ true → IsRepair text offset e
+faults_later text new offset e ordered within there is k stop behind found other is_behind late = record {
   ordered = ordered;
   within = within;
   put_there = there;
-  further = later k place other (subst (λ t. FaultsAt t k place) is found)
-      (subst (λ b. ends_line b (length (edited text e) - place) ≡ true) is_behind
-      (subst (λ t. ends_line behind (length t - place) ≡ true) is late));
+  further = later k stop other (subst (λ t. FaultsAt t k stop) is found)
+      (subst (λ b. ends_line b (length (edited text e) - stop) ≡ true) is_behind
+      (subst (λ t. ends_line behind (length t - stop) ≡ true) is late));
 }

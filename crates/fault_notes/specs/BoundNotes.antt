@@ -5,7 +5,7 @@ use Rattle.std.specs.Fmt.{decimal}
 use Rattle.node_program.specs.Term.{ProgramTree}
 use Rattle.node_program.specs.Bounds.{register_bounds}
 use Rattle.lang_check.specs.Misplaced.{register_over_channels}
-use Rattle.source_places.specs.Lists.{joined}
+use Rattle.source_text.specs.Lists.{joined}
 
 abbrev pub bounds_heading : ℕ → List ℕ
 bounds_heading j = codes "nbhd: bounds of r" ++ (decimal j ++ codes " after `start` and each round: ")

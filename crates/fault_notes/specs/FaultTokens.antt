@@ -79,6 +79,6 @@ abbrev pub offset_in : List ℕ → Option Lexeme → Option ℕ
 offset_in text None = None
 offset_in text (Some l) = Some (length text - l.from)
 
--- the place of the first lexeme of the text that is the cause of this refusal
-abbrev pub place_of_cause : List ℕ → CheckFault → Option ℕ
-place_of_cause text f = offset_in text (first_cause f [] (lexemes_of text))
+-- the offset of the first lexeme of the text that is the cause of this refusal
+abbrev pub offset_of_cause : List ℕ → CheckFault → Option ℕ
+offset_of_cause text f = offset_in text (first_cause f [] (lexemes_of text))

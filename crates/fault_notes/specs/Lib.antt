@@ -2,8 +2,8 @@
 pub mod Words
 pub mod Repairs
 pub mod TextNotes
-pub mod Placed
+pub mod Located
 pub mod FaultTokens
-pub mod CausePlaces
+pub mod CauseTokens
 pub mod BoundNotes
 pub mod ProgramNotes

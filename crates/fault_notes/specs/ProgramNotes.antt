@@ -11,8 +11,8 @@ use Rattle.node_program.specs.Term.{ProgramTree}
 use Rattle.node_lang.specs.declared.token.Token.{Token}
 use Rattle.node_lang.specs.declared.token.Token.TheVariants as token
 use Rattle.node_lang.specs.Lexemes.{lexemes_of}
-use Rattle.fault_notes.specs.Placed.{placed_note}
-use Rattle.fault_notes.specs.FaultTokens.{place_of_cause}
+use Rattle.fault_notes.specs.Located.{located_note}
+use Rattle.fault_notes.specs.FaultTokens.{offset_of_cause}
 use Rattle.fault_notes.specs.BoundNotes.{growth_text}
 
 -- the greatest number of identifiers that makes a shape with t rounds; all from 2t+2 to it do
@@ -86,10 +86,10 @@ abbrev pub IsCheckNote : List ℕ → ProgramTree → ℕ → CheckFault → Lis
 IsCheckNote text p ids check.IdsOutOfRange note = IsIdsNote (length p.steps) ids note
 IsCheckNote text p ids check.TooManyWindows note = IsIdsNote (length p.steps) ids note
 IsCheckNote text p ids (check.RegisterOutOfRange j) note =
-    note ≡ placed_note text (register_cause j) (place_of_cause text (check.RegisterOutOfRange j))
+    note ≡ located_note text (register_cause j) (offset_of_cause text (check.RegisterOutOfRange j))
 IsCheckNote text p ids check.IdOutsideStart note =
-    note ≡ placed_note text id_cause (place_of_cause text check.IdOutsideStart)
+    note ≡ located_note text id_cause (offset_of_cause text check.IdOutsideStart)
 IsCheckNote text p ids check.MessageOutsideStep note =
-    note ≡ placed_note text message_cause (place_of_cause text check.MessageOutsideStep)
+    note ≡ located_note text message_cause (offset_of_cause text check.MessageOutsideStep)
 IsCheckNote text p ids (check.ChannelBound b) note =
     note ≡ (bound_note p.channels b ++ growth_text p ids) ++ not_line text b

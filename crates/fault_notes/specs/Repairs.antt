@@ -7,11 +7,11 @@ use Rattle.node_lang.specs.declared.fault.FaultKind.{FaultKind}
 use Rattle.node_lang.specs.declared.fault.FaultKind.TheVariants as kind
 use Rattle.node_lang.specs.Grammar.{Reads}
 use Rattle.node_lang.specs.Faults.{FaultsAt}
-use Rattle.source_places.specs.Shown.{shown_byte}
+use Rattle.source_text.specs.Shown.{shown_byte}
 use Rattle.fault_notes.specs.declared.edits.Edit.{Edit}
 
--- A byte of an edit as it is tried: 0 stands for an expression that is still to be written, in whose place the
--- number 0 is tried, and 1 for a number of the header, in whose place 1 is tried.
+-- A byte of an edit as it is tried: 0 stands for an expression that is still to be written, instead of which the
+-- number 0 is tried, and 1 for a number of the header, instead of which 1 is tried.
 abbrev pub tried_byte : ℕ → ℕ
 tried_byte b = if nat_lt b 2 then b + 48 else b
 
@@ -24,14 +24,14 @@ abbrev pub ends_line : List ℕ → ℕ → Bool
 ends_line text left = list_any (λ b. b == 10) (take (length text - left) text)
 
 -- The edited text is a program; or its first fault stands on a later line: behind the edit, and not before the old
--- fault, a line ends before it. What is behind the edit is the same in both texts, so the places are counted from
+-- fault, a line ends before it. What is behind the edit is the same in both texts, so offsets are counted from
 -- their ends.
 pub data GoesFurther (text : List ℕ) (offset : ℕ) (e : Edit) : Type 0 where
   whole : (p : ProgramTree) → Reads (edited text e) p → GoesFurther text offset e
-  later : (k : FaultKind) (place : ℕ) → k ≢ kind.TooLong → FaultsAt (edited text e) k place →
-      ends_line (drop (max offset e.to) text) (length (edited text e) - place) ≡ true → GoesFurther text offset e
+  later : (k : FaultKind) (stop : ℕ) → k ≢ kind.TooLong → FaultsAt (edited text e) k stop →
+      ends_line (drop (max offset e.to) text) (length (edited text e) - stop) ≡ true → GoesFurther text offset e
 
--- an edit within a text that goes further than its fault at this offset; what is put in the place of nothing is put
+-- an edit within a text that goes further than its fault at this offset; what is put instead of nothing is put
 -- there
 pub record IsRepair (text : List ℕ) (offset : ℕ) (e : Edit) : Type 0 where
   pub ordered : e.from ≤ e.to
@@ -55,9 +55,9 @@ abbrev pub abridged : List ℕ → List ℕ
 abridged part = if nat_le (length part) 60 then written part
     else written (take 50 part) ++ codes " .."
 
--- where something is written: at the end of the text, before the place, or instead of what stands there
-abbrev pub place_text : List ℕ → List ℕ → List ℕ
-place_text old rest = if length old == 0 then (if length rest == 0 then codes " at the end" else codes " before it")
+-- where something is written: at the end of the text, before the offset, or instead of what stands there
+abbrev pub where_text : List ℕ → List ℕ → List ℕ
+where_text old rest = if length old == 0 then (if length rest == 0 then codes " at the end" else codes " before it")
     else codes " in the place of `" ++ (abridged old ++ codes "`")
 
 -- what is to be written
@@ -69,7 +69,7 @@ what_text put = if (length put == 1) && (slice_index put 0 == 0) then codes "; w
 -- what is to be done with this part, before the text that is left
 abbrev pub told : List ℕ → List ℕ → List ℕ → List ℕ
 told old put rest = if length put == 0 then codes "; leave out `" ++ (abridged old ++ codes "`")
-    else what_text put ++ place_text old rest
+    else what_text put ++ where_text old rest
 
 -- what a note tells one to do
 abbrev pub repair_text : List ℕ → Edit → List ℕ

@@ -4,10 +4,10 @@ use Rattle.node_lang.specs.declared.fault.FaultKind.{FaultKind}
 use Rattle.node_lang.specs.declared.fault.FaultKind.TheVariants as kind
 use Rattle.node_lang.specs.declared.expected.Expected.{Expected}
 use Rattle.node_lang.specs.Following.{IsExpected}
-use Rattle.source_places.specs.Heads.{place_head}
-use Rattle.source_places.specs.Shown.{shown, marked_line}
-use Rattle.source_places.specs.KindAdvice.{IsAdviceOn, IsOfKind}
-use Rattle.source_places.specs.declared.kinds.TextKind.TheVariants.{Program}
+use Rattle.source_text.specs.Heads.{note_head}
+use Rattle.source_text.specs.Shown.{shown, marked_line}
+use Rattle.source_text.specs.KindAdvice.{IsAdviceOn, IsOfKind}
+use Rattle.source_text.specs.declared.kinds.TextKind.TheVariants.{Program}
 use Rattle.fault_notes.specs.Words.{wanted_part, first_word}
 use Rattle.fault_notes.specs.declared.edits.Edit.{Edit}
 use Rattle.fault_notes.specs.Repairs.{IsRepair, optional_text}
@@ -16,7 +16,7 @@ use Rattle.fault_notes.specs.Repairs.{IsRepair, optional_text}
 abbrev pub quoted : List ℕ → List ℕ
 quoted word = codes "`" ++ (shown word ++ codes "`")
 
--- The cause at a place, from the word there and what can follow there. A text that is too long has no such place.
+-- The cause at an offset, from the word there and what can follow there. A text that is too long has no such offset.
 abbrev pub cause_of : FaultKind → List ℕ → Option Expected → List ℕ
 cause_of kind.TooLong word w = []
 cause_of kind.NotAscii word w = codes "a byte over 127; a program text is ASCII, in its comments too"
@@ -38,13 +38,13 @@ pub record IsAdvice (text : List ℕ) (offset : ℕ) (advice : List ℕ) : Type 
   pub helps : IfSome repair (IsRepair text offset)
   pub is : advice ≡ fact ++ optional_text text repair
 
--- The note on this fault has its place and its cause, with what is expected there, perhaps followed by advice.
+-- The note on this fault has its location and its cause, with what is expected there, perhaps followed by advice.
 pub record IsTextNote (text : List ℕ) (k : FaultKind) (offset : ℕ) (note : List ℕ) : Type 0 where
   pub wanted : Option Expected
   pub is_wanted : IsExpected text k offset wanted
   pub advice : List ℕ
   pub is_advice : IsAdvice text offset advice
-  pub is : note ≡ place_head text offset
+  pub is : note ≡ note_head text offset
       ++ (cause_of k (first_word (drop offset text)) wanted ++ (advice ++ 10 ∷ marked_line text offset))
 
 -- the note on a text that is too long, with advice if it looks like one of another kind

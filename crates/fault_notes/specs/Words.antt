@@ -1,4 +1,4 @@
--- The texts of notes for what can follow at a place, and for the word there.
+-- The texts of notes for what can follow at an offset, and for the word there.
 use Rattle.std.specs.Prelude.{ℕ, ◌==◌, ◌++◌, List, [], take, codes, Option, Some, None, if◌then◌else◌}
 use Rattle.std.specs.List.{prefix_len}
 use Rattle.std.specs.Fmt.{decimal}

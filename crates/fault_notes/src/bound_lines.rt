@@ -6,7 +6,7 @@ ghost use Rattle.fault_notes.specs.BoundNotes as notes;
 
 use lang_check::{bounds_after, register_over_channels};
 use node_lang::{MAX_REGISTERS, Program};
-use source_places::write_joined;
+use source_text::write_joined;
 use std::alloc::{AllocError, Global};
 use std::fmt::Write;
 

@@ -6,7 +6,7 @@ use crate::rows::Part;
 use crate::tokens::{Spot, after, before, is_known, part};
 use node_lang::Expected::{self, This};
 use node_lang::Token;
-use source_places::{first_line_len, is_one_of, last_line_len};
+use source_text::{first_line_len, is_one_of, last_line_len};
 use std::alloc::AllocError;
 
 // The registers, and the digits.
@@ -58,7 +58,7 @@ fn is_alike(word: &[u8], name: &[u8]) -> bool {
 }
 
 impl Spot<'_> {
-    // Returns what can stand in the place of a word that is not of the language, an empty text if nothing can, or if it stands
+    // Returns what can stand instead of a word that is not of the language, an empty text if nothing can, or if it stands
     // behind the word.
     fn instead(self) -> &'static [u8] {
         let next = self.token(after(self.number, 1));
@@ -115,7 +115,7 @@ pub(crate) struct Edits<'a> {
 }
 
 impl<'a> Edits<'a> {
-    // Adds that pieces are put in the place of the tokens from one up to another, before the first if both are one.
+    // Adds that pieces are put instead of the tokens from one up to another, before the first if both are one.
     fn put(&mut self, first: usize, end: usize, pieces: &[&[u8]]) -> Result<(), AllocError> {
         self.all.push(self.spot.put(first, end, pieces)?)?;
         Ok(())
@@ -131,7 +131,7 @@ impl<'a> Edits<'a> {
         Ok(())
     }
 
-    // Adds that each of these pieces is put in the place of the tokens from one up to the token, between a front
+    // Adds that each of these pieces is put instead of the tokens from one up to the token, between a front
     // and a back.
     fn put_each(
         &mut self,
@@ -164,7 +164,7 @@ impl<'a> Edits<'a> {
         Ok(())
     }
 
-    // Adds what can stand in the place of the token, and that it is left out.
+    // Adds what can stand instead of the token, and that it is left out.
     fn put_instead(&mut self) -> Result<(), AllocError> {
         let (spot, number) = (self.spot, self.spot.number);
         let next = spot.after_marks(number);
@@ -248,7 +248,7 @@ impl<'a> Edits<'a> {
             return Ok(());
         }
         let all = spot.all.iter();
-        let rounds = all.filter(|placed| placed.token == Token::Round).count();
+        let rounds = all.filter(|spanned| spanned.token == Token::Round).count();
         self.put(0, 2, &[b"rounds ", part(DIGITS, rounds, after(rounds, 1))])?;
         let count = match (spot.expected, spot.token(spot.number)) {
             (This(Token::Register(register)), _) => register as usize,

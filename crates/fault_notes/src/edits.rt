@@ -10,10 +10,10 @@ ghost use Rattle.fault_notes.specs.Repairs as repair;
 
 use node_lang::{Expected, FaultKind, TextFault, parse};
 use node_program::OutOfMemory;
-use source_places::{first_of, write_shown};
+use source_text::{first_of, write_shown};
 use std::alloc::{AllocError, Global};
 
-/// An edit of a text: `put` is written in the place of the bytes from `from` up to `to`. A byte 0 in
+/// An edit of a text: `put` is written instead of the bytes from `from` up to `to`. A byte 0 in
 /// `put` stands for an expression that is still to be written, and a byte 1 for a number of the header;
 /// the numbers 0 and 1 are tried there.
 #[derive(Drop)]
@@ -183,7 +183,7 @@ fn write_quoted(out: &mut String, head: &str, part: &[u8]) -> Result<(), AllocEr
 
 // Writes where something is to be written.
 fn write_where(out: &mut String, old: &[u8], rest: &[u8]) -> Result<(), AllocError>
-    ensures { OnOk result (string_bytes out.new ≡ string_bytes out.old ++ repair.place_text old.now rest.now) }
+    ensures { OnOk result (string_bytes out.new ≡ string_bytes out.old ++ repair.where_text old.now rest.now) }
 {
     if !old.is_empty() {
         return write_quoted(out, " in the place of `", old);

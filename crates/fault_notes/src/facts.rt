@@ -1,7 +1,7 @@
 //! Facts on the language, by what is met and where it cannot stand.
 
 use crate::rows::{
-    Part, Place, Row, Sign, Told, behind, expression_marks, line_beginnings, marks_behind,
+    Context, Part, Row, Sign, Told, behind, expression_marks, line_beginnings, marks_behind,
     other_values, signs, values, words,
 };
 use crate::tokens::{Spot, after, before, part};
@@ -50,25 +50,25 @@ pub(crate) fn fact_on_sign(text: &[u8]) -> Fact<'static> {
 }
 
 impl<'a> Spot<'a> {
-    // Returns whether the token stands at a place.
-    fn is_at(self, place: Place) -> bool {
+    // Returns whether the token stands in a context.
+    fn is_at(self, context: Context) -> bool {
         let is_register = matches!(self.expected, This(Token::Register(_)));
-        match place {
-            Place::Any => true,
-            Place::Expression => self.expected == Expected::Expression,
-            Place::Number => self.expected == Expected::Number,
-            Place::End => self.expected == Expected::End,
-            Place::First => is_register && self.is_early(),
-            Place::Register => is_register && !self.is_early(),
-            Place::Behind => self.is_behind(),
-            Place::At(token) => self.expected == This(token),
+        match context {
+            Context::Any => true,
+            Context::Expression => self.expected == Expected::Expression,
+            Context::Number => self.expected == Expected::Number,
+            Context::End => self.expected == Expected::End,
+            Context::First => is_register && self.is_early(),
+            Context::Register => is_register && !self.is_early(),
+            Context::Behind => self.is_behind(),
+            Context::At(token) => self.expected == This(token),
         }
     }
 
-    // Returns whether the token stands at one of these places.
-    pub(crate) fn is_among(self, places: &[Place]) -> bool {
-        for place in places {
-            if self.is_at(*place) {
+    // Returns whether the token stands in one of these contexts.
+    pub(crate) fn is_among(self, contexts: &[Context]) -> bool {
+        for context in contexts {
+            if self.is_at(*context) {
                 return true;
             }
         }
@@ -118,7 +118,7 @@ impl<'a> Spot<'a> {
                 None => true,
             };
             let is_there = self.form_end(self.number, row.parts).is_some();
-            if is_after && is_there && self.is_among(row.places) {
+            if is_after && is_there && self.is_among(row.contexts) {
                 return Some(*row);
             }
         }

@@ -4,7 +4,7 @@ use crate::edits::Edit;
 use crate::rows::Part;
 use crate::tokens::{Spot, before};
 use node_lang::Token;
-use source_places::is_one_of;
+use source_text::is_one_of;
 use std::alloc::AllocError;
 
 // An edit, if there is one.
@@ -21,7 +21,7 @@ pub(crate) enum Piece {
 }
 
 // A form of another notation: how tight its operator binds, 0 if it has none, what stands there, and what is
-// written in its place.
+// written instead of it.
 #[derive(Clone, Copy)]
 pub(crate) struct Form {
     level: u8,
@@ -208,9 +208,9 @@ impl<'a> Spot<'a> {
     // Returns what the part with this index stands for, of a form at a token.
     fn nth_part(self, start: usize, parts: &[Part], index: usize) -> Option<&'a [u8]> {
         let mut at = start;
-        for (place, part) in parts.iter().enumerate() {
+        for (number, part) in parts.iter().enumerate() {
             let end = self.part_end(at, *part)?;
-            if place == index {
+            if number == index {
                 return Some(self.words(at, end));
             }
             at = end;

@@ -1,14 +1,14 @@
-//! Notes on program texts and programs that are refused: the cause and its place, what can stand there, a fact on the
+//! Notes on program texts and programs that are refused: the cause and its location, what can stand there, a fact on the
 //! language, and an edit that has been tried.
 #![tactic(auto)]
 
 mod bound_lines;
 mod candidates;
-mod cause_places;
+mod cause_tokens;
 mod edits;
 mod facts;
 mod forms;
-mod placed;
+mod located;
 mod program_notes;
 mod repair;
 mod rewrites;
@@ -17,6 +17,6 @@ mod text_notes;
 mod tokens;
 mod word_texts;
 
-pub use cause_places::place_of_cause;
+pub use cause_tokens::offset_of_cause;
 pub use program_notes::{check_note, ids_note};
 pub use text_notes::text_note;

@@ -3,16 +3,16 @@
 ghost use Rattle.std.specs.Prelude.{◌≡◌, ◌≤◌, ◌↔◌, ◌++◌, ℕ, IsTrue, IfOk, IfSome, IfNone, string_bytes};
 ghost use Rattle.win_index.specs.declared.limits.TheConstants.{MAX_ROUNDS};
 ghost use Rattle.win_index.specs.ShapeRange.{IsShape};
-ghost use Rattle.fault_notes.specs.Placed.{placed_note};
-ghost use Rattle.fault_notes.specs.FaultTokens.{place_of_cause};
+ghost use Rattle.fault_notes.specs.Located.{located_note};
+ghost use Rattle.fault_notes.specs.FaultTokens.{offset_of_cause};
 ghost use Rattle.lang_check.specs.declared.acceptance.CheckFault.TheVariants as check;
 ghost use Rattle.fault_notes.specs.ProgramNotes.{IsMostIds, IsIdsNote, IsCheckNote, register_cause, rounds_take};
 ghost use Rattle.fault_notes.specs.ProgramNotes as notes;
 ghost use Rattle.fault_notes.specs.BoundNotes.{growth_text};
 
 use crate::bound_lines::write_growth;
-use crate::cause_places::has_not;
-use crate::placed::placed_note;
+use crate::cause_tokens::has_not;
+use crate::located::located_note;
 use lang_check::CheckFault;
 use node_lang::{MAX_CHANNELS, Program};
 use node_program::OutOfMemory;
@@ -20,7 +20,7 @@ use std::alloc::{AllocError, Global};
 use win_index::{MAX_IDS, MAX_ROUNDS, Shape, count_of_windows};
 
 /// Returns the note on the refusal of the program of a text for `ids` identifiers: the possible
-/// numbers of identifiers, or the cause and the place of the first token that is the cause, or the
+/// numbers of identifiers, or the cause and the location of the first token that is the cause, or the
 /// bound of the channels, the bounds of the register that makes it so large, and a line on `not` if
 /// the text has it and no number of channels is above the bound. Fails if memory was refused.
 pub fn check_note(
@@ -39,12 +39,12 @@ pub fn check_note(
         CheckFault::RegisterOutOfRange(register) => register_note(alloc, text, register),
         CheckFault::IdOutsideStart => {
             let cause = "`id` can be read in `start` alone; keep it in a register";
-            placed_note(alloc, text, CheckFault::IdOutsideStart, cause)
+            located_note(alloc, text, CheckFault::IdOutsideStart, cause)
         }
         CheckFault::MessageOutsideStep => {
             let cause =
                 "`L` and `R` can be read in the assignments of a round alone; keep them in registers there";
-            placed_note(alloc, text, CheckFault::MessageOutsideStep, cause)
+            located_note(alloc, text, CheckFault::MessageOutsideStep, cause)
         }
         CheckFault::ChannelBound(bound) => bound_note(alloc, text, program, ids, bound),
     }
@@ -110,13 +110,13 @@ pub fn ids_note(alloc: Global, rounds: u32, ids: u32) -> Result<String, OutOfMem
 
 // Returns the note on a register that the program does not have.
 fn register_note(alloc: Global, text: &[u8], register: u32) -> Result<String, OutOfMemory>
-    ensures { IfOk result (λ note. string_bytes note ≡ placed_note text.now (register_cause register)
-        (place_of_cause text.now (check.RegisterOutOfRange register))) }
+    ensures { IfOk result (λ note. string_bytes note ≡ located_note text.now (register_cause register)
+        (offset_of_cause text.now (check.RegisterOutOfRange register))) }
 {
     let cause = format!(in alloc;
         "there is no register r{register}; `registers` says how many there are, from r0 to at most r7"
     )?;
-    placed_note(
+    located_note(
         alloc,
         text,
         CheckFault::RegisterOutOfRange(register),

@@ -11,7 +11,7 @@ use crate::rows::Told;
 use crate::tokens::{Spot, before, is_known, part, tokens_in};
 use node_lang::{FaultKind, TextFault, expected_in};
 use node_program::OutOfMemory;
-use source_places::write_shown;
+use source_text::write_shown;
 use std::alloc::{AllocError, Global};
 
 /// Advice on a fault: a fact on the language, which may be empty, and an edit.

@@ -6,7 +6,7 @@ use crate::forms::{Found, prefix};
 use crate::tokens::{Spot, after, before, is_known, part, tokens_in};
 use node_lang::Expected::{self, This};
 use node_lang::{Token, token_from};
-use source_places::is_one_of;
+use source_text::is_one_of;
 use std::alloc::{AllocError, Global};
 
 // Returns an edit that is a step towards a text of a program, if there is one.

@@ -8,7 +8,7 @@ use node_lang::Token::{
     Send, Start,
 };
 
-// When a fact is told: in the place of an edit, unless the text is written in another notation; before an edit; or
+// When a fact is told: instead of an edit, unless the text is written in another notation; before an edit; or
 // where no edit helps.
 #[derive(Clone, Copy, PartialEq, Eq)]
 pub(crate) enum Told {
@@ -17,9 +17,9 @@ pub(crate) enum Told {
     Without,
 }
 
-// A place in a text, by what is expected there.
+// What is expected where a token stands.
 #[derive(Clone, Copy)]
-pub(crate) enum Place {
+pub(crate) enum Context {
     Any,
     Expression,
     Number,
@@ -28,7 +28,7 @@ pub(crate) enum Place {
     First,
     // A register in a round.
     Register,
-    // Any place behind an expression on its line.
+    // Behind an expression on its line.
     Behind,
     At(Token),
 }
@@ -57,11 +57,11 @@ pub(crate) enum Part {
     LineEnd,
 }
 
-// A row of facts: where it counts, what the token before is, what stands there, and a fact and what is written in
-// the place of the token, which both can be empty. `{}` in a fact stands for the word that is wrong.
+// A row of facts: where it counts, what the token before is, what stands there, and a fact and what is written
+// instead, which both can be empty. `{}` in a fact stands for the word that is wrong.
 #[derive(Clone, Copy)]
 pub(crate) struct Row {
-    pub(crate) places: &'static [Place],
+    pub(crate) contexts: &'static [Context],
     pub(crate) last: Option<Part>,
     pub(crate) parts: &'static [Part],
     pub(crate) told: Told,
@@ -69,7 +69,7 @@ pub(crate) struct Row {
     pub(crate) put: &'static str,
 }
 
-// Signs that may be no tokens, with blanks between them, a fact, and what is written in their place.
+// Signs that may be no tokens, with blanks between them, a fact, and what is written instead of them.
 #[derive(Clone, Copy)]
 pub(crate) struct Sign {
     pub(crate) signs: &'static str,
@@ -78,8 +78,8 @@ pub(crate) struct Sign {
 }
 
 macro_rules! rows {
-    ($([$($place:expr),+] $(after $last:expr,)? [$($part:expr),*] => $told:ident, $fact:literal, $put:literal;)+) => {
-        [$(Row { places: &[$($place),+], last: last!($($last)?), parts: &[$($part),*], told: Told::$told, fact: $fact,
+    ($([$($context:expr),+] $(after $last:expr,)? [$($part:expr),*] => $told:ident, $fact:literal, $put:literal;)+) => {
+        [$(Row { contexts: &[$($context),+], last: last!($($last)?), parts: &[$($part),*], told: Told::$told, fact: $fact,
         put: $put }),+]
     };
 }
@@ -93,8 +93,8 @@ macro_rules! signs {
     ($($signs:literal => $fact:literal, $put:literal;)+) => { [$(Sign { signs: $signs, fact: $fact, put: $put }),+] };
 }
 
+use Context::{Any, At, Behind, End, Expression, First};
 use Part::{LineEnd, Mark, Message, One, Operand, Operands, Operation, Strange, StrangeNumber};
-use Place::{Any, At, Behind, End, Expression, First};
 
 static VALUES: [Row; 17] = rows! {
     [Expression] [One("r"), One("_ _{ [ ( { 0 1 2 3 4 5 6 7")] => Without, "; registers are `r0` to `r7`", "";
@@ -127,7 +127,7 @@ static VALUES: [Row; 17] = rows! {
     [Expression] [One("minimum")] => Beside, "; `min` and `max` take two operands: `min(a, min(b, c))`", "min";
 };
 
-// Words in the place of an expression.
+// Words instead of an expression.
 pub(crate) fn values() -> &'static [Row] {
     &VALUES
 }
@@ -150,7 +150,7 @@ static MARKS: [Row; 13] = rows! {
     [Expression] [One("\" '")] => Beside, "; programs have no quotation marks", "";
 };
 
-// Operations by other names, and marks, in the place of an expression.
+// Operations by other names, and marks, instead of an expression.
 pub(crate) fn expression_marks() -> &'static [Row] {
     &MARKS
 }
@@ -200,14 +200,14 @@ static OTHERS: [Row; 15] = rows! {
     [Any] [One(","), One("right")] => Beside, "; each side has a `send` of its own", "";
     [Expression] [LineEnd] => Without, "", "";
     [Expression] [Part::Any] => Without, "; `{}` has no value", "";
-    [Place::Number] [One("-")] => Alone, "; numbers have no sign", "";
-    [Place::Number, At(Channels), At(Registers), At(Start)] [Mark] => Without,
+    [Context::Number] [One("-")] => Alone, "; numbers have no sign", "";
+    [Context::Number, At(Channels), At(Registers), At(Start)] [Mark] => Without,
         "; one number is written here, in digits", "";
-    [Place::Number] [Part::Register] => Without, "; one number is written here, in digits: how many there are", "";
-    [Place::Number] [] => Without, "; a number is written in digits", "";
+    [Context::Number] [Part::Register] => Without, "; one number is written here, in digits: how many there are", "";
+    [Context::Number] [] => Without, "; a number is written in digits", "";
 };
 
-// What else is met in the place of an expression or of a number.
+// What else is met instead of an expression or of a number.
 pub(crate) fn other_values() -> &'static [Row] {
     &OTHERS
 }
@@ -234,7 +234,7 @@ static SIGNS_BEHIND: [Row; 17] = rows! {
     [Behind] [One("-> =>")] => Without, "; a program has no arrows", "";
 };
 
-// Marks in the place of `=`, of a bracket or of a comma, and behind an expression.
+// Marks instead of `=`, of a bracket or of a comma, and behind an expression.
 pub(crate) fn marks_behind() -> &'static [Row] {
     &SIGNS_BEHIND
 }
@@ -260,7 +260,7 @@ static BEHIND: [Row; 17] = rows! {
     [Any] [One("(")] => Without, "; no brackets are allowed here", "";
 };
 
-// What else is met behind an expression, or in the place of a bracket.
+// What else is met behind an expression, or instead of a bracket.
 pub(crate) fn behind() -> &'static [Row] {
     &BEHIND
 }
@@ -278,13 +278,13 @@ static LINES: [Row; 20] = rows! {
     [At(Send)] after One("round"), [Part::Number] => Beside, "; rounds have no numbers", "";
     [Any] [Strange, Part::Register] => Without, "", "";
     [At(Send), At(Left), At(Right)] [] => Without, "; a round begins with `send left ..` and `send right ..`", "";
-    [First, Place::Register] [Strange, One("= ( [")] => Beside, "; registers are `r0` to `r7`, and have no other names",
+    [First, Context::Register] [Strange, One("= ( [")] => Beside, "; registers are `r0` to `r7`, and have no other names",
         "";
     [Any] [One("L R id"), One("=")] =>
         Alone, "; only registers are assigned: a value is sent by `send left` and `send right`", "";
     [Any] [Operation] => Beside, "; one expression is assigned to each register, as in `r0 = if(c, a, b)`", "";
     [First] [] => Beside, "; each register is assigned once, in order", "";
-    [Place::Register] [] => Beside, "; each register is assigned once, in order, as in `r0 = r0` where it stays", "";
+    [Context::Register] [] => Beside, "; each register is assigned once, in order, as in `r0 = r0` where it stays", "";
     [At(Round)] [One("finish round send")] =>
         Beside, "; there are as many rounds as `rounds` says: write the missing ones if that is right", "";
     [At(Finish)] [One("finish round send")] => Beside, "; there are as many rounds as `rounds` says", "";

@@ -6,8 +6,8 @@ ghost use Rattle.std.specs.Prelude.{IfNone, OnOk, string_bytes};
 ghost use Rattle.node_lang.specs.declared.fault.FaultKind.TheVariants as kind;
 ghost use Rattle.node_lang.specs.declared.expected.Expected.{Expected};
 ghost use Rattle.node_lang.specs.Faults.{FaultsAt};
-ghost use Rattle.source_places.specs.Heads.{place_head};
-ghost use Rattle.source_places.specs.Shown.{marked_line};
+ghost use Rattle.source_text.specs.Heads.{note_head};
+ghost use Rattle.source_text.specs.Shown.{marked_line};
 ghost use Rattle.fault_notes.specs.TextNotes.{quoted, cause_of, IsAdvice, IsTextNote, IsLongNote};
 ghost use Rattle.fault_notes.specs.Repairs.{optional_text};
 
@@ -16,13 +16,13 @@ use crate::repair::{Advice, advice_on};
 use crate::word_texts::{first_word, write_wanted_part};
 use node_lang::{Expected, FaultKind, TextFault, expected_in};
 use node_program::OutOfMemory;
-use source_places::{TextKind, kind_advice, write_marked_line, write_place_head, write_shown};
+use source_text::{TextKind, kind_advice, write_marked_line, write_note_head, write_shown};
 use std::alloc::{AllocError, Global};
 use std::fmt::Write;
 
 /// Returns the note on a fault of a program text: its line and its column, the cause and what can
-/// follow there, advice, and the line with a mark below the place. The note on a text that is too
-/// long has no place, and advice only if the text looks like one of another kind. Fails if memory was
+/// follow there, advice, and the line with a mark below the location. The note on a text that is too
+/// long has no location, and advice only if the text looks like one of another kind. Fails if memory was
 /// refused.
 pub fn text_note(alloc: Global, text: &[u8], fault: TextFault) -> Result<String, OutOfMemory>
     requires within { fault.offset ≤ length text.now }
@@ -51,7 +51,7 @@ fn long_note(alloc: Global, text: &[u8]) -> Result<String, OutOfMemory>
     }
 }
 
-// Writes the note on a fault that has a place.
+// Writes the note on a fault that has a location.
 fn write_note(
     alloc: Global,
     out: &mut String,
@@ -60,13 +60,13 @@ fn write_note(
 ) -> Result<(), OutOfMemory>
     requires { misread.fault.offset ≤ length text.now }
     ensures { OnOk result ((advice : List ℕ) × IsAdvice text.now misread.fault.offset advice
-        × (string_bytes out.new ≡ string_bytes out.old ++ (place_head text.now misread.fault.offset
+        × (string_bytes out.new ≡ string_bytes out.old ++ (note_head text.now misread.fault.offset
         ++ (cause_of misread.fault.kind (word (drop misread.fault.offset text.now)) misread.expected
         ++ (advice ++ 10 ∷ marked_line text.now misread.fault.offset))))) }
 {
     let offset = misread.fault.offset;
     let word = word_at(text, offset);
-    write_place_head(out, text, offset)?;
+    write_note_head(out, text, offset)?;
     write_cause(out, misread.fault.kind, word, misread.expected)?;
     write_advice(alloc, out, text, misread)?;
     out.push_str("\n")?;
@@ -156,10 +156,10 @@ fn write_quoted(out: &mut String, word: &[u8]) -> Result<(), AllocError>
     out.push_str("`")
 }
 
-// Returns a cause that does not depend on the word at the place or on what can follow there.
+// Returns a cause that does not depend on the word there or on what can follow there.
 fn fixed_cause(fault: FaultKind) -> &'static str
     requires no_word { fault ≢ kind.BadWord }
-    requires no_place { fault ≢ kind.Unexpected }
+    requires no_location { fault ≢ kind.Unexpected }
     requires no_end { fault ≢ kind.EndOfText }
     ensures { (word : List ℕ) (wanted : Option Expected) → result.now ≡ cause_of fault word wanted }
 {
@@ -198,7 +198,7 @@ fn write_cause(
     }
 }
 
-// Writes a word behind `head`, and what is expected at its place.
+// Writes a word behind `head`, and what is expected there.
 fn write_word(
     out: &mut String,
     head: &str,

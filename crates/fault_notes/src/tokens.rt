@@ -1,17 +1,17 @@
 //! The tokens of a text by their numbers, and the operands among them.
 
 use crate::word_texts::is_word_byte;
-use node_lang::{Expected, Placed, Token, token_from};
-use source_places::is_one_of;
+use node_lang::{Expected, Spanned, Token, token_from};
+use source_text::is_one_of;
 use std::alloc::{AllocError, Global};
 
 // Returns the tokens of a text.
-pub(crate) fn tokens_in(alloc: Global, text: &[u8]) -> Result<Vec<Placed>, AllocError> {
+pub(crate) fn tokens_in(alloc: Global, text: &[u8]) -> Result<Vec<Spanned>, AllocError> {
     let mut all = Vec::new(alloc);
     let mut at = 0;
-    'tokens: while let Some(placed) = token_from(text, at) {
-        all.push(placed)?;
-        at = placed.end;
+    'tokens: while let Some(spanned) = token_from(text, at) {
+        all.push(spanned)?;
+        at = spanned.end;
     }
     Ok(all)
 }
@@ -40,7 +40,7 @@ pub(crate) fn after(number: usize, count: usize) -> usize {
 // Returns whether bytes are one word or mark of the language.
 pub(crate) fn is_known(bytes: &[u8]) -> bool {
     match token_from(bytes, 0) {
-        Some(placed) => placed.end == bytes.len() && placed.token != Token::Unknown,
+        Some(spanned) => spanned.end == bytes.len() && spanned.token != Token::Unknown,
         None => false,
     }
 }
@@ -51,7 +51,7 @@ pub(crate) fn is_known(bytes: &[u8]) -> bool {
 pub(crate) struct Spot<'a> {
     pub(crate) alloc: Global,
     pub(crate) text: &'a [u8],
-    pub(crate) all: &'a [Placed],
+    pub(crate) all: &'a [Spanned],
     pub(crate) number: usize,
     pub(crate) expected: Expected,
 }
@@ -60,7 +60,7 @@ impl<'a> Spot<'a> {
     // Returns a token.
     pub(crate) fn token(self, number: usize) -> Option<Token> {
         match self.all.get(number) {
-            Some(placed) => Some(placed.token),
+            Some(spanned) => Some(spanned.token),
             None => None,
         }
     }
@@ -68,7 +68,7 @@ impl<'a> Spot<'a> {
     // Returns where a token begins and where it ends.
     pub(crate) fn span(self, number: usize) -> (usize, usize) {
         match self.all.get(number) {
-            Some(placed) => (placed.start, placed.end),
+            Some(spanned) => (spanned.start, spanned.end),
             None => (self.text.len(), self.text.len()),
         }
     }
@@ -104,11 +104,11 @@ impl<'a> Spot<'a> {
     pub(crate) fn new(
         alloc: Global,
         text: &'a [u8],
-        all: &'a [Placed],
+        all: &'a [Spanned],
         offset: usize,
         expected: Expected,
     ) -> Self {
-        let earlier = all.iter().take_while(|placed| placed.start < offset);
+        let earlier = all.iter().take_while(|spanned| spanned.start < offset);
         let number = earlier.count();
         Spot {
             alloc,

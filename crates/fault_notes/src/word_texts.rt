@@ -1,4 +1,4 @@
-//! The texts of notes for the word at a place, and for what can follow there.
+//! The texts of notes for the word at an offset, and for what can follow there.
 
 ghost use Rattle.std.specs.Prelude.{◌≡◌, ◌≤◌, ◌++◌, length, OnOk, string_bytes};
 ghost use Rattle.std.specs.List.{prefix_len};
@@ -6,7 +6,7 @@ ghost use Rattle.node_lang.specs.Words.{is_word_byte as word_byte};
 ghost use Rattle.fault_notes.specs.Words.{spelled, wanted_text, wanted_part, first_word as first};
 
 use node_lang::{Expected, Token};
-use source_places::first_of;
+use source_text::first_of;
 use std::alloc::AllocError;
 use std::fmt::Write;
 

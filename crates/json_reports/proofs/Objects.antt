@@ -2,7 +2,7 @@
 use Rattle.std.proofs.Common.{◌≡◌, ℕ, suc, ◌≤◌, List, [], ◌∷◌, ◌++◌, map, take, Option, Some, None, arith, refl}
 use Rattle.channel_tables.specs.Tables.{ChannelTable}
 use Rattle.channel_tables.specs.declared.separation.Separation.{Separation}
-use Rattle.fault_notes.specs.FaultTokens.{place_of_cause}
+use Rattle.fault_notes.specs.FaultTokens.{offset_of_cause}
 use Rattle.json.specs.Json.{Json, max_depth}
 use Rattle.json.specs.Tree.{depth, items_depth, members_depth}
 use Rattle.lang_check.specs.declared.acceptance.CheckFault.{CheckFault}
@@ -22,7 +22,7 @@ use Rattle.value_trees.specs.Rows.{RoundRows, trace_rows}
 use Rattle.value_trees.specs.ValueTrees.{ValuedPart, ValueTree, value_trees}
 use Rattle.win_index.specs.declared.ring.RingFault.TheVariants as ring
 use Rattle.json_reports.specs.Json.{answer_fields, check_fields, json_bytes, demand_fields, entry_value, fault_fields}
-use Rattle.json_reports.specs.Json.{note_fields, part_value, pattern_value, place_fields, round_value}
+use Rattle.json_reports.specs.Json.{note_fields, part_value, pattern_value, location_fields, round_value}
 use Rattle.json_reports.specs.Json.{table_fields, tree_value}
 use Rattle.json_reports.specs.Reports.{IsRead, IsReadBack}
 use Rattle.json_reports.specs.Values.{Field, array_of, items_of, json_text, members_of, numbers, numeral}
@@ -132,9 +132,9 @@ answer_object (answer.Refuted n) =
     let demand = demand_shallow p.separation p.forbidden in
     record { bytes = λ text note. refl; read = λ text note is. is; shallow = omega (arith, demand) }
 
-place_shallow : (text : List ℕ) (offset : Option ℕ) → Shallow (place_fields text offset)
-place_shallow text None = omega arith
-place_shallow text (Some offset) = omega arith
+location_shallow : (text : List ℕ) (offset : Option ℕ) → Shallow (location_fields text offset)
+location_shallow text None = omega arith
+location_shallow text (Some offset) = omega arith
 
 check_shallow : (f : CheckFault) → Shallow (check_fields f)
 check_shallow check.IdsOutOfRange = omega arith
@@ -147,8 +147,8 @@ check_shallow (check.ChannelBound bound) = omega arith
 fault_shallow : (text : List ℕ) (f : Fault) → Shallow (fault_fields text f)
 fault_shallow text (of_text k offset) = omega arith
 fault_shallow text (of_program p ids f) =
-    let both = joined_depth 4 (check_fields f) (place_fields text (place_of_cause text f)) (check_shallow f)
-    (place_shallow text (place_of_cause text f)) in
+    let both = joined_depth 4 (check_fields f) (location_fields text (offset_of_cause text f)) (check_shallow f)
+    (location_shallow text (offset_of_cause text f)) in
     omega (arith, both)
 fault_shallow text (of_ring m t places ring.TooShort) = omega arith
 fault_shallow text (of_ring m t places ring.TooLong) = omega arith

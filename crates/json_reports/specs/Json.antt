@@ -3,7 +3,7 @@ use Rattle.std.specs.Prelude.{ℕ, List, [], ◌∷◌, ◌++◌, map, take, Opt
 use Rattle.std.specs.Fmt.{decimal}
 use Rattle.channel_tables.specs.Tables.{ChannelTable}
 use Rattle.channel_tables.specs.declared.separation.Separation.{Separation}
-use Rattle.fault_notes.specs.FaultTokens.{place_of_cause}
+use Rattle.fault_notes.specs.FaultTokens.{offset_of_cause}
 use Rattle.json.specs.Json.{Json, null, boolean, string}
 use Rattle.lang_check.specs.declared.acceptance.CheckFault.{CheckFault}
 use Rattle.lang_check.specs.declared.acceptance.CheckFault.TheVariants as check
@@ -16,7 +16,7 @@ use Rattle.reports.specs.Findings as value
 use Rattle.ring_problems.specs.declared.pattern.Entry.{Entry}
 use Rattle.ring_problems.specs.declared.pattern.Entry.TheVariants as entry
 use Rattle.ring_problems.specs.declared.pattern.Pattern.{Pattern}
-use Rattle.source_places.specs.Places.{column, line_number}
+use Rattle.source_text.specs.Lines.{column, line_number}
 use Rattle.table_formula.specs.Texts.{formula_text}
 use Rattle.table_formula.specs.declared.refutation.fault.RefuteError.TheVariants as refute
 use Rattle.table_text.specs.declared.fault.TableFault.{TableFault}
@@ -143,14 +143,14 @@ answer_fields (value.refuted p) =
 answer_fields (value.refused f) = []
 
 -- the line and the column of the byte at an offset of a text, if there is one
-abbrev pub place_fields : List ℕ → Option ℕ → List Field
-place_fields text None = []
-place_fields text (Some offset) = numbered (codes "line") (line_number text offset)
+abbrev pub location_fields : List ℕ → Option ℕ → List Field
+location_fields text None = []
+location_fields text (Some offset) = numbered (codes "line") (line_number text offset)
     ∷ numbered (codes "column") (column text offset) ∷ []
 
 -- the byte at an offset of a text
 abbrev pub byte_fields : List ℕ → ℕ → List Field
-byte_fields text offset = numbered (codes "at") offset ∷ place_fields text (Some offset)
+byte_fields text offset = numbered (codes "at") offset ∷ location_fields text (Some offset)
 
 -- the register or the bound that a refusal of a program is about
 abbrev pub check_fields : CheckFault → List Field
@@ -174,7 +174,7 @@ table_fault_fields text table.OutOfMemory = []
 -- the details of a fault, with the place in the text of the cause
 abbrev pub detail_fields : List ℕ → Fault → List Field
 detail_fields text (of_text k offset) = byte_fields text offset
-detail_fields text (of_program p ids f) = check_fields f ++ place_fields text (place_of_cause text f)
+detail_fields text (of_program p ids f) = check_fields f ++ location_fields text (offset_of_cause text f)
 detail_fields text (of_ring m t places f) = ring_fields f
 detail_fields text (of_place place places) = numbered (codes "place") place ∷ []
 detail_fields text (of_table_text f) = table_fault_fields text f

@@ -1,17 +1,17 @@
 //! The members of a refusal. Each call fails only if memory was refused.
 
-ghost use Rattle.json_reports.specs.Json.{byte_fields, check_fields, detail_fields, fault_fields, place_fields};
+ghost use Rattle.json_reports.specs.Json.{byte_fields, check_fields, detail_fields, fault_fields, location_fields};
 ghost use Rattle.json_reports.specs.Json.{ring_fields, table_fault_fields};
 ghost use Rattle.json_reports.specs.Puts.{PutsFields};
 ghost use Rattle.reports.specs.Findings.{fault_of};
 ghost use Rattle.std.specs.Prelude.{Some};
 
 use crate::fields::{put_count, put_number, put_numbers, put_text};
-use fault_notes::place_of_cause;
+use fault_notes::offset_of_cause;
 use json::Writer;
 use lang_check::CheckFault;
 use reports::fault::Fault;
-use source_places::{column_of, line_of};
+use source_text::{column_of, line_of};
 use std::alloc::AllocError;
 use table_formula::RefuteError;
 use table_text::TableFault;
@@ -35,7 +35,7 @@ fn put_details(writer: &mut Writer, text: &[u8], fault: &Fault) -> Result<(), Al
         Fault::Text(fault) => put_byte(writer, text, fault.offset),
         Fault::Program { fault, .. } => {
             put_check_details(writer, *fault)?;
-            put_place(writer, text, place_of_cause(text, *fault))
+            put_location(writer, text, offset_of_cause(text, *fault))
         }
         Fault::Ring { fault, .. } => put_ring_details(writer, *fault),
         Fault::Place { place, .. } => put_number(writer, "place", *place),
@@ -90,13 +90,13 @@ fn put_byte(writer: &mut Writer, text: &[u8], offset: usize) -> Result<(), Alloc
     ensures { PutsFields result writer.old writer.new (byte_fields text.now offset) }
 {
     put_count(writer, "at", offset as u64)?;
-    put_place(writer, text, Some(offset))
+    put_location(writer, text, Some(offset))
 }
 
 // Appends the line and the column of the byte at an offset of a text, if there is one.
 #[tactic(auto, using(std::proofs::lemmas::List::take_min))]
-fn put_place(writer: &mut Writer, text: &[u8], offset: Option<usize>) -> Result<(), AllocError>
-    ensures { PutsFields result writer.old writer.new (place_fields text.now offset) }
+fn put_location(writer: &mut Writer, text: &[u8], offset: Option<usize>) -> Result<(), AllocError>
+    ensures { PutsFields result writer.old writer.new (location_fields text.now offset) }
 {
     let Some(offset) = offset else {
         return Ok(());

@@ -116,7 +116,7 @@ module _ (t : ChannelTable) (s : Separation) where
       let same : bucket.number ≡ number =
       one_number k t.ids bucket.number number window (bucket.front_at ∙ ap Some bad.2) item in
       let number_is : numbered.0 ≡ number * len + bucket.rest
-          = bucket.number_is ∙ ap (λ n. n * len + bucket.rest) same in
+      = bucket.number_is ∙ ap (λ n. n * len + bucket.rest) same in
       let next : suc number ≤ count = omega arith in
       none numbered.0 tuple (omega (arith, number_is, mul-le-mul_right len from))
       (omega (arith, number_is, inside, le, mul-le-mul_right len next, suc-mul number len)) numbered.1 bad.3

@@ -64,7 +64,7 @@ pub known_more : (t : ChannelTable) (start place : ℕ) (part : List MiddleBucke
     → place < length part
     → IsMiddleBucket t (start + place) own
     → ((i : ℕ) (middle : MiddleBucket) → i < place → slice_get part i ≡ Some middle
-      → IsMiddleBucket t (start + i) middle)
+    → IsMiddleBucket t (start + i) middle)
     → (i : ℕ) (middle : MiddleBucket) → i < place + 1 → slice_get (set part place own) i ≡ Some middle
     → IsMiddleBucket t (start + i) middle
 known_more t start place part own within is before i middle lt item =

@@ -127,7 +127,7 @@ record HasThird (t : ChannelTable) (problem : List Pattern) (buckets : SecondBuc
   no_gap : place ≢ second_gap buckets second
   channel : 2 ≤ extra problem
       → channel_of t (part_at t.rounds 2 tuple) ≡ Some (slice_index t.entries
-        (second_bucket buckets second * wide t + place))
+      (second_bucket buckets second * wide t + place))
 
 any_third : (t : ChannelTable) (problem : List Pattern) (buckets : SecondBuckets) (second : ℕ) (tuple : List ℕ)
     → 2 ≤ wide t
@@ -162,7 +162,7 @@ third_at t problem buckets second tuple two is own same =
     let rest : drop 1 own.window ≡ drop 2 pair = ap (drop 1) same ∙ drop-drop 1 1 pair in
     let first : get_or own.window 0 0 ≡ get_or pair 1 0 = ap (λ list. get_or list 0 0) same ∙ get_or-drop 1 pair 0 0 in
     let bucket = subst (λ list. IsBucketStart (2 * t.rounds) t.ids list (second_bucket buckets second * wide t)) rest
-        own.starts in
+    own.starts in
     let gap : length (unused (get_or pair 1 0) (drop 2 pair)) ≡ second_gap buckets second =
     (λ i. length (unused (sym first i) (sym rest i))) ∙ sym own.gap_is in
     let found = third_in_bucket t problem pair tuple (second_bucket buckets second * wide t) (second_gap buckets second) long bucket gap is refl in
@@ -171,7 +171,7 @@ third_at t problem buckets second tuple two is own same =
 
 pub broken_at :
     (t : ChannelTable) (problem : List Pattern) (before : List ℕ) (buckets : SecondBuckets) (number : ℕ)
-        (window : List ℕ)
+    (window : List ℕ)
     → IsTable t
     → AreBefore t (length (windows_of t)) before → AreNextBuckets t buckets
     → slice_get (windows_of t) number ≡ Some window
@@ -197,7 +197,7 @@ broken_at t problem before buckets number window table turned are item at_bucket
     let third = third_at t problem buckets (rank z y) tuple (omega arith) is place (same ∙ sym own.rest) in
     let whole = first_and_rest window (omega (arith, size)) in
     let entry = turned number (buckets.bucket * wide t + rank z x) x z
-        (slice_get_within (windows_of t) number window item)
+    (slice_get_within (windows_of t) number window item)
     (item ∙ ap Some whole) first.item in
     let below : get_or before (buckets.bucket * wide t + rank z x) 0 < t.channels =
     subst (λ c. c < t.channels) (sym entry)
@@ -206,7 +206,7 @@ broken_at t problem before buckets number window table turned are item at_bucket
     ap (channel_of t) bad.2 ∙ channel_at t number window item
     ∙ ap Some (sym entry) in
     let there : channel_of t (part_at t.rounds 1 tuple)
-        ≡ Some (get_or t.entries (buckets.bucket * wide t + rank z y) 0) =
+    ≡ Some (get_or t.entries (buckets.bucket * wide t + rank z y) 0) =
     ap (channel_of t) own.second ∙ channel_at t (buckets.bucket * wide t + rank z y) (z ++ y ∷ []) second.item in
     record {
       first = rank z x;

@@ -63,7 +63,7 @@ second_at t buckets place window are inside item =
     let next = number_of_next t window are.number buckets.first (rank (drop 1 (take k window)) x) some is (are.number_at
     ∙ ap (λ l. Some (drop 1 l)) (sym same)) are.first_is refl in
     let number : buckets.first + rank (drop 1 (take k window)) x ≡ second_bucket buckets place
-        = omega (arith, bucket) in
+    = omega (arith, bucket) in
     (rw number at next, omega (arith, gap))
 
 -- the window at a place of a bucket, and the bucket of its second windows
@@ -160,7 +160,7 @@ side buckets place each end lt gap end_is = (
 pub free_along : (t : ChannelTable) (buckets : SecondBuckets) (place count all distance : ℕ)
     → length t.entries ≡ length (windows_of t) → SecondBucketsOf t buckets
     → place + all ≤ wide t → count ≤ all
-      → ((i : ℕ) → i < all → second_bucket buckets (place + i) ≡ second_bucket buckets place + i)
+    → ((i : ℕ) → i < all → second_bucket buckets (place + i) ≡ second_bucket buckets place + i)
     → ((i : ℕ) → i < count → NoneClose t.entries (wide t) distance (second_bucket buckets place + i) (get_or t.entries (buckets.bucket * wide t + place + i) 0))
     → AreFree t (BeginsBadTuple t (record { near = distance; far = 0 })) (buckets.bucket * wide t + place)
     (buckets.bucket * wide t + (place + count))

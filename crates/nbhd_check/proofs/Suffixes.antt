@@ -69,4 +69,4 @@ number_of_next t window number first place some is at' first_is place_is =
     let size : k + 1 ≡ 2 * t.rounds = omega arith in
     let bucket = bucket_start_is k t.ids number first (drop 1 (take (2 * t.rounds) window)) at' first_is in
     rw size at (number_of_suffix 1 k t.ids first place window (rw len at is) (rw front at bucket)
-        (rw front at place_is))
+    (rw front at place_is))

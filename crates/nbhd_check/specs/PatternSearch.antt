@@ -36,7 +36,7 @@ AreBroken t problem before buckets first second third =
 abbrev pub IsPairClear : ChannelTable → List Pattern → List ℕ → SecondBuckets → ℕ → ℕ → Type 0
 IsPairClear t problem before buckets first second =
     (third : ℕ) → third < wide t → third ≢ second_gap buckets second
-        → ¬ AreBroken t problem before buckets first second third
+    → ¬ AreBroken t problem before buckets first second third
 
 -- no two others do that with this first one
 abbrev pub IsFirstClear : ChannelTable → List Pattern → List ℕ → SecondBuckets → ℕ → Type 0

@@ -5,9 +5,9 @@ ghost use Rattle.nbhd_check.specs.ChannelsBefore.{AreBefore};
 ghost use Rattle.nbhd_check.specs.MiddleBuckets.{AreMiddleBuckets, AreNextBuckets};
 ghost use Rattle.nbhd_check.specs.Buckets.{wide};
 
+use crate::bucket_search::{window_count, windows_per_bucket};
 use crate::middle_buckets::MiddleBucket;
 use crate::near::{SecondBuckets, channels_of};
-use crate::bucket_search::{window_count, windows_per_bucket};
 use channel_tables::Table;
 use node_program::OutOfMemory;
 use std::alloc::Global;

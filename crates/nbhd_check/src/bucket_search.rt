@@ -1,5 +1,5 @@
 //! Searches of windows bucket by bucket. A bucket is the windows that begin with the same `2t` identifiers.
-//! 
+//!
 ghost use Rattle.std.specs.Prelude.{◌≡◌, ℕ, List, ◌+◌, ◌-◌, ◌*◌, ◌^◌, ◌<◌, ◌≤◌, Some, length, slice_get, min};
 ghost use Rattle.channel_tables.specs.Tables.{ChannelTable, windows_of, IsTable};
 ghost use Rattle.nbhd_check.specs.Buckets.{AreFree, AreFreeUntil, wide};
@@ -31,7 +31,12 @@ pub(crate) trait BucketSearch {
 /// Returns a number such that none of the windows below it of the buckets from `low` on and below
 /// `high` is bad. Gives up when `best`, the least such number that any thread has returned, is
 /// less.
-pub(crate) fn first_in_buckets<S: BucketSearch>(search: &S, low: u32, high: u32, best: &AtomicU32) -> u32
+pub(crate) fn first_in_buckets<S: BucketSearch>(
+    search: &S,
+    low: u32,
+    high: u32,
+    best: &AtomicU32,
+) -> u32
     requires { high * wide (S.searched search.now) ≤ length (windows_of (S.searched search.now)) }
     ensures { AreFree (S.searched search.now) (S.Bad search.now) (low * wide (S.searched search.now))
         (min result (high * wide (S.searched search.now))) }

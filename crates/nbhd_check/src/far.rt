@@ -6,12 +6,12 @@ ghost use Rattle.nbhd_check.specs.Masks.{AreMasks};
 ghost use Rattle.nbhd_check.specs.Buckets.{AreFree, BeginsBadTuple, wide};
 ghost use Rattle.nbhd_check.specs.FarSearch.{IsFarSearch};
 
+use crate::bucket_search::{window_count, windows_per_bucket};
 use crate::counts::channel_limit;
 use crate::far_counts::FarCounts;
 use crate::far_masks::FarMasks;
 use crate::masks::{Grouping, group_masks, joined_masks, windows_per_family};
 use crate::near::NearFree;
-use crate::bucket_search::{window_count, windows_per_bucket};
 use crate::search::{Search, free_windows};
 use channel_tables::{Table, Tuples};
 use std::alloc::Global;

@@ -13,8 +13,8 @@ ghost use Rattle.nbhd_check.specs.Counts.{shared_len, shared_lists, AreCountsOf,
 ghost use Rattle.nbhd_check.specs.FarSearch.{AreFarFreeIn, ArePairNumbers, AreSeconds, HasFamilyIn};
 ghost use Rattle.nbhd_check.specs.Buckets.{AreFree, BeginsFarTuple};
 
-use crate::counts::{Counts, close_count, count_family};
 use crate::bucket_search::window_count;
+use crate::counts::{Counts, close_count, count_family};
 use channel_tables::Table;
 use std::alloc::Global;
 use std::sync::atomic::{AtomicU32, Ordering};

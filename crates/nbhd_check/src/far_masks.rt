@@ -11,8 +11,8 @@ ghost use Rattle.nbhd_check.specs.FarSearch.{IsAtFamily};
 ghost use Rattle.nbhd_check.specs.Masks.{AreMasks, NoneClose};
 ghost use Rattle.nbhd_check.specs.Buckets.{AreFreeUntil, BeginsFarTuple, wide};
 
-use crate::masks::count_apart;
 use crate::bucket_search::{BucketSearch, windows_per_bucket};
+use crate::masks::count_apart;
 use channel_tables::Table;
 use win_index::BucketPlaces;
 

@@ -3,6 +3,7 @@
 #![tactic(auto)]
 
 mod before;
+mod bucket_search;
 mod channel_sets;
 mod counts;
 mod far;
@@ -19,7 +20,6 @@ mod pattern_bits;
 mod patterns;
 mod problem_least;
 mod problem_verdict;
-mod bucket_search;
 mod search;
 mod verdict;
 

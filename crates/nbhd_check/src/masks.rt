@@ -7,8 +7,8 @@ ghost use Rattle.nbhd_check.specs.declared.masks.TheConstants.{MAX_MASKED_DISTAN
 ghost use Rattle.nbhd_check.specs.Counts.{family_len};
 ghost use Rattle.nbhd_check.specs.Masks.{AreMasks, Covers, HasBit, HasBitsOf, NoneClose};
 
-use crate::parallel::part_count;
 use crate::bucket_search::window_count;
+use crate::parallel::part_count;
 use channel_tables::Table;
 use std::alloc::Global;
 use std::thread::{Threads, for_each_chunk_mut};

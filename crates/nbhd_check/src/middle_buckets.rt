@@ -4,10 +4,10 @@ ghost use Rattle.std.specs.Prelude.{◌≡◌, ℕ, ◌+◌, ◌*◌, ◌<◌, �
 ghost use Rattle.channel_tables.specs.Tables.{windows_of, IsTable};
 ghost use Rattle.nbhd_check.specs.Buckets.{wide};
 
+use crate::bucket_search::{window_count, windows_per_bucket};
 use crate::channel_sets::{Words, words_of};
 use crate::near::{SecondBuckets, channels_of, second_buckets};
 use crate::parallel::part_count;
-use crate::bucket_search::{window_count, windows_per_bucket};
 use channel_tables::Table;
 use node_program::OutOfMemory;
 use std::alloc::Global;
@@ -60,7 +60,9 @@ pub(crate) fn middle_buckets<R: Threads + Sync>(
         words,
     };
     let mut middles = vec![in alloc; none; buckets]?;
-    let size = buckets.div_ceil(part_count(windows, threads) as usize).max(1);
+    let size = buckets
+        .div_ceil(part_count(windows, threads) as usize)
+        .max(1);
     fill_buckets(rt, table, &mut middles, size);
     Ok(middles)
 }

@@ -7,9 +7,9 @@ ghost use Rattle.channel_tables.specs.Tables.{windows_of};
 ghost use Rattle.nbhd_check.specs.Masks.{AreMasks};
 ghost use Rattle.nbhd_check.specs.Buckets.{AreFree, AreFreeUntil, BeginsBadTuple, SecondBucketsOf, wide};
 
+use crate::bucket_search::{BucketSearch, window_count, windows_per_bucket};
 use crate::gaps::has_close_outside;
 use crate::masks::{Grouping, count_apart, group_masks, may_hold};
-use crate::bucket_search::{BucketSearch, window_count, windows_per_bucket};
 use crate::search::{Search, free_windows};
 use channel_tables::Table;
 use std::alloc::Global;

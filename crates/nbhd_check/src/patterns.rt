@@ -16,11 +16,11 @@ ghost use Rattle.nbhd_check.specs.Buckets.{second_gap, second_bucket, wide};
 ghost use Rattle.nbhd_check.specs.ChannelSets.{HasWords};
 
 use crate::before::channels_before;
+use crate::bucket_search::{window_count, windows_per_bucket};
 use crate::channel_sets::{Words, words_of};
 use crate::middle_buckets::{MiddleBucket, middle_buckets};
 use crate::near::{SecondBuckets, channels_of};
 use crate::pattern_bits::{pattern_bits, thirds_after, thirds_after_each};
-use crate::bucket_search::{window_count, windows_per_bucket};
 use channel_tables::Table;
 use node_program::OutOfMemory;
 use ring_problems::{Pattern, ProblemTuples, first_match, may_begin};
@@ -141,7 +141,13 @@ impl<'a> PatternSearch<'a> {
 
     // Returns `false` only if no three windows with this one in the middle are forbidden. The words are
     // those of the windows before the bucket, and `thirds` has what is forbidden after one of them.
-    fn may_be_broken_at(&self, next: SecondBuckets, place: usize, words: Words, thirds: &[u64]) -> bool
+    fn may_be_broken_at(
+        &self,
+        next: SecondBuckets,
+        place: usize,
+        words: Words,
+        thirds: &[u64],
+    ) -> bool
         requires next { AreNextBuckets self.now.table.now next }
         requires place { place < wide self.now.table.now }
         requires words { HasWords (in_bucket self.now.table.now self.now.before.items next.bucket) words }

@@ -9,10 +9,10 @@ ghost use Rattle.nbhd_check.specs.PatternSearch.{BeginsForbidden, IsNoMiddle};
 ghost use Rattle.nbhd_check.specs.Buckets.{AreFree};
 ghost use Rattle.nbhd_check.specs.ChannelSets.{HasWords};
 
+use crate::bucket_search::window_count;
 use crate::channel_sets::{Words, words_of};
 use crate::pattern_bits::{pattern_bits, thirds_after};
 use crate::patterns::PatternSearch;
-use crate::bucket_search::window_count;
 use crate::search::{Search, free_windows};
 use channel_tables::Table;
 use ring_problems::ProblemTuples;

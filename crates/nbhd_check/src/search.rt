@@ -4,12 +4,12 @@ ghost use Rattle.channel_tables.specs.Tables.{windows_of};
 ghost use Rattle.nbhd_check.specs.Buckets.{AreFree, wide};
 ghost use Rattle.nbhd_check.specs.Searches.{searched, AreFreeIn, HasPieces, IsBad, IsInPiece};
 
+use crate::bucket_search::{first_in_buckets, windows_per_bucket};
 use crate::far_counts::FarCounts;
 use crate::far_masks::FarMasks;
 use crate::near::NearSearch;
 use crate::parallel::{least_of_parts, part_count};
 use crate::patterns::PatternSearch;
-use crate::bucket_search::{first_in_buckets, windows_per_bucket};
 use channel_tables::Table;
 use std::sync::atomic::AtomicU32;
 use std::thread::Threads;

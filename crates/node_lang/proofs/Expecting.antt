@@ -1,4 +1,4 @@
--- What can follow the tokens before a place, by what is left of the program there.
+-- What can follow the tokens before a cursor, by what is left of the program there.
 use Rattle.std.proofs.Common.{◌≡◌, ℕ, suc, ◌+◌, ◌≤◌, List, [], ◌∷◌, ◌++◌, length, Option, Some, None, append_assoc}
 use Rattle.std.proofs.Common.{append-nil, refl, sym, subst, ap, ◌∙◌, arith, inl, inr}
 use Rattle.std.specs.Prelude.{All, replicate}
@@ -20,7 +20,7 @@ use Rattle.node_lang.specs.Following.{IsNumber, BeginsExpression, Means, Follows
 use Rattle.node_lang.proofs.Parsing.{same_token_is}
 use Rattle.node_lang.proofs.Rest.{Rest, Nothing, AToken, AnExpression, ANumber, following, step, expected_of}
 use Rattle.node_lang.proofs.Marks.{program_matches}
-use Rattle.node_lang.proofs.Places.{Place, Ends, Completed, completed, next_of, none_of, whole}
+use Rattle.node_lang.proofs.Cursors.{Cursor, Ends, Completed, completed, next_of, none_of, whole}
 
 -- the first tokens of some program go on to it
 viable_marks : {before : List Token} (t : Token) (p : ProgramTree) (ms more : List Mark) (d : ℕ) → IsProgram p →
@@ -37,7 +37,7 @@ viable_marks {before} t p ms more d each tokens are = record {
       ∙ (let m = program_matches p in m.tokens);
 }
 
-viable_completed : {before : List Token} {nodes : ℕ} {w : Rest} (t : Token) (d : ℕ) (p : Place before nodes w) →
+viable_completed : {before : List Token} {nodes : ℕ} {w : Rest} (t : Token) (d : ℕ) (p : Cursor before nodes w) →
     Completed (λ ms. p.marks ++ node t d ∷ ms) → IsViable (before ++ t ∷ [])
 viable_completed t d p c = viable_marks t c.program p.marks c.more d c.each_register p.tokens c.are
 
@@ -117,14 +117,14 @@ completed_term f d w token.If h =
     record { program = c.program; more = _; each_register = c.each_register; are = c.are }
 completed_term f d w t h = tt
 
-viable_if : {before : List Token} {nodes : ℕ} {w : Rest} (t : Token) (d : ℕ) (p : Place before nodes w)
+viable_if : {before : List Token} {nodes : ℕ} {w : Rest} (t : Token) (d : ℕ) (p : Cursor before nodes w)
     (o : Option Rest) {v : Rest} → o ≡ Some v →
     CompletedIf (λ ms. p.marks ++ node t d ∷ ms) o → IsViable (before ++ t ∷ [])
 viable_if t d p None e c = absurd (cc)
 viable_if t d p (Some u) e c = viable_completed t d p c
 
 viable_number : {before : List Token} {nodes low high : ℕ} {w : ℕ → Rest} (n : ℕ) →
-    Place before nodes (ANumber low high w) → IsViable (before ++ token.Number n ∷ [])
+    Cursor before nodes (ANumber low high w) → IsViable (before ++ token.Number n ∷ [])
 viable_number {before} {low = low} {high = high} {w = w} n p =
     let out : IsOutside low high n → IsViable (before ++ token.Number n ∷ []) =
     λ o. viable_out (subst (λ ts. IsOutOfRange ts (token.Number n)) (ap unmarked (append-nil p.marks) ∙ p.tokens)
@@ -146,7 +146,7 @@ viable_number {before} {low = low} {high = high} {w = w} n p =
     ]
 
 -- a next token of the rest goes on to a program
-step_viable : {before : List Token} {nodes : ℕ} (w : Rest) (t : Token) {v : Rest} → Place before nodes w →
+step_viable : {before : List Token} {nodes : ℕ} (w : Rest) (t : Token) {v : Rest} → Cursor before nodes w →
     step w t ≡ Some v → IsViable (before ++ t ∷ [])
 step_viable (Nothing q) t p e = absurd (cc)
 step_viable {before} (AToken s w) t {v} p e =
@@ -159,7 +159,7 @@ step_viable (ANumber low high w) (token.Number n) p e = viable_number n p
 step_viable (ANumber low high w) t p e = absurd (cc)
 
 -- and a token that goes on to a program can be next
-viable_steps : {before : List Token} {nodes : ℕ} {w : Rest} (t : Token) → Place before nodes w →
+viable_steps : {before : List Token} {nodes : ℕ} {w : Rest} (t : Token) → Cursor before nodes w →
     IsViable (before ++ t ∷ []) → (v : Rest) × (step w t ≡ Some v)
 viable_steps {before} t p v =
     let n = next_of t v.more p v.program v.each_register (sym v.spells ∙ append_assoc before (t ∷ []) v.more) in
@@ -197,7 +197,7 @@ number_steps low high w (token.Number n) e = tt
 number_steps low high w t e = absurd (cc)
 
 -- the tokens that are meant can follow
-means_viable : {before : List Token} {n : ℕ} (w : Rest) (t : Token) → Place before n w → Means (expected_of w) t →
+means_viable : {before : List Token} {n : ℕ} (w : Rest) (t : Token) → Cursor before n w → Means (expected_of w) t →
     IsViable (before ++ t ∷ [])
 means_viable (Nothing q) t p h = absurd h
 means_viable {before} (AToken s w) t p e =
@@ -214,13 +214,13 @@ steps_means (AnExpression d w) t e = follows_begins d w t e
 steps_means (ANumber low high w) t e = number_steps low high w t e
 
 -- the end is meant exactly where nothing is left
-end_left : {before : List Token} {n : ℕ} (w : Rest) → Place before n w → expected_of w ≡ expected.End → IsWhole before
+end_left : {before : List Token} {n : ℕ} (w : Rest) → Cursor before n w → expected_of w ≡ expected.End → IsWhole before
 end_left (Nothing q) p e = record { program = q; each_register = p.ends.each_register; spells = whole p }
 end_left (AToken s w) p e = absurd (cc)
 end_left (AnExpression d w) p e = absurd (cc)
 end_left (ANumber low high w) p e = absurd (cc)
 
-follows : {before : List Token} {n : ℕ} (w : Rest) → Place before n w → Follows before (expected_of w)
+follows : {before : List Token} {n : ℕ} (w : Rest) → Cursor before n w → Follows before (expected_of w)
 follows w p = record {
   tokens = λ t. (means_viable w t p, λ v. steps_means w t (viable_steps t p v).1);
   ended = (
@@ -230,13 +230,13 @@ follows w p = record {
 }
 
 -- so what is left says what can follow, here
-pub follows_here : {before : List Token} {n : ℕ} {w : Rest} → Place before n w → (ls : List Lexeme) →
+pub follows_here : {before : List Token} {n : ℕ} {w : Rest} → Cursor before n w → (ls : List Lexeme) →
     FollowsAt before ls (from_first ls) (expected_of w)
 follows_here {before} {w = w} p ls = record {
   earlier = [];
   later = ls;
   are = refl;
-  place = refl;
+  offset = refl;
   follows = subst (λ ts. Follows ts (expected_of w)) (sym (append-nil before)) (follows w p);
 }
 
@@ -247,6 +247,6 @@ follows_later {before} {e = e} l h = record {
   earlier = l ∷ h.earlier;
   later = h.later;
   are = ap (λ ls. l ∷ ls) h.are;
-  place = h.place;
+  offset = h.offset;
   follows = subst (λ ts. Follows ts e) (append_assoc before (l.token ∷ []) (tokens_in h.earlier)) h.follows;
 }

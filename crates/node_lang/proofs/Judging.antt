@@ -33,8 +33,8 @@ use Rattle.node_lang.proofs.Rest.{Goes, limited, checked, meets, step, a_program
 use Rattle.node_lang.proofs.SmallTokens.{is_small, small_tokens}
 use Rattle.node_lang.proofs.Marks.{Shallow, shallow_at, Fine, fine, program_matches}
 use Rattle.node_lang.proofs.Expecting.{follows_here, follows_later}
-use Rattle.node_lang.proofs.Places.{InRange, Place, first_place, next_of, none_of, next_nodes, whole_marks, whole_nodes}
-use Rattle.node_lang.proofs.Places.{whole, Says, says, stands_met}
+use Rattle.node_lang.proofs.Cursors.{InRange, Cursor, first_cursor, next_of, none_of, next_nodes, whole_marks, whole_nodes}
+use Rattle.node_lang.proofs.Cursors.{whole, Says, says, stands_met}
 
 -- reading goes on at a token that can come next, where it is within the limits
 goes_within : (w v : Rest) (n : ℕ) (t : Token) → depth_next w ≤ MAX_DEPTH → counted w n ≤ MAX_NODES →
@@ -44,7 +44,7 @@ goes_within (ANumber low high w) v n (token.Number k) shallow few range = grind 
 goes_within w v n t shallow few range = refl
 
 -- so it goes on at each token of a program within the limits
-goes_in_program : {before : List Token} {n : ℕ} {w : Rest} (t : Token) (ts : List Token) → Place before n w →
+goes_in_program : {before : List Token} {n : ℕ} {w : Rest} (t : Token) (ts : List Token) → Cursor before n w →
     (q : ProgramTree) → IsWithinLimits q → spelling q ≡ before ++ t ∷ ts →
     (v : Rest) × (meets w n t ≡ Goes v)
 goes_in_program {n = n} {w = w} t ts p q limits e =
@@ -64,7 +64,7 @@ goes_in_program {n = n} {w = w} t ts p q limits e =
 
 -- the result is right: a program at whose end reading is, or the first fault
 abbrev pub Answers : List Token → List Lexeme → Read ProgramTree → Type 0
-Answers before ls (Got p count left) = Place (before ++ tokens_in ls) count (Nothing p)
+Answers before ls (Got p count left) = Cursor (before ++ tokens_in ls) count (Nothing p)
 Answers before ls (Fault k e from) = FirstFault before ls k from × FollowsAt before ls from e
 
 -- reading these lexemes after these tokens returns the first fault, or the program within the limits, whichever there
@@ -76,7 +76,7 @@ pub record Judges (before : List Token) (ls : List Lexeme) (r : Read ProgramTree
       r ≡ Got p (sum_by size (terms p)) []
 
 -- where something is left, the end of the text is a fault
-at_end : {before : List Token} {n : ℕ} {w : Rest} → Place before n w →
+at_end : {before : List Token} {n : ℕ} {w : Rest} → Cursor before n w →
     ((p : ProgramTree) → w ≡ Nothing p → ⊥) → Judges before [] (Fault kind.EndOfText (expected_of w) 0)
 at_end {before} {w = w} p some = record {
   answers = (
@@ -88,9 +88,9 @@ at_end {before} {w = w} p some = record {
 }
 
 -- where nothing is left, it is none
-all_read : {before : List Token} {n : ℕ} {q : ProgramTree} → Place before n (Nothing q) → Judges before [] (Got q n [])
+all_read : {before : List Token} {n : ℕ} {q : ProgramTree} → Cursor before n (Nothing q) → Judges before [] (Got q n [])
 all_read {before} {n} {q} p = record {
-  answers = subst (λ ts. Place ts n (Nothing q)) (sym (append-nil before)) p;
+  answers = subst (λ ts. Cursor ts n (Nothing q)) (sym (append-nil before)) p;
   first = λ k from f. absurd (f.2 (record { program = q; each_register = p.ends.each_register; spells = whole p }));
   reads = λ r limits e.
       let ends = none_of p r limits.each_register (e ∙ append-nil before) in
@@ -110,18 +110,18 @@ judged_through {before} l ls clean r h = record {
   where
     answers : (r : Read ProgramTree) → Answers (before ++ l.token ∷ []) ls r → Answers before (l ∷ ls) r
     answers (Got p count left) h =
-        subst (λ ts. Place ts count (Nothing p)) (append_assoc before (l.token ∷ []) (tokens_in ls)) h
+        subst (λ ts. Cursor ts count (Nothing p)) (append_assoc before (l.token ∷ []) (tokens_in ls)) h
     answers (Fault k e from) h = (inr (clean, h.0), follows_later l h.1)
 
 -- at a token, reading stops at the first fault or goes on
-judged_met : {before : List Token} {n : ℕ} {w : Rest} (l : Lexeme) (ls : List Lexeme) → Place before n w →
+judged_met : {before : List Token} {n : ℕ} {w : Rest} (l : Lexeme) (ls : List Lexeme) → Cursor before n w →
     (m : Met) → meets w n l.token ≡ m → Says before (counted w n) l.token m →
-    ((v : Rest) → Place (before ++ l.token ∷ []) (counted w n) v →
+    ((v : Rest) → Cursor (before ++ l.token ∷ []) (counted w n) v →
     Judges (before ++ l.token ∷ []) ls (read v (counted w n) ls)) →
     Judges before (l ∷ ls) (went (expected_of w) (counted w n) l.from ls m)
 judged_met {w = w} l ls p (Stops k) e here more = record {
   answers = (inl (here, refl), follows_here p (l ∷ ls));
-  first = λ j place f. elim f [
+  first = λ j cursor f. elim f [
     | inl there ↦ let met = sym e ∙ stands_met w l.token j p there.0 in let same : k ≡ j = cc in
         (expected_of w, λ i. Fault (same i) (expected_of w) (sym there.1 i))
     | inr there ↦ absurd (there.0 k here)
@@ -130,22 +130,22 @@ judged_met {w = w} l ls p (Stops k) e here more = record {
       let goes = goes_in_program l.token (tokens_in ls) p q limits spelt in
       let met : Stops k ≡ Goes goes.0 = sym e ∙ goes.1 in absurd (cc);
 }
-judged_met {w = w} l ls p (Goes v) e place more =
+judged_met {w = w} l ls p (Goes v) e cursor more =
     judged_through l ls (λ k stands. let met = sym e ∙ stands_met w l.token k p stands in
-    cc) (read v _ ls) (more v place)
+    cc) (read v _ ls) (more v cursor)
 
 -- so every reading of the rest is right
-judged : (ls : List Lexeme) {before : List Token} {n : ℕ} (w : Rest) → Place before n w → Judges before ls (read w n ls)
+judged : (ls : List Lexeme) {before : List Token} {n : ℕ} (w : Rest) → Cursor before n w → Judges before ls (read w n ls)
 unfolding expression
 judged [] (Nothing q) p = all_read p
 judged [] w p = at_end p (λ q e. cc)
 judged (l ∷ ls) {before} {n} w p =
     subst (Judges before (l ∷ ls)) (sym (read_next w n l.from l.token ls))
-    (judged_met l ls p (meets w n l.token) refl (says w l.token p) (λ v place. judged ls v place))
+    (judged_met l ls p (meets w n l.token) refl (says w l.token p) (λ v cursor. judged ls v cursor))
 
 -- and so is that of a program
 program_judged : (ls : List Lexeme) (r : Read ProgramTree) → program 0 ls ≡ r → Judges [] ls r
-program_judged ls r e = subst (Judges [] ls) (sym (program_read 0 ls) ∙ e) (judged ls a_program first_place)
+program_judged ls r e = subst (Judges [] ls) (sym (program_read 0 ls) ∙ e) (judged ls a_program first_cursor)
 
 -- the fault at which reading stops is the first fault
 pub first_fault_of : ReadingStopsAtFirstFault
@@ -190,10 +190,10 @@ pub read_is_spelt : (p : ProgramTree) (nodes count : ℕ) (ls left : List Lexeme
     SpellsProgram ls p
 read_is_spelt p nodes count ls left small e =
     let first = read_sooner ls a_program 0 nodes (omega arith) (sym (program_read nodes ls) ∙ e) in
-    let place = subst (Answers [] ls) first.1 (judged ls a_program first_place).answers in
-    let fine = fine place.marks place.shallow (ap (list_all is_small) place.tokens ∙ small) in
-    let small = (program_matches p).small (subst Fine (sym (whole_marks place)) fine) in
-    record { tokens = whole place; limits = place.ends.limits small (omega (arith, whole_nodes place, place.few)) }
+    let cursor = subst (Answers [] ls) first.1 (judged ls a_program first_cursor).answers in
+    let fine = fine cursor.marks cursor.shallow (ap (list_all is_small) cursor.tokens ∙ small) in
+    let small = (program_matches p).small (subst Fine (sym (whole_marks cursor)) fine) in
+    record { tokens = whole cursor; limits = cursor.ends.limits small (omega (arith, whole_nodes cursor, cursor.few)) }
 
 -- lexemes that spell a program are read as it
 pub program_completes : (p : ProgramTree) (ls : List Lexeme) → IsWithinLimits p → tokens_in ls ≡ spelling p →
@@ -216,15 +216,15 @@ has_no_high_byte text n ascii first = let low = ascii n 0 first.within in omega 
 pub one_fault : OneTextFault
 one_fault text k l m n (too_long a) (too_long b) = (refl, refl)
 one_fault text k l m n (too_long a) (not_ascii j short first) = absurd (omega arith)
-one_fault text k l m n (too_long a) (in_lexemes j i from short ascii at place) = absurd (omega arith)
+one_fault text k l m n (too_long a) (in_lexemes j i from short ascii at cursor) = absurd (omega arith)
 one_fault text k l m n (not_ascii i short first) (too_long b) = absurd (omega arith)
 one_fault text k l m n (not_ascii i short a) (not_ascii j _ b) = (refl, one_high_byte text i j a b)
-one_fault text k l m n (not_ascii i short a) (in_lexemes j o from _ ascii at place) =
+one_fault text k l m n (not_ascii i short a) (in_lexemes j o from _ ascii at cursor) =
     absurd (has_no_high_byte text i ascii a)
-one_fault text k l m n (in_lexemes j i from short ascii at place) (too_long b) = absurd (omega arith)
-one_fault text k l m n (in_lexemes j i from short ascii at place) (not_ascii o _ b) =
+one_fault text k l m n (in_lexemes j i from short ascii at cursor) (too_long b) = absurd (omega arith)
+one_fault text k l m n (in_lexemes j i from short ascii at cursor) (not_ascii o _ b) =
     absurd (has_no_high_byte text o ascii b)
-one_fault text k l m n (in_lexemes j i from short ascii at place) (in_lexemes h o since _ _ at' place') =
+one_fault text k l m n (in_lexemes j i from short ascii at cursor) (in_lexemes h o since _ _ at' cursor') =
     let a = stops_at_first_fault (lexemes_of text) j from at in
     let b = stops_at_first_fault (lexemes_of text) h since at' in
     let same : Fault j a.0 from ≡ Fault h b.0 since = sym a.1 ∙ b.1 in
@@ -254,7 +254,7 @@ pub short_in_tokens : (text : List ℕ) (k : FaultKind) (n : ℕ) → length tex
     FaultsAt text k n → (k ≢ kind.TooLong) × (k ≢ kind.NotAscii)
 short_in_tokens text k n short ascii (too_long long) = absurd (omega (arith, short, long))
 short_in_tokens text k n short ascii (not_ascii j _ first) = absurd (has_no_high_byte text j ascii first)
-short_in_tokens text k n short ascii (in_lexemes j i from _ _ first place) =
+short_in_tokens text k n short ascii (in_lexemes j i from _ _ first cursor) =
     first_in_tokens [] (lexemes_of text) j from first
 
 -- a text that reads as a program is read from the left as it
@@ -269,7 +269,7 @@ one_reading text p q a b = cc (readable_is_read text p a, readable_is_read text 
 pub no_fault : ReadableTextsHaveNoFault
 no_fault text p k m reads (too_long long) = omega (arith, reads.short, long)
 no_fault text p k m reads (not_ascii n short first) = has_no_high_byte text n reads.ascii first
-no_fault text p k m reads (in_lexemes j n from short ascii at place) =
+no_fault text p k m reads (in_lexemes j n from short ascii at cursor) =
     let stops = stops_at_first_fault (lexemes_of text) j from at in cc (readable_is_read text p reads, stops.1)
 
 -- a text that is read from the left as a program reads as it

@@ -1,12 +1,12 @@
 -- Lemmas that several proofs share. Other crates cite those of Texts.
 mod Numbers
-mod Placing
+mod Spans
 mod Writing
 mod SmallTokens
 mod Parsing
 mod PrintedTokens
 mod Rest
-mod Places
+mod Cursors
 mod Marks
 mod Expecting
 mod Judging

@@ -30,7 +30,7 @@ use Rattle.node_program.specs.Limits.{IsSmall, IsWithinLimits}
 use Rattle.node_lang.specs.Grammar.{Reads, spelled, assigned, block, blocks}
 use Rattle.node_lang.specs.Printed.{printed_expression, assignment_line, assignment_lines, send_line, round_lines}
 use Rattle.node_lang.specs.Printed.{header_lines, printed}
-use Rattle.node_lang.proofs.Placing.{blank_in_front, mark_in_front, word_token_first}
+use Rattle.node_lang.proofs.Spans.{blank_in_front, mark_in_front, word_token_first}
 
 -- this text does not continue a word
 abbrev pub EndsWord : List ℕ → Type 0

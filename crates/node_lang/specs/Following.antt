@@ -1,4 +1,4 @@
--- What can follow at a place of a program text, by the tokens before it.
+-- What can follow at an offset of a program text, by the tokens before it.
 use Rattle.std.specs.Prelude.{◌≡◌, ◌≢◌, ◌⊎◌, ◌↔◌, ℕ, ◌-◌, List, [], ◌∷◌, ◌++◌, length, Option, Some, None}
 use Rattle.node_lang.specs.declared.expected.Expected.{Expected}
 use Rattle.node_lang.specs.declared.expected.Expected.TheVariants as expected
@@ -44,13 +44,13 @@ abbrev pub from_first : List Lexeme → ℕ
 from_first [] = 0
 from_first (l ∷ ls) = l.from
 
--- Of these lexemes some stand before the place that is this number of bytes before the end of the text, and this can
+-- Of these lexemes some stand before the offset that is this number of bytes before the end of the text, and this can
 -- follow their tokens; the others stand from there on.
 pub record FollowsAt (before : List Token) (lexemes : List Lexeme) (from : ℕ) (e : Expected) : Type 0 where
   pub earlier : List Lexeme
   pub later : List Lexeme
   pub are : lexemes ≡ earlier ++ later
-  pub place : from ≡ from_first later
+  pub offset : from ≡ from_first later
   pub follows : Follows (before ++ tokens_in earlier) e
 
 -- this can follow the tokens of a text before this offset

@@ -1,4 +1,4 @@
--- The tokens of a text, each with its place. Blanks and comments only separate tokens.
+-- The tokens of a text, each with its span. Blanks and comments only separate tokens.
 use Rattle.std.specs.Prelude.{◌≡◌, ◌<◌, ℕ, ◌+◌, ◌==◌, Bool, true, false, List, [], ◌∷◌, map, length, drop, max}
 use Rattle.std.specs.Prelude.{if◌then◌else◌, slice_index}
 use Rattle.std.specs.List.{prefix_len}

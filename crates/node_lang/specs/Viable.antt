@@ -1,4 +1,4 @@
--- The first fault of a program text, defined without a parser: the first place where the tokens up to it are no prefix
+-- The first fault of a program text, defined without a parser: the first offset where the tokens up to it are no prefix
 -- of a program.
 use Rattle.std.specs.Prelude.{◌≡◌, ◌≢◌, ◌⊎◌, ℕ, zero, suc, ◌+◌, ◌<◌, ◌≤◌, List, [], ◌∷◌, ◌++◌, length, map, All, sum_by}
 use Rattle.node_program.specs.declared.limits.TheConstants.{MAX_CHANNELS, MAX_DEPTH, MAX_NODES}

@@ -87,7 +87,7 @@ abbrev pub read_on : ℕ → List ℕ → ℕ
 read_on n [] = n
 read_on n (d ∷ ds) = read_on (10 * n + (d - 48)) ds
 
--- the token of a run of digits
+-- the token of a sequence of digits
 abbrev pub number_token : List ℕ → Token
 number_token word = if nat_lt (read_on 0 word) (2 ^ 32) then token.Number (read_on 0 word) else token.LargeNumber
 

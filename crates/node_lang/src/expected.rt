@@ -1,7 +1,7 @@
 //! What can follow a part of a program text.
 use crate::token::Token;
 
-/// What can follow the tokens before a place of a program text.
+/// What can follow the tokens before an offset of a program text.
 #[derive(Clone, Copy, PartialEq, Eq)]
 pub enum Expected {
     /// This token alone.

@@ -65,7 +65,7 @@ impl From<AllocError> for TextFault {
     }
 }
 
-// The place at which reading stops: its fault, and what was expected there.
+// Where reading stops: its fault, and what was expected there.
 #[derive(Clone, Copy)]
 pub(crate) struct Stop {
     pub(crate) kind: FaultKind,

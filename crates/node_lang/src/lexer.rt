@@ -1,4 +1,4 @@
-//! The tokens of a text, with their places.
+//! The tokens of a text, with their spans.
 ghost use Rattle.std.specs.Prelude.{◌≡◌, ◌==◌, not, ◌+◌, ◌-◌, ◌<◌, ◌≤◌, [], ◌∷◌, length, slice_index, drop, false};
 ghost use Rattle.std.specs.Prelude.{IfSome, IfNone};
 ghost use Rattle.std.specs.List.{prefix_len};
@@ -10,7 +10,7 @@ use crate::word_tokens::{is_blank, is_word_byte, mark_token, token_of};
 
 /// A token, with the offsets at which it starts and ends in its text.
 #[derive(Clone, Copy)]
-pub struct Placed {
+pub struct Spanned {
     pub token: Token,
     pub start: usize,
     pub end: usize,
@@ -33,7 +33,7 @@ fn line_len(text: &[u8]) -> usize
 }
 
 // Returns the offset of the first token, after blanks and comments, or the text's length.
-#[tactic(auto, using(crate::proofs::Placing::after_blank, crate::proofs::Placing::after_comment, std::proofs::lemmas::List::take_rest))]
+#[tactic(auto, using(crate::proofs::Spans::after_blank, crate::proofs::Spans::after_comment, std::proofs::lemmas::List::take_rest))]
 fn token_start(text: &[u8]) -> usize
     ensures within { result ≤ length text.now }
     ensures same { lexemes_of (drop result text.now) ≡ lexemes_of text.now }
@@ -55,7 +55,7 @@ fn token_start(text: &[u8]) -> usize
 }
 
 // Returns the token at the start of the text, and its length.
-#[tactic(auto, using(crate::proofs::Placing::word_token_first, crate::proofs::Placing::mark_token_first))]
+#[tactic(auto, using(crate::proofs::Spans::word_token_first, crate::proofs::Spans::mark_token_first))]
 fn token_at(text: &[u8]) -> (Token, usize)
     requires { BeginsWithToken text.now }
     ensures token { lexemes_of text.now ≡ record { from = length text.now; token = result.0 }
@@ -71,8 +71,8 @@ fn token_at(text: &[u8]) -> (Token, usize)
 }
 
 // Returns the first token, or `None` if only blanks and comments are left.
-#[tactic(auto, using(crate::proofs::Placing::all_skipped))]
-fn first_token(text: &[u8]) -> Option<Placed>
+#[tactic(auto, using(crate::proofs::Spans::all_skipped))]
+fn first_token(text: &[u8]) -> Option<Spanned>
     ensures token { IfSome result (λ f. lexemes_of text.now
         ≡ record { from = length text.now - f.start; token = f.token } ∷ lexemes_of (drop f.end text.now)) }
     ensures end { IfSome result (λ f. f.end ≡ f.start + token_len (drop f.start text.now)) }
@@ -84,7 +84,7 @@ fn first_token(text: &[u8]) -> Option<Placed>
         return None;
     }
     let (token, len) = token_at(&text[start..]);
-    Some(Placed {
+    Some(Spanned {
         token,
         start,
         end: start + len,
@@ -93,19 +93,19 @@ fn first_token(text: &[u8]) -> Option<Placed>
 
 /// Returns the first token of a text from the offset `at` on, or `None` if only blanks and comments
 /// are left. A byte or a word that is not a token is `Token::Unknown`.
-#[tactic(auto, using(crate::proofs::Placing::placed_after, crate::proofs::Placing::none_after))]
-pub fn token_from(text: &[u8], at: usize) -> Option<Placed>
+#[tactic(auto, using(crate::proofs::Spans::spanned_after, crate::proofs::Spans::none_after))]
+pub fn token_from(text: &[u8], at: usize) -> Option<Spanned>
     requires { at ≤ length text.now }
     ensures token { IfSome result (λ f. lexemes_from text.now at
         ≡ record { from = length text.now - f.start; token = f.token } ∷ lexemes_from text.now f.end) }
-    ensures place { IfSome result (λ f. (at ≤ f.start) × (f.start < f.end) × (f.end ≤ length text.now)) }
+    ensures span { IfSome result (λ f. (at ≤ f.start) × (f.start < f.end) × (f.end ≤ length text.now)) }
     ensures end { IfSome result (λ f. f.end ≡ f.start + token_len (drop f.start text.now)) }
     ensures none { IfNone result (lexemes_from text.now at ≡ []) }
 {
-    let placed = first_token(&text[at..])?;
-    Some(Placed {
-        token: placed.token,
-        start: at + placed.start,
-        end: at + placed.end,
+    let spanned = first_token(&text[at..])?;
+    Some(Spanned {
+        token: spanned.token,
+        start: at + spanned.start,
+        end: at + spanned.end,
     })
 }

@@ -43,17 +43,17 @@ impl<'a> Parser<'a> {
     fn next(&mut self, expected: Expected) -> Result<(Token, usize), Stop>
         ensures reads { Gives (λ t. record { from = length self.old.text.now - t.1; token = t.0 }) self.old self.new
             result (next expected) }
-        ensures place { IfOk result (λ t. t.1 ≤ length self.old.text.now) }
+        ensures offset { IfOk result (λ t. t.1 ≤ length self.old.text.now) }
     {
-        let Some(placed) = token_from(self.text, self.at) else {
+        let Some(spanned) = token_from(self.text, self.at) else {
             return Err(Stop::at(FaultKind::EndOfText, expected, self.text.len()));
         };
-        let offset = placed.start;
-        match placed.token {
+        let offset = spanned.start;
+        match spanned.token {
             Token::Unknown => Err(Stop::at(FaultKind::BadWord, expected, offset)),
             Token::LargeNumber => Err(Stop::at(FaultKind::NumberTooLarge, expected, offset)),
             token => {
-                self.at = placed.end;
+                self.at = spanned.end;
                 Ok((token, offset))
             }
         }

@@ -44,7 +44,7 @@ fn read(alloc: Global, text: &[u8]) -> Result<Program, Stop>
 /// Parses a program text of at most `LONGEST_TEXT` bytes.
 ///
 /// A longer text is `TooLong` at offset `LONGEST_TEXT`. In any other text, a byte over 127 is
-/// `NotAscii` at the first such byte. Otherwise the fault is at the first place where the text is
+/// `NotAscii` at the first such byte. Otherwise the fault is at the first offset at which the text is
 /// no longer a prefix of a program: `BadWord` and `NumberTooLarge` at a token's first byte,
 /// `HeaderRange` at a number of the header, `Unexpected` at a token that is not allowed there,
 /// `TooDeep` and `TooManyNodes` at the first token of an expression node, and `EndOfText` at the

@@ -11,15 +11,15 @@ use Rattle.numerals.specs.Bytes.{Lacks, IsFirstByte}
 pub first_byte : (text : List ℕ) (end : ℕ) (r : Option ℕ)
     → MatchOption r (AllWithin (λ b. b ≢ end) text 0 (length text))
     (λ i. (i < length text) × HoldsAt (λ b. b ≡ end) text i × AllWithin (λ b. b ≢ end) text 0 i)
-    → MatchOption r (Lacks end text) (λ place. IsFirstByte text place end)
+    → MatchOption r (Lacks end text) (λ index. IsFirstByte text index end)
 first_byte text end None others = recursion_from_All (λ b. b ≢ end) text (λ k d within. others k d (omega arith) within)
-first_byte text end (Some place) found =
+first_byte text end (Some index) found =
     record {
       within = found.0;
-      cut = sym (take-append-drop place text)
-          ∙ ap (λ l. take place text ++ l) (drop_more text place 0 found.0
-          ∙ ap (λ b. b ∷ drop (place + 1) text) (found.1 0));
-      before = recursion_from_All (λ b. b ≢ end) (take place text) (λ k d within.
-          let below : k < place = subst (λ n. k < n) (length-take-le place text (omega (arith, found.0))) within in
-          subst (λ b. b ≢ end) (sym (get_or-take place text k d below)) (found.2 k d (omega arith) below));
+      cut = sym (take-append-drop index text)
+          ∙ ap (λ l. take index text ++ l) (drop_more text index 0 found.0
+          ∙ ap (λ b. b ∷ drop (index + 1) text) (found.1 0));
+      before = recursion_from_All (λ b. b ≢ end) (take index text) (λ k d within.
+          let below : k < index = subst (λ n. k < n) (length-take-le index text (omega (arith, found.0))) within in
+          subst (λ b. b ≢ end) (sym (get_or-take index text k d below)) (found.2 k d (omega arith) below));
     }

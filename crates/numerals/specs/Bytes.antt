@@ -7,7 +7,7 @@ abbrev pub Lacks : ℕ → List ℕ → Type 0
 Lacks byte text = AllByRecursion (λ b. b ≢ byte) text
 
 -- the first byte of this value is at this index
-pub record IsFirstByte (text : List ℕ) (place byte : ℕ) : Type 0 where
-  pub within : place < length text
-  pub cut : text ≡ take place text ++ byte ∷ drop (place + 1) text
-  pub before : Lacks byte (take place text)
+pub record IsFirstByte (text : List ℕ) (index byte : ℕ) : Type 0 where
+  pub within : index < length text
+  pub cut : text ≡ take index text ++ byte ∷ drop (index + 1) text
+  pub before : Lacks byte (take index text)

@@ -8,8 +8,8 @@ ghost use Rattle.std.specs.Str.Parse.{IsNumeral, digits_value};
 ghost use Rattle.numerals.specs.Bytes.{Lacks, IsFirstByte};
 
 // Returns the index of the first byte of this value.
-fn place_of(text: &[u8], end: u8) -> Option<usize>
-    ensures { MatchOption result (Lacks end text.now) (λ place. IsFirstByte text.now place end) }
+fn index_of(text: &[u8], end: u8) -> Option<usize>
+    ensures { MatchOption result (Lacks end text.now) (λ index. IsFirstByte text.now index end) }
 {
     text.iter().position(|byte| *byte == end)
 }
@@ -20,8 +20,8 @@ fn cut_at(text: &[u8], end: u8) -> Option<(&[u8], &[u8])>
     ensures first { IfSome result (λ parts. Lacks end parts.0.now) }
     ensures none { IfNone result (Lacks end text.now) }
 {
-    let place = place_of(text, end)?;
-    Some((&text[..place], &text[place + 1..]))
+    let index = index_of(text, end)?;
+    Some((&text[..index], &text[index + 1..]))
 }
 
 fn is_padded(word: &[u8]) -> bool

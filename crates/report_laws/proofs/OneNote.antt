@@ -1,7 +1,7 @@
 -- A note without advice is one text.
 use Rattle.std.proofs.Common.{◌≡◌, ℕ, ◌-◌, List, ◌∷◌, ◌++◌, ap, sym, ◌∙◌}
-use Rattle.source_places.specs.Places.{after_lines}
-use Rattle.source_places.specs.Shown.{marked_line}
+use Rattle.source_text.specs.Lines.{after_lines}
+use Rattle.source_text.specs.Shown.{marked_line}
 use Rattle.table_formula.specs.declared.refutation.fault.LineFault.{LineFault}
 use Rattle.table_formula.specs.declared.refutation.fault.RefuteError.TheVariants as refute
 use Rattle.table_formula.specs.RefutationNotes.{line_head, IsLineNote, MayHaveAdvice}

@@ -1,7 +1,7 @@
 -- Lines of the report.
 use Rattle.std.specs.Prelude.{ℕ, List, [], ◌∷◌, ◌++◌, ◌-◌, length, replicate, codes}
 use Rattle.std.specs.Fmt.{decimal}
-use Rattle.source_places.specs.Lists.{joined}
+use Rattle.source_text.specs.Lists.{joined}
 
 -- pieces of text, one after another, and a line feed (byte 10)
 abbrev pub line : List (List ℕ) → List ℕ

@@ -13,7 +13,7 @@ use crate::pattern_places::{places_of, shown_len};
 use nbhd_check::{PatternWitness, Separation, Witness};
 use node_lang::{Program, print};
 use node_program::OutOfMemory;
-use source_places::write_joined;
+use source_text::write_joined;
 use std::alloc::{AllocError, Global};
 use std::fmt::Write;
 use value_trees::{explanation_text, trace_text};

@@ -1,8 +1,8 @@
 -- The note on a text that is no refutation.
 use Rattle.std.specs.Prelude.{◌≡◌, ℕ, ◌-◌, ◌++◌, List, [], ◌∷◌, ⊤, codes}
 use Rattle.std.specs.Fmt.{decimal}
-use Rattle.source_places.specs.Places.{after_lines}
-use Rattle.source_places.specs.Shown.{marked_line}
+use Rattle.source_text.specs.Lines.{after_lines}
+use Rattle.source_text.specs.Shown.{marked_line}
 use Rattle.table_formula.specs.declared.refutation.fault.LineFault.{LineFault}
 use Rattle.table_formula.specs.declared.refutation.fault.LineFault.TheVariants as line_fault
 use Rattle.table_formula.specs.declared.refutation.fault.RefuteError.{RefuteError}

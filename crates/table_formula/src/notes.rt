@@ -8,7 +8,7 @@ pub(crate) mod advice;
 use crate::notes::advice::line_advice;
 use crate::refutation::fault::{LineFault, RefuteError};
 use node_program::OutOfMemory;
-use source_places::{from_line, write_marked_line};
+use source_text::{from_line, write_marked_line};
 use std::alloc::{AllocError, Global};
 use std::fmt::Write;
 

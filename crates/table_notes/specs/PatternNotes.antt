@@ -2,7 +2,7 @@
 use Rattle.std.specs.Prelude.{ℕ, ◌+◌, ◌%◌, ◌==◌, ◌&&◌, ◌++◌, List, [], ◌∷◌, Option, Some, None, length, slice_index}
 use Rattle.std.specs.Prelude.{codes, if◌then◌else◌}
 use Rattle.std.specs.Fmt.{decimal}
-use Rattle.source_places.specs.Lists.{joined}
+use Rattle.source_text.specs.Lists.{joined}
 use Rattle.ring_problems.specs.declared.idle.IdlePattern.{IdlePattern}
 use Rattle.ring_problems.specs.declared.known.KnownProblem.{KnownProblem}
 use Rattle.ring_problems.specs.declared.known.KnownProblem.TheVariants.{IndependentSet, Matching, WeakColouring}

@@ -2,11 +2,11 @@
 use Rattle.std.specs.Prelude.{◌≡◌, ℕ, ◌+◌, ◌-◌, ◌*◌, ◌<◌, ◌≤◌, ◌++◌, List, ◌∷◌, length, Some, slice_get, codes}
 use Rattle.std.specs.Prelude.{bytes_eq, if◌then◌else◌}
 use Rattle.std.specs.Fmt.{decimal}
-use Rattle.source_places.specs.Heads.{place_head}
-use Rattle.source_places.specs.Kinds.{first_line}
-use Rattle.source_places.specs.Lists.{joined}
-use Rattle.source_places.specs.Places.{after_lines}
-use Rattle.source_places.specs.Shown.{marked_line}
+use Rattle.source_text.specs.Heads.{note_head}
+use Rattle.source_text.specs.Kinds.{first_line}
+use Rattle.source_text.specs.Lists.{joined}
+use Rattle.source_text.specs.Lines.{after_lines}
+use Rattle.source_text.specs.Shown.{marked_line}
 use Rattle.table_text.specs.LineForms.{HasShape}
 use Rattle.table_text.specs.declared.fault.TableFault.{TableFault}
 use Rattle.table_text.specs.declared.fault.TableFault.TheVariants as table
@@ -20,7 +20,7 @@ long_note = codes "nbhd: the text of a table has at most 134217728 bytes\n"
 -- a line that does not have its form; advice can follow
 pub record IsFormNote (text : List ℕ) (offset : ℕ) (note : List ℕ) : Type 0 where
   pub advice : List ℕ
-  pub is : note ≡ place_head text offset
+  pub is : note ≡ note_head text offset
       ++ (codes "this line does not have the form that `nbhd table` writes"
       ++ (advice ++ 10 ∷ marked_line text offset))
 

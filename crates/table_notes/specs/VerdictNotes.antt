@@ -2,7 +2,7 @@
 use Rattle.std.specs.Prelude.{ℕ, ◌+◌, ◌<◌, ◌≤◌, ◌==◌, ◌++◌, List, length, slice_index, codes, if◌then◌else◌}
 use Rattle.std.specs.Fmt.{decimal}
 use Rattle.win_index.specs.Arcs.{window_around}
-use Rattle.source_places.specs.Lists.{joined}
+use Rattle.source_text.specs.Lists.{joined}
 use Rattle.win_index.specs.declared.limits.TheConstants.{MAX_IDS, MAX_ROUNDS}
 
 -- whether the two places are neighbours

@@ -3,7 +3,7 @@
 ghost use Rattle.std.specs.Prelude.{◌≤◌, length};
 
 use crate::headers::header_advice;
-use source_places::{
+use source_text::{
     TextKind, after_line, contains_part, first_line, has_any_of, is_made_of, kind_advice,
     len_before,
 };

@@ -6,7 +6,7 @@ ghost use Rattle.table_notes.specs.PatternNotes as words;
 
 use node_program::OutOfMemory;
 use ring_problems::{IdlePattern, KnownProblem, Pattern, PatternWitness, patterns_text};
-use source_places::write_joined;
+use source_text::write_joined;
 use std::alloc::{AllocError, Global};
 use std::fmt::Write;
 

@@ -7,7 +7,7 @@ ghost use Rattle.table_notes.specs.TableNotes.{IsFormNote, IsDue, IsTableNote, I
 
 use crate::lines::form_advice;
 use node_program::OutOfMemory;
-use source_places::{first_line, from_line, write_joined, write_marked_line, write_place_head};
+use source_text::{first_line, from_line, write_joined, write_marked_line, write_note_head};
 use std::alloc::{AllocError, Global};
 use std::fmt::Write;
 use table_text::{LONGEST_TABLE_TEXT, TableFault, shape_in};
@@ -19,7 +19,7 @@ fn form_note(alloc: Global, text: &[u8], offset: usize) -> Result<String, OutOfM
     ensures { IfOk result (λ note. IsFormNote text.now offset (string_bytes note)) }
 {
     let mut note = String::new(alloc);
-    write_place_head(&mut note, text, offset)?;
+    write_note_head(&mut note, text, offset)?;
     note.push_str("this line does not have the form that `nbhd table` writes")?;
     note.push_str(form_advice(text, offset))?;
     note.push_str("\n")?;

@@ -3,13 +3,13 @@
 ghost use Rattle.std.specs.Prelude.{◌≡◌, ◌++◌, ◌<◌, ◌≤◌, length, codes, IfOk, OnOk, string_bytes};
 ghost use Rattle.win_index.specs.Arcs.{window_around};
 ghost use Rattle.win_index.specs.declared.limits.TheConstants.{MAX_IDS, MAX_ROUNDS};
-ghost use Rattle.source_places.specs.Lists.{joined};
+ghost use Rattle.source_text.specs.Lists.{joined};
 ghost use Rattle.table_notes.specs.VerdictNotes.{distance_text, pair_text, channels_text, no_tuples_note, windows_text};
 ghost use Rattle.table_notes.specs.VerdictNotes.{verdict_note, HasPlaces};
 
 use channel_tables::Witness;
 use node_program::OutOfMemory;
-use source_places::write_joined;
+use source_text::write_joined;
 use std::alloc::{AllocError, Global};
 use std::fmt::Write;
 

@@ -1,7 +1,7 @@
 -- The tip on words whose options are no demand.
 use Rattle.std.specs.Prelude.{ℕ, ◌++◌, Option, None, List, [], ◌∷◌, codes, option_map}
 use Rattle.std.specs.Option.{option_and_then, option_or}
-use Rattle.source_places.specs.Shown.{escaped_bytes}
+use Rattle.source_text.specs.Shown.{escaped_bytes}
 use Rattle.task_words.specs.OptionWords.{option_value}
 use Rattle.task_words.specs.PatternText.{pattern_fault}
 use Rattle.task_words.specs.declared.demand_fault.DemandFault.{DemandFault}

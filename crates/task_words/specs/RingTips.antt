@@ -2,7 +2,7 @@
 use Rattle.std.specs.Prelude.{◌≡◌, ℕ, ◌+◌, ◌<◌, ◌++◌, Option, Some, None, List, [], ◌∷◌, slice_get, codes}
 use Rattle.std.specs.Option.{option_or}
 use Rattle.std.specs.Fmt.{decimal}
-use Rattle.source_places.specs.Shown.{escaped_bytes}
+use Rattle.source_text.specs.Shown.{escaped_bytes}
 use Rattle.task_words.specs.Decimal.{IsNumber}
 use Rattle.task_words.specs.OptionWords.{option_value}
 use Rattle.task_words.specs.RingText.{parts_of}

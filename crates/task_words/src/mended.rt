@@ -11,7 +11,7 @@ use crate::other_names::{Meaning, option_in, write_fact};
 use crate::pattern_text::are_digits;
 use crate::request::Request;
 use crate::words::{WordsFault, request_of};
-use source_places::write_escaped;
+use source_text::write_escaped;
 use std::alloc::{AllocError, Global};
 use std::fmt::Write;
 

@@ -1,7 +1,7 @@
 //! The tip on a text that is no ring text, and the values of an option among words.
 
 ghost use Rattle.std.specs.Prelude.{◌≡◌, map, All, IfOk, IfSome, IfNone, option_map, string_bytes};
-ghost use Rattle.source_places.specs.Shown.{escaped_bytes};
+ghost use Rattle.source_text.specs.Shown.{escaped_bytes};
 ghost use Rattle.task_words.specs.Decimal.{IsNumber};
 ghost use Rattle.task_words.specs.OptionWords as values;
 ghost use Rattle.task_words.specs.RingText.{IsRingText};
@@ -9,7 +9,7 @@ ghost use Rattle.task_words.specs.RingTips as texts;
 ghost use Rattle.task_words.specs.RingTips.{IsFirstBad, IsRingTip};
 
 use crate::ring_text::{number_of, parts};
-use source_places::write_escaped;
+use source_text::write_escaped;
 use std::alloc::{AllocError, Global};
 
 /// Returns a line that names the first part of a text that is not a number, or `None` if it is a ring

@@ -50,7 +50,7 @@ states_in_columns joined block count scratch made each fits held lasts stepped =
 -- a state that is evaluated once is that of each window of the bucket
 state_of_bucket :
     PartsAreJoined → (block : UpperBlock) (bucket : Bucket) (i : ℕ) → block.once_a_bucket ≡ true
-        → HasFronts block bucket i
+    → HasFronts block bucket i
     → next block.plan.now.program block.below bucket.own.now bucket.first.sent 0 ≡ state_in block i
 state_of_bucket joined block bucket i once fronts =
     let p = block.plan.now.program in

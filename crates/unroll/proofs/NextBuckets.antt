@@ -82,7 +82,7 @@ pub record IsPlaced (block : UpperBlock) (index place : ℕ) : Type 0 where
 -- that of the first window of a bucket
 pub first_place :
     (block : UpperBlock) (index place : ℕ) (prefix : BucketPrefix) (places : BucketPlaces)
-        → NextBucket block index prefix
+    → NextBucket block index prefix
     → HasPlaces (2 * block.below + 1) block.plan.now.ids (window_in block index) places
     → ((k m : ℕ) (window : List ℕ) → 1 ≤ k → IsWindow (k + 2) m window → HasPlaces k m window places
     → IsFirstOfBucket (k + 1) m window → IsAtPlace k m places window place)

@@ -25,7 +25,7 @@ use Rattle.win_index.proofs.Windows.{slice_window, number_of_is, has_number, one
 -- the last part of a window of a bucket, at the window's position
 suffix_at :
     (m low start at' : ℕ) (w : List ℕ) (places : BucketPlaces)
-        → IsBucketStart (2 * low) m (take (2 * low) (drop 2 w)) start
+    → IsBucketStart (2 * low) m (take (2 * low) (drop 2 w)) start
     → IsAtPlace (2 * low + 1) m places w at'
     → slice_get (windows (2 * low + 1) m) (start + at') ≡ Some (part w low 2)
 suffix_at m low start at' w places starts is =

@@ -8,9 +8,9 @@ ghost use Rattle.unroll.specs.WideColumns.{AreGathered, AreTaken, HoldBlock, Hol
 ghost use Rattle.unroll.specs.WideColumns.{IsBucketGathered, ShareFronts};
 ghost use Rattle.win_index.specs.Blocks.{block_count};
 
+use crate::bucket::{Bucket, Near, Reached, start_bucket};
 use crate::fault::MakeFault;
 use crate::parts::{LastParts, part_block, put_lasts};
-use crate::bucket::{Near, Reached, Bucket, start_bucket};
 use crate::scratch::{Scratch, fill_some};
 use crate::upper_block::UpperBlock;
 use crate::{Code, next_columns, start_columns, to_left_columns, to_right_columns};
@@ -124,7 +124,13 @@ fn gather_bucket<'s, S: Source<'s>>(
 // Takes the first two parts of the windows of an upper block from one index to another, which are
 // in one bucket: writes them to columns or, where the round is evaluated once a bucket, the
 // windows' state after it.
-fn take_fronts(upper: UpperBlock<'_>, bucket: Bucket<'_>, from: u32, end: u32, scratch: &mut Scratch)
+fn take_fronts(
+    upper: UpperBlock<'_>,
+    bucket: Bucket<'_>,
+    from: u32,
+    end: u32,
+    scratch: &mut Scratch,
+)
     requires fronts { ShareFronts upper bucket from end }
     requires ready { IsReady upper.plan.now scratch.old }
     requires held { HoldFronts upper from scratch.old }
@@ -141,7 +147,14 @@ fn take_fronts(upper: UpperBlock<'_>, bucket: Bucket<'_>, from: u32, end: u32, s
     }
     let mut cells = [0; MAX_REGISTERS as usize];
     let state = &mut cells[..width_of(upper.plan)];
-    step(upper.plan, upper.below, bucket.own, bucket.first.sent, 0, state);
+    step(
+        upper.plan,
+        upper.below,
+        bucket.own,
+        bucket.first.sent,
+        0,
+        state,
+    );
     scratch.made.fill_states(place, count, state);
 }
 

@@ -2,6 +2,7 @@
 //! `BLOCK_WINDOWS` nodes at once, whose registers are columns.
 #![tactic(auto)]
 
+mod bucket;
 mod code;
 mod columns;
 mod fault;
@@ -9,7 +10,6 @@ mod gathering;
 mod maker;
 mod parts;
 mod right_reads;
-mod bucket;
 mod scratch;
 mod steps;
 mod upper_block;

@@ -19,7 +19,7 @@ use Rattle.win_index.proofs.Unused.{lacks}
 -- the window after the last one of a bucket is the next prefix with the least identifier that this lacks
 pub begins_bucket :
     (k m : ℕ) (last : List ℕ) (prefix next : BucketPrefix) → IsWindow (k + 1) m last → IsLastOfBucket (k + 1) m last
-        → k < m
+    → k < m
     → IsNextPrefix k m prefix next → HasNumbers k m (take k last) prefix → BeginsBucket k m last next
 begins_bucket k m last prefix next is greatest short steps has =
     let step = steps (take k last) has in

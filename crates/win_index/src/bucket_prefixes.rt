@@ -4,8 +4,8 @@ ghost use Rattle.win_index.specs.BucketPrefixes.{HasNumbers, IsLonger, IsPrefix,
 ghost use Rattle.win_index.specs.BucketPrefixes.{IsPrefixOfNextBucket, IsPrefixOfLastBucket};
 ghost use Rattle.win_index.specs.Windows.{IsWindow};
 
-use crate::prefixes::Prefixes;
 use crate::bucket_prefix::BucketPrefix;
+use crate::prefixes::Prefixes;
 use crate::shape::Shape;
 
 /// A prefix of a bucket, and what is needed to step to the next one: of three identifiers or more,
@@ -115,6 +115,9 @@ impl Shape {
         ensures len { result.lists.len ≡ 2 * below + 2 }
         ensures prefix { HasNumbers (2 * below + 2) self.now.ids (take (2 * below + 2) window.now) result.prefix }
     {
-        BucketPrefixes::new(self.bucket_prefixes(below), self.bucket_prefix(below, window))
+        BucketPrefixes::new(
+            self.bucket_prefixes(below),
+            self.bucket_prefix(below, window),
+        )
     }
 }

@@ -2,16 +2,18 @@
 #![tactic(auto)]
 
 mod arrangement;
+mod bucket_prefix;
+mod bucket_prefixes;
 mod jobs;
 mod laws;
 mod limits;
 mod prefixes;
 mod ring;
-mod bucket_prefix;
-mod bucket_prefixes;
 mod series;
 mod shape;
 
+pub use bucket_prefix::BucketPrefix;
+pub use bucket_prefixes::BucketPrefixes;
 pub use laws::{
     blocks_are_few, count_of_windows, jobs_have_numbers, longer_windows_have_numbers,
     number_of_window, one_ring_fault, places_of_arcs, prefixes_have_numbers, rings_have_tuples,
@@ -23,7 +25,5 @@ pub use limits::{
     MAX_WINDOWS,
 };
 pub use ring::{Ring, RingFault};
-pub use bucket_prefix::BucketPrefix;
-pub use bucket_prefixes::BucketPrefixes;
 pub use series::BucketPlaces;
 pub use shape::{Shape, ShapeFault, place_among_unused};

@@ -4,7 +4,7 @@ ghost use Rattle.std.specs.Prelude.{◌≡◌, []};
 ghost use Rattle.table_formula.specs.RefutationNotes.{MayHaveAdvice};
 
 use crate::refutation::fault::LineFault;
-use source_places::{
+use source_text::{
     TextKind, contains_part, first_line, has_any_of, is_made_of, kind_advice, len_before, line_kind,
 };
 

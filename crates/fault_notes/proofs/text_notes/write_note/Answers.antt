@@ -10,9 +10,9 @@ returns c =
       advice.0,
       advice.1,
       note_pieces _ _ _ _ _
-          c.in_ok-write_place_head.ensures
+          c.in_ok-write_note_head.ensures
           (c.in_ok-write_cause.ensures
-          ∙ ap (λ w. string_bytes c.write_place_head.new.out
+          ∙ ap (λ w. string_bytes c.write_note_head.new.out
           ++ cause_of c.args.misread.fault.kind w c.args.misread.expected)
           c.word_at-word.ensures)
           advice.2 c.in_ok-push_str.ensures.bytes c.in_ok-write_marked_line.ensures,

@@ -7,4 +7,4 @@ pub write_bucket-requires-clause-next : goal.write_bucket-requires-clause-next
 write_bucket-requires-clause-next c =
     subst (AreNextBuckets c.args.table.now) (sym c.next.ensures)
     (known_bucket c.args.table.now c.args.middles.now c.loop-bucket.bucket _ c.requires.buckets
-        c.loop-bucket-test.true).next
+    c.loop-bucket-test.true).next

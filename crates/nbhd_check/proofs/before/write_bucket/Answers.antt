@@ -15,7 +15,7 @@ within c =
 cell : (c : In-loop-place) → HasCell c.args.table.now c.args.next c.loop-place.place
 cell c =
     has_cell c.args.table.now c.args.next c.loop-place.place c.windows_per_bucket-each.ensures.table.size
-        c.requires.next
+    c.requires.next
     (omega (arith, c.loop-place-test.true, c.windows_per_bucket-each.ensures.value))
 
 cell_is : (c : After-gap_at) → c.bucket_at.result * c.windows_per_bucket-each.result + c.gap_at.result

@@ -48,7 +48,7 @@ overflow_mul-first g c =
       arith,
       bucket_few c.table-table.result.now c.loop-bucket.bucket c.args.high c.windows_per_bucket-each.result
           c.windows_per_bucket-each.ensures.table c.windows_per_bucket-each.ensures.value
-              c.loop-bucket-test.true within,
+          c.loop-bucket-test.true within,
     )
 
 pub returns-then-load-first : goal.returns-then-load-first

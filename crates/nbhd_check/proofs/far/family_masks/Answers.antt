@@ -18,6 +18,6 @@ returns-then-not-is_empty g c =
     subst (AreMasks t.entries each separation.far) (sym c.deref.ensures.value)
     (subst (λ n. AreMasks t.entries n separation.far c.args.buckets.items) (sym each_is)
     (subst (λ d. AreMasks t.entries (wide t) d c.args.buckets.items) c.if-separation-distance.true
-        c.requires.buckets)) in
+    c.requires.buckets)) in
     subst (λ n. AreMasks t.entries n separation.far c.joined_masks.result.items) size
     (c.joined_masks.ensures t.entries separation.far buckets)

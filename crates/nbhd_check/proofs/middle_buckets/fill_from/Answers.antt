@@ -26,7 +26,7 @@ loop-place-preserved c =
     let within : l.place < length c.args.part.now = omega (arith, c.loop-place-test.true, l.auto.place-end) in
     let item = l.invariant.1 within in
     let step = step_of_bucket t c.rounds.result c.shape-shape.result.ids c.next_bucket.result l.window
-        c.next_bucket.new.window
+    c.next_bucket.new.window
     (c.rounds.ensures ∙ c.shape-shape.ensures.rounds) c.shape-shape.ensures.ids c.next_bucket.ensures in
     let some = wide_some t c.shape-shape.ensures.table in (
       length-set l.part l.place c.middle_bucket.result ∙ l.invariant.0,

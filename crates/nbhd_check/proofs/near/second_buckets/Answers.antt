@@ -43,7 +43,7 @@ returns-clause-buckets c =
     let inside = own.inside in
     let number = own.number_is in
     let same = one_bucket (wide t) own.number (place_of_last k window) c.args.bucket
-        (c.args.bucket * wide t) inside number
+    (c.args.bucket * wide t) inside number
     (omega arith) (omega arith) in
     let rounds_is : c.rounds-level.result ≡ t.rounds = c.rounds-level.ensures ∙ c.shape-shape.ensures.rounds in
     let ids_is : c.shape-shape.result.ids ≡ t.ids = c.shape-shape.ensures.ids in

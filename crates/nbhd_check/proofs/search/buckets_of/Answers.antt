@@ -36,7 +36,7 @@ first_buckets t most each buckets some each_is buckets_are le =
 own : (c : After-div_ceil) → Buckets c.args.table.now c.args.most c.div_ceil.result
 own c =
     first_buckets c.args.table.now c.args.most c.windows_per_bucket.result c.div_ceil.result
-        c.windows_per_bucket.ensures.some
+    c.windows_per_bucket.ensures.some
     c.windows_per_bucket.ensures.value c.div_ceil.ensures c.requires
 
 pub returns-clause-within : goal.returns-clause-within

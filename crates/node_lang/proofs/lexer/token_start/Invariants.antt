@@ -2,7 +2,7 @@ use Rattle.std.proofs.Common.{◌≡◌, ℕ, ◌-◌, ◌≤◌, List, length, 
 use Rattle.node_lang.specs.Lexemes.{lexemes_of}
 use Rattle.node_lang.proofs.lexer.token_start.Given as goal
 
--- no token stands before this place
+-- no token stands before this offset
 pub record HasSkipped (text : List ℕ) (at : ℕ) : Type 0 where
   pub within : at ≤ length text
   pub same : lexemes_of (drop at text) ≡ lexemes_of text

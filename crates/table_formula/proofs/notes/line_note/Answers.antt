@@ -1,4 +1,4 @@
-use Rattle.source_places.specs.Shown.{marked_line}
+use Rattle.source_text.specs.Shown.{marked_line}
 use Rattle.table_formula.proofs.NotePieces.{line_pieces}
 use Rattle.table_formula.proofs.notes.line_note.Goals as goal
 

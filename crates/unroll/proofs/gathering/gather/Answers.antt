@@ -143,7 +143,7 @@ loop-bucket-preserved g c =
     let within : after < block_len plan.ids (low + 1) upper.number =
     omega (arith, len, bucket.within, c.if-after-len.false) in
     let next = next_bucket upper c.loop-bucket.index after c.loop-bucket.prefixes.prefix
-        (omega (arith, bucket.later)) within
+    (omega (arith, bucket.later)) within
     (bucket.ended within)
     before.here.has c.in-Some.next.prefix (rw (before.lists.1, before.lists.0) at c.in-Some.ensures.next) in
     let places = rw c.shape-shape.ensures.ids at

@@ -18,7 +18,7 @@ module _ (g : Over) (c : After-put_lasts g) where
   -- its windows are in the bucket, each one position after the one before it
   series : (i : ℕ) → i < c.series-count.result → (w : List ℕ)
       × InBucket c.args.upper (window_in c.args.upper c.args.reached.index) c.args.reached.bucket
-        (c.loop-block.place + i)
+      (c.loop-block.place + i)
       (c.loop-block.at + i) w
   series =
       let here = c.loop-block.invariant.here in

@@ -18,7 +18,7 @@ module _ (c : After-windows_per_bucket-each) where
   bucket_small : c.args.bucket * c.windows_per_bucket-each.result + c.windows_per_bucket-each.result < 2 ^ 32
   bucket_small =
       small_bucket c.args.self.now.table.now c.args.bucket c.windows_per_bucket-each.result
-          c.windows_per_bucket-each.ensures.table
+      c.windows_per_bucket-each.ensures.table
       c.windows_per_bucket-each.ensures.value whole
 
   end_is : c.args.bucket * c.windows_per_bucket-each.result + c.windows_per_bucket-each.result

@@ -19,7 +19,7 @@ module _ (c : After-entries) where
   -- its channel
   channel_is : get_or c.entries.result.now (c.args.buckets.bucket * c.windows_per_bucket-each.result + c.args.place) 0
       ≡ get_or c.args.self.now.table.now.entries
-        (c.args.buckets.bucket * wide c.args.self.now.table.now + c.args.place) 0
+      (c.args.buckets.bucket * wide c.args.self.now.table.now + c.args.place) 0
   channel_is = λ q. get_or (c.entries.ensures.value q)
       (c.args.buckets.bucket * c.windows_per_bucket-each.ensures.value q + c.args.place) 0
 
@@ -90,7 +90,7 @@ returns-then-not-may_hold c =
     (get_or t.entries n 0) =
     subst (λ r. NoneClose t.entries (wide t) c.args.self.now.distance r (get_or t.entries n 0)) c.bucket_at-next.ensures
     (subst (λ v. NoneClose t.entries (wide t) c.args.self.now.distance c.bucket_at-next.result v)
-        (channel_is s) none) in
+    (channel_is s) none) in
     free_at t c.args.buckets c.args.place c.args.self.now.distance at'
     (none_outside t.entries (second_gap c.args.buckets c.args.place) (wide t) c.args.self.now.distance (second_bucket c.args.buckets c.args.place) (get_or t.entries n 0) lacks at'.next_within)
 

@@ -36,7 +36,7 @@ pub longer-requires-clause-list : goal.longer-requires-clause-list
 longer-requires-clause-list c =
     let d = (goal.at.longer-requires-clause-list c).After-places in
     let step = in_bucket c.places.result (some d) (gives d) (here d)
-        c.in-Some-after.place c.in-Some-after.ensures.next in
+    c.in-Some-after.place c.in-Some-after.ensures.next in
     (step.0, step.2)
 
 pub returns-in-Some-after-clause-next : goal.returns-in-Some-after-clause-next

@@ -1,6 +1,0 @@
-use Rattle.std.proofs.Common.{◌∙◌}
-use Rattle.source_places.proofs.Tables.{beside_found}
-use Rattle.source_places.proofs.first_lines.by_beginning.Goals as goal
-
-pub returns : goal.returns
-returns c = c.beside_beginning.ensures ∙ beside_found c.args.line.now c.args.table.now

@@ -1,6 +1,0 @@
-use Rattle.source_places.specs.Kinds.{kind_by_beginning}
-use Rattle.source_places.proofs.first_lines.kind_by_beginning.Goals as goal
-
-pub returns : goal.returns
-unfolding kind_by_beginning
-returns c = c.by_beginning.ensures

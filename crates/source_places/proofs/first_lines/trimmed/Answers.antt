@@ -1,5 +1,0 @@
-use Rattle.std.proofs.lemmas.Str.Ascii.{trim_ascii_start_is}
-use Rattle.source_places.proofs.first_lines.trimmed.Goals as goal
-
-pub returns : goal.returns
-returns c = trim_ascii_start_is _ _ c.trim_ascii_start.ensures.value

@@ -1,6 +1,0 @@
-use Rattle.std.proofs.Common.{◌≡◌}
-use Rattle.source_places.specs.Places.{after_lines}
-use Rattle.source_places.proofs.places.from_line.Given as goal
-
-abbrev pub invariant-lines : goal.invariant-lines
-invariant-lines l = l.rest ≡ after_lines l._line l.text

@@ -1,6 +1,0 @@
-use Rattle.std.proofs.Common.{◌≡◌, ◌++◌, string_bytes, take}
-use Rattle.source_places.specs.Shown.{shown}
-use Rattle.source_places.proofs.shown.write_shown.Given as goal
-
-abbrev pub invariant-bytes : goal.invariant-bytes
-invariant-bytes l = string_bytes l.out ≡ string_bytes l.initial.out ++ shown (take l.byte-index l.bytes)

@@ -1,8 +1,0 @@
--- The definitions that the contracts cite.
-pub mod ByteSets
-pub mod Places
-pub mod Heads
-pub mod Shown
-pub mod Lists
-pub mod Kinds
-pub mod KindAdvice

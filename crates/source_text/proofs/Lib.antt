@@ -1,0 +1,2 @@
+mod LineParts
+mod Tables
