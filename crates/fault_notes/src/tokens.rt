@@ -1,7 +1,6 @@
 //! The tokens of a text by their numbers, and the operands among them.
 
-use crate::word_texts::is_word_byte;
-use node_lang::{Expected, Spanned, Token, token_from};
+use node_lang::{Expected, Spanned, Token, is_word_byte, token_from};
 use source_text::is_one_of;
 use std::alloc::{AllocError, Global};
 

@@ -1,29 +1,12 @@
 //! The texts of notes for the word at an offset, and for what can follow there.
 
-ghost use Rattle.std.specs.Prelude.{◌≡◌, ◌≤◌, ◌++◌, length, OnOk, string_bytes};
-ghost use Rattle.std.specs.List.{prefix_len};
-ghost use Rattle.node_lang.specs.Words.{is_word_byte as word_byte};
+ghost use Rattle.std.specs.Prelude.{◌≡◌, ◌++◌, OnOk, string_bytes};
 ghost use Rattle.fault_notes.specs.Words.{spelled, wanted_text, wanted_part, first_word as first};
 
-use node_lang::{Expected, Token};
+use node_lang::{Expected, Token, word_len};
 use source_text::first_of;
 use std::alloc::AllocError;
 use std::fmt::Write;
-
-// Returns whether this is an ASCII letter or digit.
-pub(crate) fn is_word_byte(byte: u8) -> bool
-    ensures { result ≡ word_byte byte }
-{
-    matches!(byte, b'0'..=b'9' | b'A'..=b'Z' | b'a'..=b'z')
-}
-
-// Returns the number of letters and digits at the start.
-pub(crate) fn word_len(text: &[u8]) -> usize
-    ensures value { result ≡ prefix_len word_byte text.now }
-    ensures within { result ≤ length text.now }
-{
-    text.iter().take_while(|byte| is_word_byte(**byte)).count()
-}
 
 // Returns the word at the start of a text, or its first byte if it does not begin with a word.
 pub(crate) fn first_word(text: &[u8]) -> &[u8]

@@ -16,8 +16,8 @@ pub struct Spanned {
     pub end: usize,
 }
 
-// Returns the length of the word at the start of the text; 0 if there is none.
-fn word_len(text: &[u8]) -> usize
+/// Returns the length of the word at the start of the text, its letters and digits; 0 if there is none.
+pub fn word_len(text: &[u8]) -> usize
     ensures value { result ≡ prefix_len word_byte text.now }
     ensures within { result ≤ length text.now }
 {

@@ -16,7 +16,7 @@ mod word_tokens;
 pub use expected::Expected;
 pub use fault::{FaultKind, TextFault};
 pub use laws::{first_fault, one_reading, one_text_fault, printed_is_read_back, reading_is_exact};
-pub use lexer::{Spanned, token_from};
+pub use lexer::{Spanned, token_from, word_len};
 pub use limits::LONGEST_TEXT;
 pub use node_program::{
     BinOp, Expr, MAX_CHANNELS, MAX_DEPTH, MAX_NODES, MAX_REGISTERS, MAX_ROUNDS, MAX_THREADS,
@@ -25,3 +25,4 @@ pub use node_program::{
 pub use printing::{print, write_word};
 pub use text::{expected_in, parse};
 pub use token::Token;
+pub use word_tokens::is_word_byte;

@@ -17,7 +17,8 @@ pub(crate) fn is_blank(byte: u8) -> bool
     matches!(byte, b'\n' | b'\t' | b'\r' | b' ')
 }
 
-pub(crate) fn is_word_byte(byte: u8) -> bool
+/// Returns whether this byte can stand in a word: an ASCII letter or digit.
+pub fn is_word_byte(byte: u8) -> bool
     ensures { result ≡ word_byte byte }
 {
     matches!(byte, b'0'..=b'9' | b'A'..=b'Z' | b'a'..=b'z')
