@@ -58,8 +58,8 @@ fn is_alike(word: &[u8], name: &[u8]) -> bool {
 }
 
 impl Spot<'_> {
-    // Returns what can stand instead of a word that is not of the language, an empty text if nothing can, or if it stands
-    // behind the word.
+    // Returns what can stand instead of a word that is not of the language, an empty text if nothing can, or if it
+    // stands behind the word.
     fn instead(self) -> &'static [u8] {
         let next = self.token(after(self.number, 1));
         let is_assigned = next == Some(Token::Equals);

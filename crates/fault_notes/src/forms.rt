@@ -45,8 +45,10 @@ use Piece::{Nth, Text};
 
 static LOOSE: [Form; 18] = forms! {
     0, [Operand, One("--")] => call!("sub", Nth(0), Text("1"));
-    0, [Operand, One("?"), Operands, One(":"), Operands] => &[Text("if("), Nth(0), Text(", "), Nth(2), Text(", "), Nth(4), Text(")")];
-    0, [Operand, One("if"), Operands, One("else"), Operands] => &[Text("if("), Nth(2), Text(", "), Nth(0), Text(", "), Nth(4), Text(")")];
+    0, [Operand, One("?"), Operands, One(":"), Operands] =>
+        &[Text("if("), Nth(0), Text(", "), Nth(2), Text(", "), Nth(4), Text(")")];
+    0, [Operand, One("if"), Operands, One("else"), Operands] =>
+        &[Text("if("), Nth(2), Text(", "), Nth(0), Text(", "), Nth(4), Text(")")];
     0, [Message, One(". -> _ ::"), Part::Any] => &[Nth(0)];
     0, [Register, One("+=")] => &[Nth(0), Text(" = "), Nth(0), Text(" +")];
     1, [Operand, One("|| or"), Operand] => call!("or", Nth(0), Nth(2));

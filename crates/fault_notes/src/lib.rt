@@ -1,5 +1,5 @@
-//! Notes on program texts and programs that are refused: the cause and its location, what can stand there, a fact on the
-//! language, and an edit that has been tried.
+//! Notes on program texts and programs that are refused: the cause and its location, what can stand there, a fact on
+//! the language, and an edit that has been tried.
 #![tactic(auto)]
 
 mod bound_lines;

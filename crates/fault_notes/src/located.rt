@@ -17,7 +17,8 @@ pub(crate) fn located_note(
     fault: CheckFault,
     cause: &str,
 ) -> Result<String, OutOfMemory>
-    ensures { IfOk result (λ note. string_bytes note ≡ located_note text.now cause.now (offset_of_cause text.now fault)) }
+    ensures { IfOk result (λ note. string_bytes note
+        ≡ located_note text.now cause.now (offset_of_cause text.now fault)) }
 {
     let Some(offset) = offset_of_cause(text, fault) else {
         return Ok(format!(in alloc; "nbhd: {cause}\n")?);

@@ -79,8 +79,8 @@ pub(crate) struct Sign {
 
 macro_rules! rows {
     ($([$($context:expr),+] $(after $last:expr,)? [$($part:expr),*] => $told:ident, $fact:literal, $put:literal;)+) => {
-        [$(Row { contexts: &[$($context),+], last: last!($($last)?), parts: &[$($part),*], told: Told::$told, fact: $fact,
-        put: $put }),+]
+        [$(Row { contexts: &[$($context),+], last: last!($($last)?), parts: &[$($part),*], told: Told::$told,
+        fact: $fact, put: $put }),+]
     };
 }
 
@@ -162,8 +162,9 @@ static WORDS: [Row; 16] = rows! {
     [Any] [One("print echo printf puts")] =>
         Alone, "; nothing is printed: the channel is the expression of `finish`", "";
     [Any] [One("rand random")] => Alone, "; nothing is random", "";
-    [Any] [One("receive received receives recv listen get message messages msg neighbor neighbour neighbors neighbours nbr")] =>
-        Alone, "; `L` and `R` are what the neighbours sent in this round, one number each", "";
+    [Any]
+        [One("receive received receives recv listen get message messages msg neighbor neighbour neighbors neighbours nbr")]
+        => Alone, "; `L` and `R` are what the neighbours sent in this round, one number each", "";
     [Any] [One("broadcast both")] => Alone, "; each side has a `send` of its own", "";
     [Expression, Behind] [One("mul times mult multiply product *")] =>
         Alone, "; there is no product: twice x is `shl(x, 1)`", "";
@@ -191,7 +192,8 @@ pub(crate) fn words() -> &'static [Row] {
 static OTHERS: [Row; 15] = rows! {
     [At(Round)] [One("end End END done")] => Alone, "; no word ends a block: the next line begins what follows", "";
     [Expression] after One("( ,"), [Strange, One("= :")] => Beside, "; operands have no names", "";
-    [Expression] after One("( ,"), [One("round")] => Alone, "; no number tells the round: each has a block of its own", "";
+    [Expression] after One("( ,"), [One("round")] =>
+        Alone, "; no number tells the round: each has a block of its own", "";
     [Expression] [Strange, One("(")] => Without, "; there is no operation `{}`: LANGUAGE.md lists all", "";
     [Expression] [StrangeNumber] => Without, "; a number has only digits, and is decimal", "";
     [Expression] [Strange] => Without, "; registers are `r0` to `r7`, and values have no other names", "";
@@ -278,8 +280,8 @@ static LINES: [Row; 20] = rows! {
     [At(Send)] after One("round"), [Part::Number] => Beside, "; rounds have no numbers", "";
     [Any] [Strange, Part::Register] => Without, "", "";
     [At(Send), At(Left), At(Right)] [] => Without, "; a round begins with `send left ..` and `send right ..`", "";
-    [First, Context::Register] [Strange, One("= ( [")] => Beside, "; registers are `r0` to `r7`, and have no other names",
-        "";
+    [First, Context::Register] [Strange, One("= ( [")] =>
+        Beside, "; registers are `r0` to `r7`, and have no other names", "";
     [Any] [One("L R id"), One("=")] =>
         Alone, "; only registers are assigned: a value is sent by `send left` and `send right`", "";
     [Any] [Operation] => Beside, "; one expression is assigned to each register, as in `r0 = if(c, a, b)`", "";

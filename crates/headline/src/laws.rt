@@ -1,4 +1,5 @@
-//! Laws of tables: that of a program solves what the program does, and channels are apart on rings where the table's are.
+//! Laws of tables: that of a program solves what the program does, and channels are apart on rings where the table's
+//! are.
 
 ghost use Rattle.headline.specs.Laws as law;
 
