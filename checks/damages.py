@@ -131,17 +131,17 @@ DAMAGES = [
 IMPORTS = [
     (
         "a proof imports another file than the interface",
-        "crates/nbhd_check/proofs/RunSteps.antt cites crates/win_index/proofs/Numbers",
-        "crates/nbhd_check/proofs/RunSteps.antt",
+        "crates/nbhd_check/proofs/BucketSteps.antt cites crates/win_index/proofs/Numbers",
+        "crates/nbhd_check/proofs/BucketSteps.antt",
         "use Rattle.win_index.proofs.Windows.{",
         "use Rattle.win_index.proofs.Numbers.{",
     ),
     (
         "a proof imports the answers of another crate's call",
-        "crates/nbhd_check/proofs/RunSteps.antt cites crates/win_index/proofs/arrangement",
-        "crates/nbhd_check/proofs/RunSteps.antt",
+        "crates/nbhd_check/proofs/BucketSteps.antt cites crates/win_index/proofs/arrangement",
+        "crates/nbhd_check/proofs/BucketSteps.antt",
         "use Rattle.win_index.proofs.Windows.{",
-        "use Rattle.win_index.proofs.arrangement.Arrangements.run_start.Answers.{",
+        "use Rattle.win_index.proofs.arrangement.Arrangements.bucket_start.Answers.{",
     ),
     (
         "a function's tactic names a lemma of another file than the interface",
@@ -152,7 +152,7 @@ IMPORTS = [
     ),
     (
         "a crate makes two files public",
-        "crates/nbhd_check/proofs/RunSteps.antt cites crates/win_index/proofs/Windows",
+        "crates/nbhd_check/proofs/BucketSteps.antt cites crates/win_index/proofs/Windows",
         "crates/win_index/proofs/Lib.antt",
         "mod Numbers\n",
         "pub mod Numbers\n",
