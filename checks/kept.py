@@ -31,27 +31,50 @@ def load_kit():
 
 
 class Kept:
-    """Copies of crates in an empty folder, over the libraries that `rt ci` kept of the same files: `crates` has those crates that were
-    named and that have all libraries below them."""
+    """Copies of crates in an empty folder, over libraries that were made of the same files: `crates` has those crates that were named and
+    that have all libraries below them."""
 
-    def __init__(self, folder, names):
-        self.kit = load_kit()
-        copy_crates(folder)
-        self.kit.Crate.cuts_libraries = True
-        self.kit.Crate.allowed = self.kit.handles_of(str(folder))
-        every = self.kit.crates_of(str(folder))
-        self.store = self.kit.Kept(every)
-        # Nothing of what is kept is removed.
-        self.store.drop = lambda _: None
+    def __init__(self, kit, folder, every, names):
+        self.kit = kit
+        kit.Crate.cuts_libraries = True
+        kit.Crate.allowed = kit.handles_of(str(folder))
         below = {it.name for crate in every if crate.name in names for it in crate.below()}
+        self.libraries = set()
         for crate in every:
-            if crate.name in below and self.has_libraries(crate) and self.store.give(crate, False, self.store.key(crate)):
-                self.store.is_built(crate)
+            if crate.name in below and self.has_libraries(crate) and self.take_library(crate):
+                self.libraries.add(crate.name)
         self.crates = {it.name: it for it in every if it.name in names and self.has_libraries(it)}
-        self.keys = {name: self.store.key(crate) for name, crate in self.crates.items()}
+        self.keys = {name: self.key(crate) for name, crate in self.crates.items()}
 
     def has_libraries(self, crate):
-        return all(it.name in self.store.rlibs for it in crate.below())
+        return all(it.name in self.libraries for it in crate.below())
+
+
+class KeptByKit(Kept):
+    """What `rt ci` kept on this machine, with a kit that does so."""
+
+    LACKING = "a library below its crate is not kept: run `rt ci` or `./build` first"
+    KNOWS_REFUSALS = True
+
+    def __init__(self, kit, folder, names):
+        every = kit.crates_of(str(folder))
+        self.store = kit.Kept(every)
+        # Nothing of what is kept is removed.
+        self.store.drop = lambda _: None
+        super().__init__(kit, folder, every, names)
+
+    def has_store(self):
+        """Whether the kit keeps anything on this machine."""
+        return bool(self.store.at)
+
+    def key(self, crate):
+        return self.store.key(crate)
+
+    def take_library(self, crate):
+        if not self.store.give(crate, False, self.key(crate)):
+            return False
+        self.store.is_built(crate)
+        return crate.name in self.store.rlibs
 
     def is_proved(self, name):
         """Whether `rt ci` proved this crate as it stands."""
@@ -62,6 +85,60 @@ class Kept:
         kind, text = self.store.tried(self.store.of_edit(edit.path, self.keys[edit.crate])) or (None, "")
         refused, colon, goal = text.partition("refused, as it must be: ")
         return goal if kind == self.kit.REFUSED and colon else None
+
+
+class LeftHere(Kept):
+    """The libraries that `rt ci` or `rt check` left in this checkout, with a kit that keeps nothing elsewhere. They do not tell which edits
+    were refused."""
+
+    LACKING = "a library below its crate is missing or of other files: run `rt ci` in a new clone, or `rt check` in the crate, first"
+    KNOWS_REFUSALS = False
+
+    def __init__(self, kit, folder, names):
+        kit.rtlib.Crate = kit.Crate
+        every = sorted(kit.rtlib.crates_below(str(folder)), key=lambda it: len(it.below()))
+        super().__init__(kit, folder, every, names)
+
+    def has_store(self):
+        return True
+
+    def key(self, crate):
+        return crate.stamp()
+
+    def library(self, name):
+        return ROOT / "crates" / name / "out/rlib"
+
+    def maker(self, crate):
+        """Whose library of this crate is there: that of `rt check`, whose stamp is a sum of its files, or that of `rt ci`, which is newer than
+        them; none if it is of other files."""
+        library = self.library(crate.name)
+        if not library.is_dir():
+            return None
+        if (library / "stamp").exists():
+            return "check" if (library / "stamp").read_text(encoding="utf-8") == crate.stamp() else None
+        roots = [ROOT / "crates" / it.name / part for it in [crate, *crate.below()] for part in ("src", "specs", "proofs")]
+        files = (path for root in roots for path in root.rglob("*") if path.is_file())
+        return "ci" if all(path.stat().st_mtime < library.stat().st_mtime for path in files) else None
+
+    def is_left(self, crate):
+        """Whether the libraries of a crate and of those below are there. Those of `rt check` do not fit those of `rt ci`."""
+        return {self.maker(it) for it in [crate, *crate.below()]} in ({"check"}, {"ci"})
+
+    def take_library(self, crate):
+        if self.is_left(crate):
+            shutil.copytree(self.library(crate.name), os.path.dirname(crate.rlib))
+        return os.path.isdir(crate.rlib)
+
+    def is_proved(self, name):
+        """Whether the library of this crate is there as it stands, which is made of a proved crate alone."""
+        return self.is_left(self.crates[name])
+
+
+def kept_in(folder, names):
+    """What is kept of the crates with these names, with copies of all crates in a folder that is new."""
+    kit = load_kit()
+    copy_crates(folder)
+    return KeptByKit(kit, folder, names) if hasattr(kit, "Kept") else LeftHere(kit, folder, names)
 
 
 def copy_crates(folder):
