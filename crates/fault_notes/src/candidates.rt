@@ -2,7 +2,6 @@
 
 use crate::edits::{Edit, edit_of};
 use crate::forms::{Form, earlier, thousands, tried};
-use crate::rows::Part;
 use crate::tokens::{Spot, after, before, is_known, part};
 use node_lang::Expected::{self, This};
 use node_lang::Token;
@@ -258,23 +257,6 @@ impl<'a> Edits<'a> {
         self.put(4, 6, &[b"registers ", part(DIGITS, count, after(count, 1))])
     }
 
-    // Adds that what stands before the program or behind its end is left out.
-    fn put_around(&mut self) -> Result<(), AllocError> {
-        let spot = self.spot;
-        let end = match spot.expected {
-            This(Token::Rounds) => {
-                let mut all = 0..spot.all.len();
-                all.find(|at| spot
-                    .form_end(*at, &[Part::LineEnd, Part::One("rounds")])
-                    .is_some())
-                .unwrap_or(0)
-            }
-            Expected::End if spot.begins_line(spot.number) => spot.all.len(),
-            _ => 0,
-        };
-        self.put(spot.number, end, &[])
-    }
-
     // Adds all edits. Of two that help as much the earlier one is told.
     pub(crate) fn put_all(&mut self) -> Result<(), AllocError> {
         let number = self.spot.number;
@@ -286,7 +268,6 @@ impl<'a> Edits<'a> {
         self.put_parted()?;
         self.put_joined()?;
         self.put_line()?;
-        self.put_around()?;
         self.put_counts()
     }
 }

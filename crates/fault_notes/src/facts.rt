@@ -38,14 +38,10 @@ pub(crate) fn sign_of(text: &[u8]) -> Option<(Sign, usize)> {
 // Returns the fact on the byte over 127 with which a text begins.
 pub(crate) fn fact_on_sign(text: &[u8]) -> Fact<'static> {
     let (told, word) = (Told::Beside, b"".as_slice());
-    let text = match (text, sign_of(text)) {
-        (_, Some((row, _))) => row.fact,
-        ([0xcd..=0xd4, ..], _) => {
-            "; this is a letter of another alphabet, which may look like a plain one"
-        }
-        ([0xc2..=0xf4, 0x80..=0xbf, ..], _) => "; letters and marks are those of ASCII",
-        _ => "; the file may be Latin-1: save it as ASCII",
-    };
+    let text = sign_of(text).map_or(
+        "; letters and marks are those of ASCII",
+        |found| found.0.fact,
+    );
     Fact { told, text, word }
 }
 
@@ -144,13 +140,6 @@ impl<'a> Spot<'a> {
             && !self.has_before(self.number, self.token(self.number))
     }
 
-    // Returns whether the token begins the text but for a comment before it.
-    fn goes_on_comment(self) -> bool {
-        let is_number = matches!(self.token(1), Some(Token::Number(_)));
-        let front = part(self.text, 0, self.span(0).0);
-        self.number == 0 && self.is_strange(0) && front.contains(&b'#') && !is_number
-    }
-
     // Returns whether registers are counted from 1.
     fn counts_from_1(self) -> bool {
         let is_other = self.expected != This(Token::Register(0))
@@ -165,7 +154,6 @@ impl<'a> Spot<'a> {
         let is_end = marks == b";".as_slice() && self.open_operation(number).is_none();
         let is_early = self.token(number) == Some(Token::Send) && self.is_early();
         first! {
-            self.goes_on_comment() => Beside "; each line of a comment begins with `#`";
             matches!(marks, [0..=31 | 127, ..]) => Alone "; this byte does not belong in a text";
             self.begins_comment() => Beside "; a comment begins with `#`";
             is_end => Beside "; lines end without a mark";
@@ -173,14 +161,10 @@ impl<'a> Spot<'a> {
                 "; the register before it was read as the expression that is missing";
             self.assigns() => Alone
                 "; an assignment has one register, and a branch of `if` has none: `eq(a, b)` compares";
-            self.is_behind() && self.is_chained(number) => Alone
-                "; a comparison has two sides, as in `and(lt(a, b), lt(b, c))`";
             is_early => Beside "; messages are sent only in rounds";
             self.counts_from_1() => Alone "; registers are `r0` to `r7`";
             self.is_extra() => Alone "; `registers` says how many registers there are, and `start` and each round assign all of them";
             self.is_second() => Alone "; each register is assigned once in a block, by one expression";
-            self.expected == Expected::Expression && self.gap(number).contains(&b'#') => Beside
-                "; what follows `#` on a line is a comment";
             else match self.arity() {
                 Some(fact) => Some(fact),
                 None => self.fact_of_row(),

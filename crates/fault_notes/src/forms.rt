@@ -100,22 +100,17 @@ static EARLIER: [Form; 4] = forms! {
     0, [Part::Any, Part::Any] => &[Nth(1), Text(" "), Nth(0)];
 };
 
-static TRIED: [Form; 17] = forms! {
+static TRIED: [Form; 12] = forms! {
     0, [One("r"), Number] => &[Nth(0), Nth(1)];
     0, [One("r"), One("_"), Number] => &[Nth(0), Nth(2)];
     0, [One("r"), One("_{ [ ( {"), Number, One("] ) }")] => &[Nth(0), Nth(2)];
     0, [One("r")] => &[Text("R")];
     0, [Operand] => &[Text("("), Nth(0), Text(")")];
     0, [Operand, Operand] => call!("", Nth(0), Nth(1));
-    0, [Operand, One(","), Operand] => call!("", Nth(0), Nth(2));
-    0, [Operand, Operands, Operands] => &[Text("("), Nth(0), Text(", "), Nth(1), Text(", "), Nth(2), Text(")")];
     0, [One(",")] => &[Text(")")];
     0, [One(",")] => &[Text("send")];
-    0, [One(", )")] => &[Text("(")];
-    0, [One(")")] => &[Text(",")];
     0, [Operands, One("left")] => &[Text("left "), Nth(0)];
     0, [Operands, One("right")] => &[Text("right "), Nth(0)];
-    0, [One("( [ { \" ' `"), Operand, One(") ] } \" ' `")] => &[Nth(1)];
     0, [One("("), One(")")] => &[Text("")];
     0, [Part::Any, Part::Any] => &[Nth(1), Text(" "), Nth(0)];
 };

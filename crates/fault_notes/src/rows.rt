@@ -96,7 +96,7 @@ macro_rules! signs {
 use Context::{Any, At, Behind, End, Expression, First};
 use Part::{LineEnd, Mark, Message, One, Operand, Operands, Operation, Strange, StrangeNumber};
 
-static VALUES: [Row; 17] = rows! {
+static VALUES: [Row; 14] = rows! {
     [Expression] [One("r"), One("_ _{ [ ( { 0 1 2 3 4 5 6 7")] => Without, "; registers are `r0` to `r7`", "";
     [Expression] [One("r")] =>
         Beside, "; the message from the right is `R`, which the assignments of a round read", "";
@@ -105,14 +105,8 @@ static VALUES: [Row; 17] = rows! {
     [Expression] [One("len length log log2 msb clz")] =>
         Alone, "; there is no word for the number of nodes or of bits: compare with powers of 2, as in `le(4, x)`", "";
     [Expression] [One("LL RR LR RL")] => Alone, "; what is farther away than the neighbours takes one more round", "";
-    [Expression] [One("old")] =>
-        Alone, "; a round reads the registers from before it: the old value of r0 is `r0`", "";
-    [Expression] [One("let where")] =>
-        Alone, "; values have no names: an expression is written out wherever it is read", "";
     [Expression] [One("place position pos index")] =>
         Alone, "; a node knows no place, only its identifier, which `start` reads as `id`", "";
-    [Expression] [One("ids near far")] =>
-        Alone, "; this is an option of the commands, as in `nbhd judge --ids 8 --near 2`", "";
     [Expression] [One("left Left LEFT l prev pred previous fromLeft msgL LeftMsg leftMsg L0 L1 L2")] =>
         Beside, "; the message from the left is `L`, which the assignments of a round read", "L";
     [Expression] [One("right Right RIGHT next succ fromRight msgR RightMsg rightMsg")] =>
@@ -132,7 +126,7 @@ pub(crate) fn values() -> &'static [Row] {
     &VALUES
 }
 
-static MARKS: [Row; 13] = rows! {
+static MARKS: [Row; 11] = rows! {
     [Expression] [One("plus sum")] => Without, "; there is no operation `{}`: LANGUAGE.md lists all", "add";
     [Expression] [One("leq lte")] => Without, "; there is no operation `{}`: LANGUAGE.md lists all", "le";
     [Expression] [One("neq unequal")] => Without, "; there is no operation `{}`: LANGUAGE.md lists all", "ne";
@@ -143,11 +137,9 @@ static MARKS: [Row; 13] = rows! {
     [Expression] [One("("), Operands, One(",")] => Without, "; the name of an operation is missing before it", "";
     [Expression] [One("- _ ."), LineEnd] => Beside, "; there is no empty value: each is a number", "0";
     [Expression] [One("-")] => Alone, "; numbers have no sign, and `sub(a, b)` stops at 0", "";
-    [Expression] [One("? .. ... ??")] => Alone, "; where this stands in an example, an expression is written", "";
     [Expression] [One("!")] => Beside, "; `not` is bit by bit: `eq(x, 0)` exchanges 0 and 1", "";
     [Expression] [One("( [ {")] => Beside, "; brackets are only written after the name of an operation", "";
     [Expression] [One("+")] => Beside, "; numbers have no sign", "";
-    [Expression] [One("\" '")] => Beside, "; programs have no quotation marks", "";
 };
 
 // Operations by other names, and marks, instead of an expression.
@@ -155,7 +147,7 @@ pub(crate) fn expression_marks() -> &'static [Row] {
     &MARKS
 }
 
-static WORDS: [Row; 16] = rows! {
+static WORDS: [Row; 13] = rows! {
     [Any] [One("while for do repeat until loop foreach")] =>
         Alone, "; there are no loops: the block of a round is written out as often as `rounds` says", "";
     [Any] [One("def fn func function lambda")] => Alone, "; there are no functions", "";
@@ -172,16 +164,12 @@ static WORDS: [Row; 16] = rows! {
         Alone, "; there is no quotient: half of x is `shr(x, 1)`", "";
     [Expression, Behind] [One("mod rem modulo %")] =>
         Alone, "; there is no remainder but by powers of two: by 2 it is `and(x, 1)`, by 16 `and(x, 15)`", "";
-    [Expression, Behind] [One("pow power exp ** ^{")] =>
-        Alone, "; there is no power: 2 to the power k is `shl(1, k)`", "";
     [Any] [One("then else elif elsif elseif endif fi case switch when match")] =>
         Alone, "; a choice is written `if(c, a, b)`", "";
     [Any] [One("in")] => Alone, "; there are no sets: compare with each number, as in `or(eq(x, 5), eq(x, 6))`", "";
-    [Any] [One("neg negate")] => Alone, "; numbers have no sign: `not(a)` is 4294967295 - a", "";
     [Expression] [One("abs |")] => Alone, "; |a - b| is `sub(max(a, b), min(a, b))`", "";
     [Any] [One("mex")] =>
         Alone, "; there is no operation for the least number that is missing: compare with `eq`", "";
-    [Any] [One("_")] => Without, "; words, numbers and registers have no `_`", "";
 };
 
 // Words of other languages, most of them wherever they are met.
@@ -189,9 +177,8 @@ pub(crate) fn words() -> &'static [Row] {
     &WORDS
 }
 
-static OTHERS: [Row; 15] = rows! {
+static OTHERS: [Row; 14] = rows! {
     [At(Round)] [One("end End END done")] => Alone, "; no word ends a block: the next line begins what follows", "";
-    [Expression] after One("( ,"), [Strange, One("= :")] => Beside, "; operands have no names", "";
     [Expression] after One("( ,"), [One("round")] =>
         Alone, "; no number tells the round: each has a block of its own", "";
     [Expression] [Strange, One("(")] => Without, "; there is no operation `{}`: LANGUAGE.md lists all", "";
@@ -214,7 +201,7 @@ pub(crate) fn other_values() -> &'static [Row] {
     &OTHERS
 }
 
-static SIGNS_BEHIND: [Row; 17] = rows! {
+static SIGNS_BEHIND: [Row; 15] = rows! {
     [At(Equals)] [Strange, LineEnd] =>
         Alone, "; an assignment is written `r0 = ..`, as in `r0 = r0` where it stays", "";
     [At(Equals)] [One(":= <- =: is")] => Beside, "", "=";
@@ -224,7 +211,6 @@ static SIGNS_BEHIND: [Row; 17] = rows! {
     [At(Close)] [One("] }")] => Beside, "", ")";
     [Behind] after Message, [One(". -> _ ::")] => Beside, "; a message is one number, without parts", "";
     [At(Comma)] [One("; : .")] => Beside, "", ",";
-    [Behind] [One("[")] => Alone, "; bit i of it is `bit({}, i)`", "";
     [Behind] after Part::Number, [One(".")] => Without, "; numbers are whole", "";
     [Behind] [One("."), LineEnd] => Without, "", "";
     [Behind] [One(".")] =>
@@ -233,7 +219,6 @@ static SIGNS_BEHIND: [Row; 17] = rows! {
     [Behind] [One("&&")] => Beside, "; `and` is bit by bit: a number is made 0 or 1 by `ne(a, 0)`", "";
     [Behind] [One("^")] => Beside, "; `xor` is bit by bit, and 2 to the power k is `shl(1, k)`", "";
     [Behind] [One("` \\")] => Beside, "; an operation is written before its operands, as in `add(a, b)`", "";
-    [Behind] [One("-> =>")] => Without, "; a program has no arrows", "";
 };
 
 // Marks instead of `=`, of a bracket or of a comma, and behind an expression.
@@ -241,16 +226,14 @@ pub(crate) fn marks_behind() -> &'static [Row] {
     &SIGNS_BEHIND
 }
 
-static BEHIND: [Row; 17] = rows! {
+static BEHIND: [Row; 14] = rows! {
     [Behind] [Mark] => Without, "", "";
     [Behind] after One("id"), [One("(")] => Alone, "; `id` is the identifier of the node, and no operation", "";
-    [Behind] [One("(")] => Beside, "; no bracket follows a number, a register, `id`, `L` or `R`", "";
     [Behind, At(Equals)] [Strange] => Without, "; one expression is written here, and a comment begins with `#`", "";
     [At(Equals)] [] => Without, "; an assignment is written `r0 = ..`", "";
     [At(Open)] after One("not"), [] => Beside, "; `not` is bit by bit: `eq(x, 0)` exchanges 0 and 1", "";
     [At(Open)] after One("if"), [] => Beside, "; a choice is written `if(c, a, b)`", "";
     [At(Open)] [] => Without, "; the operands of `{}` are written in brackets", "";
-    [End] [LineEnd] => Without, "; the expression of `finish` ends the program", "";
     [End] [] => Without, "; `finish` has one expression, which ends the program", "";
     [At(Send)] [Operation] => Without,
         "; each node sends in each round, but the value can be chosen, as in `send left if(c, a, b)`", "";
@@ -259,7 +242,6 @@ static BEHIND: [Row; 17] = rows! {
     [At(Comma), At(Close)] [] => Without, "; a bracket is open", "";
     [Any] [One("{ }")] => Beside, "; a program has no such brackets", "";
     [At(Left), At(Right)] [One("(")] => Without, "; it is written `send left r0`, without brackets", "";
-    [Any] [One("(")] => Without, "; no brackets are allowed here", "";
 };
 
 // What else is met behind an expression, or instead of a bracket.
@@ -299,15 +281,12 @@ pub(crate) fn line_beginnings() -> &'static [Row] {
     &LINES
 }
 
-static SIGNS: [Sign; 24] = signs! {
+static SIGNS: [Sign; 21] = signs! {
     "\u{a0} \u{202f}" => "; this is a blank that does not break: write a plain one", "\u{20}";
     "\u{200b}" => "; this is a dash or a blank that is not ASCII", "";
     "\u{feff}" => "; this is a byte order mark: save the file without one", "";
     "\u{2010} \u{2013} \u{2014}" => "; this is a dash or a blank that is not ASCII", "-";
     "\u{2212}" => "; this is a minus sign that is not ASCII", "-";
-    "\u{2018} \u{2019}" => "; this is a typographic quotation mark, and programs have no quotation marks", "'";
-    "\u{201c} \u{201d}" => "; this is a typographic quotation mark, and programs have no quotation marks", "\"";
-    "\u{2022}" => "; this is a bullet", "";
     "\u{2190} \\leftarrow \\gets" => "", "=";
     "\\lfloor \\rfloor \\left \\right" => "", "";
     "\u{ac} \\neg" => "", "!";

@@ -122,21 +122,11 @@ fn fixed_advice(text: &[u8], fault: FaultKind) -> Option<&'static str> {
             )
         }
         FaultKind::HeaderRange | FaultKind::NumberTooLarge => Some(""),
-        FaultKind::EndOfText => hidden_advice(text),
+        FaultKind::EndOfText if text.is_empty() => {
+            Some("; the text is empty, so no file was given, or an empty one")
+        }
         _ => None,
     }
-}
-
-// Returns advice on a text that is empty, or whose only line ends with a comment.
-fn hidden_advice(text: &[u8]) -> Option<&'static str> {
-    if text.is_empty() {
-        return Some("; the text is empty, so no file was given, or an empty one");
-    }
-    let line = text.strip_suffix(b"\n").unwrap_or(text);
-    if line.contains(&b'#') && !line.contains(&b'\n') {
-        return Some("; a comment goes up to the end of its line, which is a line feed");
-    }
-    None
 }
 
 // Returns the word at an offset, or the byte there.
