@@ -386,7 +386,6 @@ TEXTS = [
     ("<!DOCTYPE html>\n<html><head><title>x</title></head><body>cv1</body></html>\n", ("page", "html")),
     ("rounds 1\nchannels 6\nregisters 1\nstart\nr0 = id\nfinish r0\nround\nsend left 0\nsend right r0\nr0 = L\n", "there are as many rounds as `rounds` says: write the missing ones if that is right\n"),
     ("# only a comment\n", "rounds"),
-    ("# cv1\rrounds 1\rchannels 6\rregisters 1\rstart\rr0 = id\rround\rsend left 0\rsend right r0\rr0 = add(shl(ldb(r0, L), 1), bit(r0, ldb(r0, L)))\rfinish r0\r", ("carriage return", "line feed", "byte 13")),
     (b'# na\xefve\nrounds 1\n', "letters and marks are those of ASCII\n"),
     ("rounds 1\nchannels 16\nregisters 2\nstart\nr1 = 0\nr0 = id\nround\nsend left 0\nsend right r0\nr0 = L\nr1 = r0\nfinish r0\n", "r0", "order"),
     ("rounds 1\nchannels 16\nregisters 1\nstart\nr0 = id\nr1 = 0\nround\nsend left 0\nsend right r0\nr0 = L\nr1 = r0\nfinish r0\n", "registers"),
