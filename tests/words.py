@@ -247,9 +247,6 @@ the number of threads is given by `--workers`, of `table`, `judge` and `plan`
 a run has a thread for each segment
   run --ids 8 --ring 5,1,3,7 -j 4 => run --ids 8 --ring 5,1,3,7 --segments 4
   run --ids 8 --ring 5,1,3,7 --workers 4 => run --ids 8 --ring 5,1,3,7 --segments 4
-L(2,1) is `--near 2 --far 1`
-  judge --ids 8 --L21 2 => judge --ids 8 --near 2 --far 1
-  judge --ids 8 --l 2 => judge --ids 8 --near 2
 numbers are printed in another base by `--base`
   trace --ids 8 --ring 5,1,3,7 --bits => trace --ids 8 --ring 5,1,3,7 --base 2
   trace --ids 8 --ring 5,1,3,7 --binary => trace --ids 8 --ring 5,1,3,7 --base 2
@@ -419,7 +416,6 @@ NOTED = [
     ("check --ids -8", ("negative", "minus", "at least", "1024", "1,024", "digit", "number", "integer", "whole")),
     ("check --ids", ("value", "digit", "number", "integer", "whole")),
     ("table --ids 8 --workers 4k", ("digit", "number", "integer", "whole")),
-    ("judge --ids 8 --L21", "--near", "--far"),
     ("trace --ids 8 --ring 5,1,3,7 --bits 3", "--base"),
     ("explain --ids 8 --ring 5,1,3,7 --node 1", "--place"),
     ("explain --ids 8 --ring 5,1,3,7 --pos 1", "--place"),

@@ -66,8 +66,6 @@ macro_rules! names {
     };
 }
 
-const LABELLING: &str = "L(2,1) is `--near 2 --far 1`";
-
 const PROBLEMS: &str =
     "a problem is given by its name, as in `--problem mis`, or by its patterns, as in `--forbid 1,1`";
 
@@ -92,7 +90,7 @@ static COMMAND_NAMES: [OtherName; 9] = names! {
 };
 
 // Other names. The first row that fits counts.
-static NAMES: [OtherName; 35] = names! {
+static NAMES: [OtherName; 31] = names! {
     "nbhd ./nbhd" => Meaning::Nothing, "the name of the program stands twice";
     "help man info usage manual options commands ?" => Meaning::Nothing,
         "`nbhd --help` tells of the program, and `nbhd run --help` of a command";
@@ -117,16 +115,12 @@ static NAMES: [OtherName; 35] = names! {
     "workers w j threads jobs cores" at "run" => Meaning::Option("segments", ""), "a run has a thread for each segment";
     "w j threads jobs cores" => Meaning::Option("workers", ""),
         "the number of threads is given by `--workers`, of `table`, `judge` and `plan`";
-    "s parts" => Meaning::Option("segments", ""), "a ring is cut into segments by `--segments`, of `run`";
-    "l21" => Meaning::Option("near", "2,1"), LABELLING;
-    "l lambda distance separation p" => Meaning::Option("near", ""), LABELLING;
     "forbid problem" at "table" => Meaning::Nothing,
         "a table does not say what its channels have to be but for near and far; `nbhd audit --problem mis` judges it";
     "mis independent-set maximal-independent-set" => Meaning::Option("problem", "mis"), PROBLEMS;
     "matching maximal-matching" => Meaning::Option("problem", "matching"), PROBLEMS;
     "pattern patterns forbidden avoid" => Meaning::Option("forbid", ""), "a pattern of channels is given by `--forbid`";
     "bits binary bin" => Meaning::Option("base", "2"), "numbers are printed in another base by `--base`";
-    "b radix" => Meaning::Option("base", ""), "numbers are printed in another base by `--base`";
     "json csv format" at "formula" => Meaning::Nothing,
         "`nbhd formula` prints DIMACS, which solvers read, and has no other form";
     "json" => Meaning::Option("format", "json"), "a report is in JSON by `--format json`";
