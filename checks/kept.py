@@ -34,10 +34,8 @@ class Kept:
     """Copies of crates in an empty folder, over libraries that were made of the same files: `crates` has those crates that were named and
     that have all libraries below them."""
 
-    def __init__(self, kit, folder, every, names):
+    def __init__(self, kit, every, names):
         self.kit = kit
-        kit.Crate.cuts_libraries = True
-        kit.Crate.allowed = kit.handles_of(str(folder))
         below = {it.name for crate in every if crate.name in names for it in crate.below()}
         self.libraries = set()
         for crate in every:
@@ -61,7 +59,7 @@ class KeptByKit(Kept):
         self.store = kit.Kept(every)
         # Nothing of what is kept is removed.
         self.store.drop = lambda _: None
-        super().__init__(kit, folder, every, names)
+        super().__init__(kit, every, names)
 
     def has_store(self):
         """Whether the kit keeps anything on this machine."""
@@ -97,7 +95,7 @@ class LeftHere(Kept):
     def __init__(self, kit, folder, names):
         kit.rtlib.Crate = kit.Crate
         every = sorted(kit.rtlib.crates_below(str(folder)), key=lambda it: len(it.below()))
-        super().__init__(kit, folder, every, names)
+        super().__init__(kit, every, names)
 
     def has_store(self):
         return True
@@ -138,6 +136,8 @@ def kept_in(folder, names):
     """What is kept of the crates with these names, with copies of all crates in a folder that is new."""
     kit = load_kit()
     copy_crates(folder)
+    kit.Crate.cuts_libraries = True
+    kit.Crate.allowed = kit.handles_of(str(folder))
     return KeptByKit(kit, folder, names) if hasattr(kit, "Kept") else LeftHere(kit, folder, names)
 
 
