@@ -115,6 +115,7 @@ WHOLE = [
     ("audit", "nbhd-table 1\nrounds 0 ids 2 channels 2\n# mine\n", "nbhd: line 3, column 1: this line does not have the form that `nbhd table` writes; a table has no comments"),
     ("audit", "nbhd-table 1\nrounds 0 ids 2 channels 2\n0 : 0 \n", "nbhd: line 3, column 1: this line does not have the form that `nbhd table` writes; it ends with a blank"),
     ("audit", "nbhd-table 1\nrounds 0 ids 2 channels 2\n0 : 0\n1 : 1\n", "nbhd: line 5, column 1: this line does not have the form that `nbhd table` writes; the text stops before its end"),
+    ("audit", "nbhd-table 1\nrounds 0 ids 2 channels 2\n0 : 0\n1 : 1\nend", "the last line has no line end"),
     ("audit", "nbhd-table 1\nrounds 0 ids 2 channels 2\n0 : 0\n1 : 1\nend\n\n", "nbhd: line 6, column 1: this line does not have the form that `nbhd table` writes; the line is blank"),
     ("audit", "nbhd-table 3\nrounds 0 ids 2 channels 2\n0 : 0\n1 : 1\nend\n", "nbhd: line 1, column 1: this line does not have the form that `nbhd table` writes; its first line is `nbhd-table 2`, or `nbhd-table 1`\n"),
     ("audit", "nbhd table 1\nrounds 0 ids 2 channels 2\n0 : 0\n1 : 1\nend\n", "nbhd: line 1, column 1: this line does not have the form that `nbhd table` writes; its first line is `nbhd-table 2`, or `nbhd-table 1`\n"),

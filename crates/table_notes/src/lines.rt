@@ -28,6 +28,7 @@ pub(crate) fn form_advice(text: &[u8], offset: usize) -> &'static str
             "; lines end with a carriage return: save them with line feeds alone";
         offset == 0 => first_advice(text);
         before.ends_with(b"\nend\n") && !rest.starts_with(b"\n") => "; nothing follows the line `end`";
+        rest == b"end".as_slice() => "; the last line has no line end";
         line.len() == rest.len() => "; the text stops before its end, which is a line `end`: lines are missing";
         line.contains(&b'#') => "; a table has no comments";
         layout_advice(line).is_some() => layout_advice(line).unwrap_or("");
