@@ -123,7 +123,7 @@ impl<'a> Edits<'a> {
     // Adds forms at a token.
     fn put_forms(&mut self, start: usize, forms: &[Form]) -> Result<(), AllocError> {
         for form in forms {
-            if let Some(edit) = self.spot.formed(start, *form)? {
+            if let Some(edit) = self.spot.formed(start, form)? {
                 self.all.push(edit)?;
             }
         }

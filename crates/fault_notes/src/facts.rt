@@ -24,11 +24,11 @@ pub(crate) struct Fact<'a> {
 }
 
 // Returns the row of the sign with which a text begins, and the number of its bytes.
-pub(crate) fn sign_of(text: &[u8]) -> Option<(Sign, usize)> {
+pub(crate) fn sign_of(text: &[u8]) -> Option<(&'static Sign, usize)> {
     for row in signs() {
         for sign in row.signs.split(' ') {
             if text.starts_with(sign.as_bytes()) {
-                return Some((*row, sign.len()));
+                return Some((row, sign.len()));
             }
         }
     }
@@ -47,7 +47,7 @@ pub(crate) fn fact_on_sign(text: &[u8]) -> Fact<'static> {
 
 impl<'a> Spot<'a> {
     // Returns whether the token stands in a context.
-    fn is_at(self, context: Context) -> bool {
+    fn is_at(self, context: &Context) -> bool {
         let is_register = matches!(self.expected, This(Token::Register(_)));
         match context {
             Context::Any => true,
@@ -57,14 +57,14 @@ impl<'a> Spot<'a> {
             Context::First => is_register && self.is_early(),
             Context::Register => is_register && !self.is_early(),
             Context::Behind => self.is_behind(),
-            Context::At(token) => self.expected == This(token),
+            Context::At(token) => self.expected == This(*token),
         }
     }
 
     // Returns whether the token stands in one of these contexts.
     pub(crate) fn is_among(self, contexts: &[Context]) -> bool {
         for context in contexts {
-            if self.is_at(*context) {
+            if self.is_at(context) {
                 return true;
             }
         }
@@ -89,7 +89,7 @@ impl<'a> Spot<'a> {
     }
 
     // Returns what is known of the token where it stands.
-    pub(crate) fn row(self) -> Option<Row> {
+    pub(crate) fn row(self) -> Option<&'static Row> {
         for rows in [
             values(),
             expression_marks(),
@@ -107,15 +107,15 @@ impl<'a> Spot<'a> {
     }
 
     // Returns the first of these rows that the token has.
-    fn row_in(self, rows: &[Row]) -> Option<Row> {
+    fn row_in(self, rows: &'static [Row]) -> Option<&'static Row> {
         for row in rows {
-            let is_after = match row.last {
+            let is_after = match &row.last {
                 Some(part) => self.part_end(before(self.number, 1), part).is_some(),
                 None => true,
             };
             let is_there = self.form_end(self.number, row.parts).is_some();
             if is_after && is_there && self.is_among(row.contexts) {
-                return Some(*row);
+                return Some(row);
             }
         }
         None
@@ -128,7 +128,7 @@ impl<'a> Spot<'a> {
         let front = part(self.text, 0, self.span(number).0).trim_ascii_end();
         matches!(self.expected, This(Token::Round | Token::Finish))
             && self.begins_line(number)
-            && self.part_end(number, Part::Register).is_some()
+            && self.part_end(number, &Part::Register).is_some()
             && self.has_before(number, self.token(number))
             && !front.ends_with(assigned)
     }
@@ -136,7 +136,7 @@ impl<'a> Spot<'a> {
     // Returns whether the token is a register that was not met before, where all are assigned.
     fn is_extra(self) -> bool {
         self.expected == This(Token::Finish)
-            && self.part_end(self.number, Part::Register).is_some()
+            && self.part_end(self.number, &Part::Register).is_some()
             && !self.has_before(self.number, self.token(self.number))
     }
 

@@ -14,7 +14,6 @@ pub(crate) type Found = Result<Option<Edit>, AllocError>;
 const COMPARED: u8 = 3;
 
 // A piece of what is written: a text, or what the part of a form with this index stands for.
-#[derive(Clone, Copy)]
 pub(crate) enum Piece {
     Text(&'static str),
     Nth(usize),
@@ -22,7 +21,6 @@ pub(crate) enum Piece {
 
 // A form of another notation: how tight its operator binds, 0 if it has none, what stands there, and what is
 // written instead of it.
-#[derive(Clone, Copy)]
 pub(crate) struct Form {
     level: u8,
     parts: &'static [Part],
@@ -151,8 +149,7 @@ const MOST_OPERATORS: usize = 16;
 // Returns how tight an operator binds that is among these forms, 0 if there is none.
 fn level_in(forms: &[Form], marks: &[u8]) -> u8 {
     for form in forms {
-        if let Some(part) = form.parts.get(1)
-            && let One(words) = *part
+        if let Some(One(words)) = form.parts.get(1)
             && is_one_of(words, marks)
         {
             return form.level;
@@ -163,7 +160,7 @@ fn level_in(forms: &[Form], marks: &[u8]) -> u8 {
 
 impl<'a> Spot<'a> {
     // Returns the number of the token after a part that stands at a token, if it does.
-    pub(crate) fn part_end(self, number: usize, part: Part) -> Option<usize> {
+    pub(crate) fn part_end(self, number: usize, part: &Part) -> Option<usize> {
         let (token, next) = (self.token(number), self.after_marks(number));
         let is_number = matches!(token, Some(Token::Number(_)));
         let (end, is_there) = match part {
@@ -197,7 +194,7 @@ impl<'a> Spot<'a> {
     pub(crate) fn form_end(self, start: usize, parts: &[Part]) -> Option<usize> {
         let mut at = start;
         for part in parts {
-            at = self.part_end(at, *part)?;
+            at = self.part_end(at, part)?;
         }
         Some(at)
     }
@@ -206,7 +203,7 @@ impl<'a> Spot<'a> {
     fn nth_part(self, start: usize, parts: &[Part], index: usize) -> Option<&'a [u8]> {
         let mut at = start;
         for (number, part) in parts.iter().enumerate() {
-            let end = self.part_end(at, *part)?;
+            let end = self.part_end(at, part)?;
             if number == index {
                 return Some(self.words(at, end));
             }
@@ -216,15 +213,15 @@ impl<'a> Spot<'a> {
     }
 
     // Returns the edit that writes a form at a token as one of a program, if it stands there.
-    pub(crate) fn formed(self, start: usize, form: Form) -> Found {
+    pub(crate) fn formed(self, start: usize, form: &Form) -> Found {
         let Some(end) = self.form_end(start, form.parts) else {
             return Ok(None);
         };
         let mut put = Vec::new(self.alloc);
         for piece in form.put {
-            put.extend_from_slice(match *piece {
+            put.extend_from_slice(match piece {
                 Text(text) => text.as_bytes(),
-                Nth(index) => self.nth_part(start, form.parts, index).unwrap_or(b""),
+                Nth(index) => self.nth_part(start, form.parts, *index).unwrap_or(b""),
             })?;
         }
         let (from, to) = (self.span(start).0, self.span(before(end, 1)).1);
@@ -234,7 +231,7 @@ impl<'a> Spot<'a> {
     // Returns the edit of the first of these forms that stands at a token.
     pub(crate) fn first_form(self, forms: &[Form], start: usize) -> Found {
         for form in forms {
-            let edit = self.formed(start, *form)?;
+            let edit = self.formed(start, form)?;
             if edit.is_some() {
                 return Ok(edit);
             }

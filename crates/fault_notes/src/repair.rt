@@ -38,7 +38,13 @@ pub(crate) fn advice_on(alloc: Global, text: &[u8], misread: Misread) -> Result<
         let spot = Spot::new(alloc, text, &all, offset, expected);
         fact = spot.fact();
         let mut tried = Edits { spot, all: edits };
-        if !matches!(fact, Some(fact) if fact.told == Told::Alone) {
+        if !matches!(
+            fact,
+            Some(Fact {
+                told: Told::Alone,
+                ..
+            })
+        ) {
             tried.put_all()?;
         }
         edits = tried.all;
@@ -52,7 +58,10 @@ pub(crate) fn advice_on(alloc: Global, text: &[u8], misread: Misread) -> Result<
 fn told(alloc: Global, fact: Option<Fact>, is_mended: bool) -> Result<String, AllocError> {
     let mut out = String::new(alloc);
     match fact {
-        Some(fact) if !is_mended || fact.told != Told::Without => match fact.text.split_once("{}") {
+        Some(fact) if !is_mended || !matches!(fact.told, Told::Without) => match fact
+            .text
+            .split_once("{}")
+        {
             Some((head, tail)) => {
                 out.push_str(head)?;
                 write_shown(&mut out, fact.word)?;

@@ -10,7 +10,7 @@ use node_lang::Token::{
 
 // When a fact is told: instead of an edit, unless the text is written in another notation; before an edit; or
 // where no edit helps.
-#[derive(Clone, Copy, PartialEq, Eq)]
+#[derive(Clone, Copy)]
 pub(crate) enum Told {
     Alone,
     Beside,
@@ -18,7 +18,6 @@ pub(crate) enum Told {
 }
 
 // What is expected where a token stands.
-#[derive(Clone, Copy)]
 pub(crate) enum Context {
     Any,
     Expression,
@@ -34,7 +33,6 @@ pub(crate) enum Context {
 }
 
 // What stands at a token.
-#[derive(Clone, Copy)]
 pub(crate) enum Part {
     // One of these words or marks, with blanks between them.
     One(&'static str),
@@ -59,7 +57,6 @@ pub(crate) enum Part {
 
 // A row of facts: where it counts, what the token before is, what stands there, and a fact and what is written
 // instead, which both can be empty. `{}` in a fact stands for the word that is wrong.
-#[derive(Clone, Copy)]
 pub(crate) struct Row {
     pub(crate) contexts: &'static [Context],
     pub(crate) last: Option<Part>,
@@ -70,7 +67,6 @@ pub(crate) struct Row {
 }
 
 // Signs that may be no tokens, with blanks between them, a fact, and what is written instead of them.
-#[derive(Clone, Copy)]
 pub(crate) struct Sign {
     pub(crate) signs: &'static str,
     pub(crate) fact: &'static str,
