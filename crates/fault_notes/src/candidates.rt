@@ -47,13 +47,16 @@ fn register_text(register: u32) -> &'static [u8] {
 
 // Returns whether a word of three letters differs from a name by one letter, or by two that are exchanged.
 fn is_alike(word: &[u8], name: &[u8]) -> bool {
-    let same = word
-        .iter()
-        .zip(name)
-        .filter(|pair| pair.0 == pair.1)
-        .count();
-    let is_turned = same == 1 && word.iter().all(|letter| name.contains(letter));
-    word.len() == 3 && (same == 2 || is_turned)
+    let ([first, second, third], [one, two, three]) = (word, name) else {
+        return false;
+    };
+    match (first == one, second == two, third == three) {
+        (true, false, false) => second == three && third == two,
+        (false, true, false) => first == three && third == one,
+        (false, false, true) => first == two && second == one,
+        (false, false, false) | (true, true, true) => false,
+        _ => true,
+    }
 }
 
 impl Spot<'_> {
@@ -186,8 +189,7 @@ impl<'a> Edits<'a> {
         Ok(())
     }
 
-    // Adds the words that a word can be: two words, an operation and its first operand, or an operation of three
-    // letters with a name alike.
+    // Adds the words that a word can be: two words, or an operation and its first operand.
     fn put_parted(&mut self) -> Result<(), AllocError> {
         let (spot, number) = (self.spot, self.spot.number);
         let (word, next) = (spot.word(number), after(number, 1));
@@ -201,12 +203,22 @@ impl<'a> Edits<'a> {
                 self.put(number, next, &[front, b"(", back])?;
             }
         }
-        let mut names = "not and xor shl shr add sub min max ldb bit".split(' ');
-        let is_like = |name: &&str| is_alike(word, name.as_bytes());
-        match (names.find(is_like), spot.token(next)) {
-            (Some(name), Some(Token::Open)) => self.put(number, next, &[name.as_bytes()]),
-            _ => Ok(()),
+        Ok(())
+    }
+
+    // Adds the operation of three letters with a name alike, instead of a word before a bracket.
+    fn put_alike(&mut self) -> Result<(), AllocError> {
+        let (spot, number) = (self.spot, self.spot.number);
+        let (word, next) = (spot.word(number), after(number, 1));
+        if !spot.is_strange(number) || spot.token(next) != Some(Token::Open) {
+            return Ok(());
         }
+        for name in "not and xor shl shr add sub min max ldb bit".split(' ') {
+            if is_alike(word, name.as_bytes()) {
+                return self.put(number, next, &[name.as_bytes()]);
+            }
+        }
+        Ok(())
     }
 
     // Adds that the operands before the token are those of one more operation of the same name.
@@ -266,6 +278,7 @@ impl<'a> Edits<'a> {
         self.put_instead()?;
         self.put_forms(before(number, 1), earlier())?;
         self.put_parted()?;
+        self.put_alike()?;
         self.put_joined()?;
         self.put_line()?;
         self.put_counts()
