@@ -63,16 +63,27 @@ impl Spot<'_> {
     // Returns what can stand instead of a word that is not of the language, an empty text if nothing can, or if it
     // stands behind the word.
     fn instead(self) -> &'static [u8] {
-        let next = self.token(after(self.number, 1));
-        let is_assigned = next == Some(Token::Equals);
+        let next = after(self.number, 1);
+        let is_assigned = self.has(next, Token::Equals);
         let is_none = self.is_inside()
             || matches!(self.expected, Expected::Expression | Expected::Number)
-            || matches!((self.expected, next), (This(token), Some(next)) if token == next);
+            || matches!(self.expected, This(token) if self.has(next, token));
         match self.expected {
             _ if is_none || !self.is_strange(self.number) => b"",
             This(Token::Register(register)) if is_assigned => register_text(register),
             expected => missing(expected).first().copied().unwrap_or(b""),
         }
+    }
+
+    // Returns how often a token is in the text.
+    fn count(self, token: Token) -> usize {
+        let mut count = 0;
+        for at in 0..self.all.len() {
+            if self.has(at, token) {
+                count = after(count, 1);
+            }
+        }
+        count
     }
 
     // Returns whether a mark within a line is expected.
@@ -152,7 +163,7 @@ impl<'a> Edits<'a> {
     fn put_missing(&mut self) -> Result<(), AllocError> {
         let (spot, number) = (self.spot, self.spot.number);
         let previous = before(number, 1);
-        if spot.token(number) == Some(Token::Equals) && spot.begins_line(previous) {
+        if spot.has(number, Token::Equals) && spot.begins_line(previous) {
             let pieces = [b"\0 ".as_slice(), b") ", b")) "];
             self.put_each(previous, b"", &pieces, spot.word(previous))?;
         }
@@ -180,7 +191,7 @@ impl<'a> Edits<'a> {
         if !instead.is_empty() {
             self.put(number, next, &[instead])?;
         }
-        if spot.expected == This(Token::Finish) && spot.token(next) == Some(Token::Equals) {
+        if spot.expects(Token::Finish) && spot.has(next, Token::Equals) {
             self.put(number, after(next, 1), &[b"finish"])?;
         }
         if spot.begins_comment() {
@@ -210,7 +221,7 @@ impl<'a> Edits<'a> {
     fn put_alike(&mut self) -> Result<(), AllocError> {
         let (spot, number) = (self.spot, self.spot.number);
         let (word, next) = (spot.word(number), after(number, 1));
-        if !spot.is_strange(number) || spot.token(next) != Some(Token::Open) {
+        if !spot.is_strange(number) || !spot.has(next, Token::Open) {
             return Ok(());
         }
         for name in "not and xor shl shr add sub min max ldb bit".split(' ') {
@@ -258,8 +269,7 @@ impl<'a> Edits<'a> {
         if spot.number < 7 {
             return Ok(());
         }
-        let all = spot.all.iter();
-        let rounds = all.filter(|spanned| spanned.token == Token::Round).count();
+        let rounds = spot.count(Token::Round);
         self.put(0, 2, &[b"rounds ", part(DIGITS, rounds, after(rounds, 1))])?;
         let count = match (spot.expected, spot.token(spot.number)) {
             (This(Token::Register(register)), _) => register as usize,

@@ -38,10 +38,10 @@ pub(crate) fn sign_of(text: &[u8]) -> Option<(&'static Sign, usize)> {
 // Returns the fact on the byte over 127 with which a text begins.
 pub(crate) fn fact_on_sign(text: &[u8]) -> Fact<'static> {
     let (told, word) = (Told::Beside, b"".as_slice());
-    let text = sign_of(text).map_or(
-        "; letters and marks are those of ASCII",
-        |found| found.0.fact,
-    );
+    let text = match sign_of(text) {
+        Some((sign, _)) => sign.fact,
+        None => "; letters and marks are those of ASCII",
+    };
     Fact { told, text, word }
 }
 
@@ -51,13 +51,13 @@ impl<'a> Spot<'a> {
         let is_register = matches!(self.expected, This(Token::Register(_)));
         match context {
             Context::Any => true,
-            Context::Expression => self.expected == Expected::Expression,
-            Context::Number => self.expected == Expected::Number,
-            Context::End => self.expected == Expected::End,
+            Context::Expression => matches!(self.expected, Expected::Expression),
+            Context::Number => matches!(self.expected, Expected::Number),
+            Context::End => matches!(self.expected, Expected::End),
             Context::First => is_register && self.is_early(),
             Context::Register => is_register && !self.is_early(),
             Context::Behind => self.is_behind(),
-            Context::At(token) => self.expected == This(*token),
+            Context::At(token) => self.expects(*token),
         }
     }
 
@@ -78,14 +78,11 @@ impl<'a> Spot<'a> {
 
     // Returns whether the token stands behind an expression on its line.
     pub(crate) fn is_behind(self) -> bool {
-        let is_header = matches!(
+        let is_before = matches!(
             self.expected,
-            This(Token::Channels | Token::Registers | Token::Start)
+            Expected::Expression | This(Token::Channels | Token::Registers | Token::Start)
         );
-        !is_header
-            && self.expected != Expected::Expression
-            && self.ends_operand(before(self.number, 1))
-            && !self.begins_line(self.number)
+        !is_before && self.ends_operand(before(self.number, 1)) && !self.begins_line(self.number)
     }
 
     // Returns what is known of the token where it stands.
@@ -135,16 +132,16 @@ impl<'a> Spot<'a> {
 
     // Returns whether the token is a register that was not met before, where all are assigned.
     fn is_extra(self) -> bool {
-        self.expected == This(Token::Finish)
+        self.expects(Token::Finish)
             && self.part_end(self.number, &Part::Register).is_some()
             && !self.has_before(self.number, self.token(self.number))
     }
 
     // Returns whether registers are counted from 1.
     fn counts_from_1(self) -> bool {
-        let is_other = self.expected != This(Token::Register(0))
-            || self.token(self.number) != Some(Token::Register(1));
-        !is_other && !self.has_before(self.all.len(), Some(Token::Register(0)))
+        self.expects(Token::Register(0))
+            && self.has(self.number, Token::Register(1))
+            && !self.has_before(self.all.len(), Some(Token::Register(0)))
     }
 
     // Returns the fact on the token, if there is one.
@@ -152,7 +149,7 @@ impl<'a> Spot<'a> {
         let number = self.number;
         let marks = self.marks(number);
         let is_end = marks == b";".as_slice() && self.open_operation(number).is_none();
-        let is_early = self.token(number) == Some(Token::Send) && self.is_early();
+        let is_early = self.has(number, Token::Send) && self.is_early();
         first! {
             matches!(marks, [0..=31 | 127, ..]) => Alone "; this byte does not belong in a text";
             self.begins_comment() => Beside "; a comment begins with `#`";
@@ -178,7 +175,7 @@ impl<'a> Spot<'a> {
         let row = self.row()?;
         let (told, text) = (row.told, row.fact);
         let mut word = self.word(self.number);
-        if self.is_behind() || self.expected == This(Token::Open) {
+        if self.is_behind() || self.expects(Token::Open) {
             word = self.word(before(self.number, 1));
         }
         Some(Fact { told, text, word })

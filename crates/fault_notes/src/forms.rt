@@ -231,9 +231,8 @@ impl<'a> Spot<'a> {
     // Returns the edit of the first of these forms that stands at a token.
     pub(crate) fn first_form(self, forms: &[Form], start: usize) -> Found {
         for form in forms {
-            let edit = self.formed(start, form)?;
-            if edit.is_some() {
-                return Ok(edit);
+            if let Some(edit) = self.formed(start, form)? {
+                return Ok(Some(edit));
             }
         }
         Ok(None)
@@ -241,9 +240,8 @@ impl<'a> Spot<'a> {
 
     // Returns the edit of the first form at a token that begins with an operand.
     pub(crate) fn infix_form(self, start: usize) -> Found {
-        let edit = self.first_form(loose(), start)?;
-        if edit.is_some() {
-            return Ok(edit);
+        if let Some(edit) = self.first_form(loose(), start)? {
+            return Ok(Some(edit));
         }
         self.first_form(tight(), start)
     }

@@ -50,8 +50,9 @@ impl Spot<'_> {
         }
         match self.token(before(register, 1)) {
             _ if self.begins_line(register) => true,
-            Some(Token::Comma) => self.token(operation) == Some(Token::If),
-            last => last == Some(Token::Equals),
+            Some(Token::Comma) => self.has(operation, Token::If),
+            Some(Token::Equals) => true,
+            _ => false,
         }
     }
 
@@ -62,9 +63,8 @@ impl Spot<'_> {
         if is_twice && !self.is_mark(self.number) {
             return Ok(None);
         }
-        let edit = self.word_written()?;
-        if edit.is_some() {
-            return Ok(edit);
+        if let Some(edit) = self.word_written()? {
+            return Ok(Some(edit));
         }
         match self.expected {
             Expected::Expression => self.expression_written(),
@@ -79,7 +79,7 @@ impl Spot<'_> {
         let put = self.row()?.put.as_bytes();
         match token_from(put, 0)?.token {
             Token::One(_) | Token::Two(_) | Token::If => Some(put),
-            _ if self.token(after(self.number, 1)) == Some(Token::Open) => None,
+            _ if self.has(after(self.number, 1), Token::Open) => None,
             _ => Some(put),
         }
     }

@@ -64,6 +64,16 @@ impl<'a> Spot<'a> {
         }
     }
 
+    // Returns whether a token is this one.
+    pub(crate) fn has(self, number: usize, token: Token) -> bool {
+        self.token(number) == Some(token)
+    }
+
+    // Returns whether this token is expected.
+    pub(crate) fn expects(self, token: Token) -> bool {
+        self.expected == Expected::This(token)
+    }
+
     // Returns where a token begins and where it ends.
     pub(crate) fn span(self, number: usize) -> (usize, usize) {
         match self.all.get(number) {
@@ -96,7 +106,12 @@ impl<'a> Spot<'a> {
 
     // Returns whether a token stands before another one.
     pub(crate) fn has_before(self, number: usize, token: Option<Token>) -> bool {
-        (0..number.min(self.all.len())).any(|at| self.token(at) == token)
+        for at in 0..number.min(self.all.len()) {
+            if self.token(at) == token {
+                return true;
+            }
+        }
+        false
     }
 
     // Returns this text at its first token at or after an offset.
@@ -107,8 +122,13 @@ impl<'a> Spot<'a> {
         offset: usize,
         expected: Expected,
     ) -> Self {
-        let earlier = all.iter().take_while(|spanned| spanned.start < offset);
-        let number = earlier.count();
+        let mut number = all.len();
+        for (at, spanned) in all.iter().enumerate() {
+            if spanned.start >= offset {
+                number = at;
+                break;
+            }
+        }
         Spot {
             alloc,
             text,
@@ -128,7 +148,7 @@ impl<'a> Spot<'a> {
 
     // Returns whether a token is a word that is not of the language.
     pub(crate) fn is_strange(self, number: usize) -> bool {
-        self.token(number) == Some(Token::Unknown) && !self.is_mark(number)
+        self.has(number, Token::Unknown) && !self.is_mark(number)
     }
 
     // Returns the number of the first token after the marks that begin here and touch one another, or
@@ -159,7 +179,7 @@ impl<'a> Spot<'a> {
     // Returns whether an operand can begin with a token.
     pub(crate) fn begins_operand(self, number: usize) -> bool {
         self.names_operation(number)
-            || self.token(number) != Some(Token::Close) && self.ends_operand(number)
+            || !self.has(number, Token::Close) && self.ends_operand(number)
             || is_one_of("( !", self.word(number))
     }
 
@@ -181,7 +201,7 @@ impl<'a> Spot<'a> {
                 Some(Token::Close) => depth = depth.saturating_sub(1),
                 _ => {}
             }
-            if depth == 0 && self.token(after(at, 1)) != Some(Token::Open) {
+            if depth == 0 && !self.has(after(at, 1), Token::Open) {
                 return after(at, 1);
             }
         }
@@ -211,7 +231,7 @@ impl<'a> Spot<'a> {
     // Returns the number of the token with which the operand begins that ends before this token.
     pub(crate) fn operand_start(self, number: usize) -> Option<usize> {
         let last = before(number, 1);
-        if self.token(last) != Some(Token::Close) {
+        if !self.has(last, Token::Close) {
             return if self.ends_operand(last) {
                 Some(last)
             } else {

@@ -1,4 +1,4 @@
-use Rattle.std.proofs.Common.{append-nil, sym, rules}
+use Rattle.std.proofs.Common.{append-nil, sym}
 use Rattle.std.specs.Prelude.{None}
 use Rattle.fault_notes.proofs.text_notes.write_advice.Goals as goal
 
