@@ -1,5 +1,5 @@
 -- Corrected words in place of refused ones.
-use Rattle.std.specs.Prelude.{◌≡◌, ◌||◌, Bool, true, List, [], ◌∷◌, map, not, bytes_eq}
+use Rattle.std.specs.Prelude.{◌≡◌, ◌||◌, Bool, true, List, [], ◌∷◌, not, bytes_eq}
 use Rattle.std.specs.List.{list_any}
 use Rattle.clap.specs.Words.{Text}
 use Rattle.task_words.specs.CommandLine.{command_line}

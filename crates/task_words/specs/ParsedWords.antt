@@ -16,7 +16,7 @@ use Rattle.task_words.specs.declared.format.Format.TheVariants.{Lines}
 use Rattle.task_words.specs.declared.request.Request.{Request}
 use Rattle.task_words.specs.declared.task.Task.{Task}
 use Rattle.task_words.specs.declared.words.WordsFault.{WordsFault}
-use Rattle.task_words.specs.declared.words.WordsFault.TheVariants.{Usage, BadRing, BadDemand, OutOfMemory, Help}
+use Rattle.task_words.specs.declared.words.WordsFault.TheVariants.{BadRing, BadDemand, OutOfMemory}
 
 -- What `task_of` returns for these words: memory aside, a task exactly if they are a command whose ring text, if it has
 -- one, is one, and whose options, if it demands something of channels, are a demand.
