@@ -38,6 +38,7 @@ EXPRESSIONS = [
     ("min(L, 1_000)", "write `1000` in the place of `1_000`\n"),
     ("if(true, 0, 1)", "write `1` in the place of `true`\n"),
     ("ldb(r0; L)", "write `,` in the place of `;`\n"),
+    ("dad(r0, L)", "write `add` in the place of `dad`\n"),
     ("false", "write `0` in the place of `false`\n"),
     ("add(shl(ldb(r0, L), 1), bit(r0, ldb(r0, L)))\nend", "leave out `end`\n"),
     ("add(shl(ldb(r0, r), 1), bit(r0, ldb(r0, L)))", "the message from the right is `R`, which the assignments of a round read; write `R` in the place of `r`\n"),
